@@ -14,8 +14,8 @@ use Rattle.category_mirror.specs.FilingActs.{IsMergeTold, app_told, block_in, bl
 
 -- a block that was read
 pub block_said : (fault : Option LinkFault) (read : Result ReplyValue ReplyFault) (block : Option (List ℕ))
-    → answer_by fault (or_none (said_in block_of read)) ≡ Ok block → (fault ≡ None) × (block_or_none (or_none (said_in block_of read)) ≡ block)
-block_said None read block is = (refl, by (or_none (said_in block_of read)) is)
+    → answer_by fault (or_none (said_in 0x1B block_of read)) ≡ Ok block → (fault ≡ None) × (block_or_none (or_none (said_in 0x1B block_of read)) ≡ block)
+block_said None read block is = (refl, by (or_none (said_in 0x1B block_of read)) is)
   where
     by : (said : Result (Option (List ℕ)) SessionFault) → said ≡ Ok block → block_or_none said ≡ block
     by (Ok other) is = let same : other ≡ block = cc in same

@@ -70,20 +70,20 @@ told_behind P device told tells holds =
 
 -- ---- the user
 
-user_told : (device : Device) → IsProper device → said_in user_of (reply_at 0x10 (acted reading_user device).0) ≡ Ok device.user
+user_told : (device : Device) → IsProper device → said_in 0x10 user_of (reply_at 0x10 (acted reading_user device).0) ≡ Ok device.user
 unfolding told tried
-user_told device proper = ap (said_in user_of) (acted_reads reading_user device proper (act_sayable reading_user.asks device user_fits refl))
+user_told device proper = ap (said_in 0x10 user_of) (acted_reads reading_user device proper (act_sayable reading_user.asks device user_fits refl))
 
 user_read : (users : List ℕ) (device : Device) (told : Option Talk) (answer : Result UserInfo SessionFault) → IsProper device
-    → Tells device told → (said : Greeted users false told None answer) → said_in user_of (reply_at 0x10 said.first) ≡ Ok device.user
+    → Tells device told → (said : Greeted users false told None answer) → said_in 0x10 user_of (reply_at 0x10 said.first) ≡ Ok device.user
 user_read users device told answer proper tells said =
     let here : IfSome (Some tells.talk) (λ talk. said.first ≡ (acted reading_user talk.device).0) = rw tells.is at (said.told refl) in
-    ap (λ b. said_in user_of (reply_at 0x10 b)) (here ∙ ap (λ d. (acted reading_user d).0) tells.same) ∙ user_told device proper
+    ap (λ b. said_in 0x10 user_of (reply_at 0x10 b)) (here ∙ ap (λ d. (acted reading_user d).0) tells.same) ∙ user_told device proper
 
 greeted_user : (users : List ℕ) (device : Device) (told : Option Talk) (known : UserInfo) → IsProper device → Tells device told
     → Greeted users false told None (Ok known) → known ≡ device.user
 greeted_user users device told known proper tells said =
-    let second : Result (Unit {0}) SessionFault = said_in no_more (reply_at 0x2E said.second) in
+    let second : Result (Unit {0}) SessionFault = said_in 0x2E no_more (reply_at 0x2E said.second) in
     (seated_with users device.user known (slot_for users device.user.user false) second
     (said.is ∙ ap (λ r. begun_by (user_by users false r) second) (user_read users device told (Ok known) proper tells said))).1
 
@@ -119,17 +119,17 @@ not_full users user full = by (user == 0) (position (λ other. other == user) us
 pub later_stop : {L : Type 0} (talk : L → Option Talk) (fault : L → Option LinkFault) (filing : Filing) (old new : L) (cause : SessionFault)
     → IsLater (talk new) (fault new) cause → IsFilingStop talk fault filing old new (stop.Session cause)
 later_stop talk fault filing old new session.Down later = later
-later_stop talk fault filing old new (session.Refused code) later = later
-later_stop talk fault filing old new (session.BadReply broken) later = later
+later_stop talk fault filing old new (session.Refused function code) later = later
+later_stop talk fault filing old new (session.BadReply function broken) later = later
 later_stop talk fault filing old new session.NoMemory later = tt
 later_stop talk fault filing old new session.TooManyUsers later = absurd later
 later_stop talk fault filing old new (session.OtherUser handheld desktop) later = absurd later
 
 begun_why : (talk : Option Talk) (user : UserInfo) (second : Result (Unit {0}) SessionFault) (read : Result ReplyValue ReplyFault) (cause : SessionFault)
-    → second ≡ said_in no_more read → Err cause ≡ begun_by (Ok user) second → IsByLastReply talk cause → IsLater talk None cause
+    → second ≡ said_in 0x2E no_more read → Err cause ≡ begun_by (Ok user) second → IsByLastReply talk cause → IsLater talk None cause
 begun_why talk user (Ok done) read cause same is last = absurd cc
 begun_why talk user (Err other) read cause same is last =
-    let here : ◌≡◌ {A = Result (Unit {0}) SessionFault} (Err cause) (said_in no_more read) = cc in later_said talk None no_more read cause here last
+    let here : ◌≡◌ {A = Result (Unit {0}) SessionFault} (Err cause) (said_in 0x2E no_more read) = cc in later_said 0x2E talk None no_more read cause here last
 
 -- ---- both sides met
 
@@ -169,7 +169,7 @@ module _ (filing : Filing) where
       greeted_for (Some link.Down) said = inr (inl (ap stop.Session (let same : cause ≡ session.Down = let is = said.is in cc in same)))
       greeted_for (Some link.NoMemory) said = inr (inr (ap stop.Session (let same : cause ≡ session.NoMemory = let is = said.is in cc in same)))
       greeted_for None said =
-          let second : Result (Unit {0}) SessionFault = said_in no_more (reply_at 0x2E said.second) in
+          let second : Result (Unit {0}) SessionFault = said_in 0x2E no_more (reply_at 0x2E said.second) in
           let found : ◌≡◌ {A = Result UserInfo SessionFault} (Err cause) (begun_by (Err why) second)
           = said.is ∙ ap (λ r. begun_by (user_by (users_in filing) false r) second)
           (user_read (users_in filing) filing.device told (Err cause) proper tells said)
@@ -187,7 +187,7 @@ module _ (filing : Filing) where
       (alone : (why : SessionFault) → seat_of filing ≡ Err why → fault new ≡ None → Does talk (reading_user ∷ []) old new)
       (last : IsByLastReply (talk new) cause) where
     slot_stop : (found : Slot) (second : Result (Unit {0}) SessionFault) (read : Result ReplyValue ReplyFault)
-        → slot_for (users_in filing) filing.device.user.user false ≡ found → second ≡ said_in no_more read
+        → slot_for (users_in filing) filing.device.user.user false ≡ found → second ≡ said_in 0x2E no_more read
         → Err cause ≡ begun_by (user_with (users_in filing) filing.device.user found) second → fault new ≡ None
         → IsFilingStop talk fault filing old new (stop.Session cause)
     slot_stop (slot.Old place) second read found same is none =
@@ -205,9 +205,9 @@ module _ (filing : Filing) where
         → IsFilingStop talk fault filing old new (stop.Session cause)
     greeted_stop (Some now) is said =
         later_stop talk fault filing old new cause
-        (rw is (later_said {A = UserInfo} (talk new) (Some now) user_of (reply_at 0x10 said.first) cause said.is last))
+        (rw is (later_said {A = UserInfo} 0x10 (talk new) (Some now) user_of (reply_at 0x10 said.first) cause said.is last))
     greeted_stop None none said =
-        let second : Result (Unit {0}) SessionFault = said_in no_more (reply_at 0x2E said.second) in
+        let second : Result (Unit {0}) SessionFault = said_in 0x2E no_more (reply_at 0x2E said.second) in
         slot_stop (slot_for (users_in filing) filing.device.user.user false) second (reply_at 0x2E said.second) refl refl
         (said.is ∙ ap (λ r. begun_by (user_by (users_in filing) false r) second)
         (user_read (users_in filing) filing.device (talk old) (Err cause) rests.proper tells said)) none

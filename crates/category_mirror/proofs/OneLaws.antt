@@ -122,14 +122,14 @@ module _ (device : Device) (rests : IsAtRest device) (name : List ℕ) (database
   -- ---- it is read
 
   app_by : (app : Option (List ℕ)) → database.app ≡ app → block_length app ≤ 65500
-      → block_or_none (or_none (said_in block_of (Ok (told (reading_app 1) here)))) ≡ app
+      → block_or_none (or_none (said_in 0x1B block_of (Ok (told (reading_app 1) here)))) ≡ app
   unfolding told tried
   app_by None is short = rw (base_here, is) refl
   app_by (Some bytes) is short = rw (base_here, is, none_past (length bytes)) (ap (λ b. Some b) (take_whole bytes 65535 (omega arith)))
 
   pub app_is : app_told here 1 ≡ database.app
   app_is =
-      ap (λ r. block_or_none (or_none (said_in block_of r))) (acted_reads (reading_app 1) here proper_here
+      ap (λ r. block_or_none (or_none (said_in 0x1B block_of r))) (acted_reads (reading_app 1) here proper_here
       (act_sayable (reading_app 1).asks here (app_fits 1 (lit< tt)) refl))
       ∙ app_by database.app refl bounded.whole.short_app
 

@@ -22,7 +22,7 @@ block_or_none (Ok block) = block
 block_or_none (Err fault) = None
 
 abbrev pub block_in : List ℕ → Option (List ℕ)
-block_in reply = block_or_none (or_none (said_in block_of (reply_at 0x1B reply)))
+block_in reply = block_or_none (or_none (said_in 0x1B block_of (reply_at 0x1B reply)))
 
 -- the app block of an open database, as the device's reply tells it
 abbrev pub app_told : Device → ℕ → Option (List ℕ)

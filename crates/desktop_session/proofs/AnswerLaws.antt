@@ -1,5 +1,5 @@
 -- What a call answers after its exchange.
-use Rattle.std.proofs.Common.{◌≡◌, refl, Bool, true, false, cond}
+use Rattle.std.proofs.Common.{◌≡◌, refl, ℕ, Bool, true, false, cond}
 use Rattle.std.specs.Prelude.{Option, Some, None, Result, Ok, Err}
 use Rattle.std.specs.Option.{option_map}
 use Rattle.dlp_args.specs.Views.{Gives}
@@ -34,10 +34,10 @@ pub gives_failed : {X Y : Type 0} (view : X → Y) (fault : Option LinkFault) (n
 gives_failed view fault now said is = search (rules)
 
 -- nothing where error 5 says so
-gives_tested : {X Y : Type 0} (view : X → Y) (b : Bool) (code : ErrorCode) → Gives (option_map view) (cond b (Ok None) (Err (session.Refused code))) (cond b
-    (Ok None) (Err (session.Refused code)))
-gives_tested view true code = refl
-gives_tested view false code = refl
+gives_tested : {X Y : Type 0} (view : X → Y) (b : Bool) (function : ℕ) (code : ErrorCode)
+    → Gives (option_map view) (cond b (Ok None) (Err (session.Refused function code))) (cond b (Ok None) (Err (session.Refused function code)))
+gives_tested view true function code = refl
+gives_tested view false function code = refl
 
 gives_fault : {X Y : Type 0} (view : X → Y) (fault : SessionFault) → Gives (option_map view) (or_none {A = X} (Err fault)) (or_none {A = Y} (Err fault))
 gives_fault view fault = search (rules, gives_tested)

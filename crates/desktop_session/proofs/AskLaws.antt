@@ -65,9 +65,9 @@ asked_done value fits fixed is stops user abandoned = search (rules, does_answer
 
 pub asked_failed : {L : Type 0} {talk : L → Option Talk} {since : L → L → Type 0} {fault : L → Option LinkFault} {downs : L → ℕ} {one : Act}
     {old new : SessionValue L} {now : LinkFault}
-    → (fault new.link ≡ Some now) → Stops talk since fault downs (text one ∷ []) old.link new.link → new.user ≡ old.user → new.abandoned ≡ old.abandoned
-    → Asked talk since fault downs one old new
-asked_failed is stops user abandoned = search (rules)
+    → IsRequest one.asks → (fault new.link ≡ Some now) → Stops talk since fault downs (text one ∷ []) old.link new.link → new.user ≡ old.user
+    → new.abandoned ≡ old.abandoned → Asked talk since fault downs one old new
+asked_failed fits is stops user abandoned = search (rules)
 
 -- ---- the first fault
 

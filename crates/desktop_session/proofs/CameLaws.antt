@@ -113,17 +113,17 @@ count_read n value is =
 ok_value : {A : Type 0} (r : Result A SessionFault) → IsOk r → (x : A) × (r ≡ Ok x)
 ok_value r is = grind (arith, nat_tests, common_steps)
 
-said_value : {A : Type 0} (says : ReplyValue → A) (read : Result ReplyValue ReplyFault) {x : A} → said_in says read ≡ Ok x
+said_value : {A : Type 0} (function : ℕ) (says : ReplyValue → A) (read : Result ReplyValue ReplyFault) {x : A} → said_in function says read ≡ Ok x
     → (value : ReplyValue) × (read ≡ Ok value) × (x ≡ says value)
-said_value says (Err broken) is = absurd cc
-said_value says (Ok value) is = grind (arith, nat_tests, common_steps)
+said_value function says (Err broken) is = absurd cc
+said_value function says (Ok value) is = grind (arith, nat_tests, common_steps)
 
 no_refusal : {A : Type 0} (says : ReplyValue → A) (number code : ℕ) (bytes : List ℕ) → 0 < code → code < 2 ^ 16
-    → bytes ≡ reply_text (reply.Refused number code) → IsOk (said_in says (reply_at number bytes)) → ⊥
+    → bytes ≡ reply_text (reply.Refused number code) → IsOk (said_in number says (reply_at number bytes)) → ⊥
 no_refusal says number code bytes some small is done =
     let read : reply_at number bytes ≡ Ok (reply.Refused number code) =
     ap (reply_at number) is ∙ read_again number (reply.Refused number code) (refused_reply number code some small) in
-    let other = subst (λ r. IsOk (said_in says r)) read done in absurd cc
+    let other = subst (λ r. IsOk (said_in number says r)) read done in absurd cc
 
 ids_there : (device : Device) (handle start : ℕ) {base : Base} → base_at device handle ≡ Some base → on_records base.database ≡ true
     → (acted (listing_ids handle start) device).0 ≡ reply_text (reply.ReadRecordIdList (take 8000 (drop start (ids_of base.database.records))))
@@ -159,8 +159,8 @@ came_from all start count came within is = record {
 }
 
 came_by : (o : Option Base) (records : Bool) (device : Device) (handle start count : ℕ) → base_at device handle ≡ o
-    → said_in count_of (reply_at 0x2B (acted (counting handle) device).0) ≡ Ok count
-    → IsOk (said_in answers.ids_of (reply_at 0x31 (acted (listing_ids handle start) device).0))
+    → said_in 0x2B count_of (reply_at 0x2B (acted (counting handle) device).0) ≡ Ok count
+    → IsOk (said_in 0x31 answers.ids_of (reply_at 0x31 (acted (listing_ids handle start) device).0))
     → ((base : Base) → o ≡ Some base → on_records base.database ≡ records)
     → Came start count (length (ids_in (reply_at 0x31 (acted (listing_ids handle start) device).0)))
 came_by None records device handle start count there said done holds =
@@ -172,9 +172,9 @@ came_by (Some base) true device handle start count there said done holds =
     let part = take 8000 (drop start ids) in
     let few : length part ≤ 8000 = omega (arith, length-take 8000 (drop start ids)) in
     let is = ids_there device handle start there (holds base refl) in
-    let ok = ok_value (said_in answers.ids_of (reply_at 0x31 (acted (listing_ids handle start) device).0)) done in
-    let value = said_value answers.ids_of _ ok.1 in
-    let counted = said_value count_of _ said in
+    let ok = ok_value (said_in 0x31 answers.ids_of (reply_at 0x31 (acted (listing_ids handle start) device).0)) done in
+    let value = said_value 0x31 answers.ids_of _ ok.1 in
+    let counted = said_value 0x2B count_of _ said in
     let came : length (answers.ids_of value.0) ≡ length part = ids_read part value.0 few (ap (reply_at 0x31) (sym is) ∙ value.1) in
     let within : count_of counted.0 ≤ length base.database.records =
     count_read (length base.database.records) counted.0
@@ -183,8 +183,8 @@ came_by (Some base) true device handle start count there said done holds =
     (ap (λ r. length (ids_in r)) value.1 ∙ came ∙ length-take 8000 (drop start ids)
     ∙ ap (min 8000) (length-drop start ids ∙ ap (λ n. n - start) (length-map base.database.records _)))
 
-pub ids_came : (device : Device) (handle start count : ℕ) → said_in count_of (reply_at 0x2B (acted (counting handle) device).0) ≡ Ok count
-    → IsOk (said_in answers.ids_of (reply_at 0x31 (acted (listing_ids handle start) device).0))
+pub ids_came : (device : Device) (handle start count : ℕ) → said_in 0x2B count_of (reply_at 0x2B (acted (counting handle) device).0) ≡ Ok count
+    → IsOk (said_in 0x31 answers.ids_of (reply_at 0x31 (acted (listing_ids handle start) device).0))
     → Came start count (length (ids_in (reply_at 0x31 (acted (listing_ids handle start) device).0)))
 ids_came device handle start count said done = by (base_at device handle) refl
   where

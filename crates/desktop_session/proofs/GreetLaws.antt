@@ -40,12 +40,12 @@ first_failed : (fault : Option LinkFault) {e : SessionFault} (first : Result Use
 first_failed fault first second is = search (rules)
 
 pub greet_first : (users : List ℕ) (add : Bool) (talk : Option Talk) {fault : Option LinkFault} (reply : List ℕ) {e : SessionFault}
-    → ◌≡◌ {A = Result UserInfo SessionFault} (Err e) (answer_by fault (user_by users add (said_in user_of (reply_at 0x10 reply))))
+    → ◌≡◌ {A = Result UserInfo SessionFault} (Err e) (answer_by fault (user_by users add (said_in 0x10 user_of (reply_at 0x10 reply))))
     → (fault ≡ None → IfSome talk (λ talk. reply ≡ (acted reading_user talk.device).0)) → Greeted users add talk fault (Err e)
 greet_first users add talk {fault} reply is told = record {
   first = reply;
   second = second_of talk;
-  is = first_failed fault (user_by users add (said_in user_of (reply_at 0x10 reply))) (said_in no_more (reply_at 0x2E (second_of talk))) is;
+  is = first_failed fault (user_by users add (said_in 0x10 user_of (reply_at 0x10 reply))) (said_in 0x2E no_more (reply_at 0x2E (second_of talk))) is;
   told = told;
   begun = λ none. second_own talk;
 }
@@ -62,17 +62,17 @@ second_by fault user second is = search (rules)
 
 pub greet_second : (users : List ℕ) (add : Bool) (talk mid : Option Talk) {before fault : Option LinkFault} (first second : List ℕ) {user : UserInfo}
     {r : Result (Unit {0}) SessionFault}
-    → Ok user ≡ answer_by before (user_by users add (said_in user_of (reply_at 0x10 first)))
+    → Ok user ≡ answer_by before (user_by users add (said_in 0x10 user_of (reply_at 0x10 first)))
     → (before ≡ None → IfSome talk (λ talk. first ≡ (acted reading_user talk.device).0)) → (before ≡ None → mid ≡ saying (reading_user ∷ []) talk)
-    → r ≡ answer_by fault (said_in no_more (reply_at 0x2E second)) → (fault ≡ None → IfSome mid (λ talk. second ≡ (acted beginning talk.device).0))
+    → r ≡ answer_by fault (said_in 0x2E no_more (reply_at 0x2E second)) → (fault ≡ None → IfSome mid (λ talk. second ≡ (acted beginning talk.device).0))
     → Greeted users add talk fault (mapped (λ _. user) r)
 greet_second users add talk mid {before} {fault} first second {user} known told said is begun =
-    let none : before ≡ None = no_fault_said before (user_by users add (said_in user_of (reply_at 0x10 first))) user known in
-    let found = said_of_answer before (user_by users add (said_in user_of (reply_at 0x10 first))) known in
+    let none : before ≡ None = no_fault_said before (user_by users add (said_in 0x10 user_of (reply_at 0x10 first))) user known in
+    let found = said_of_answer before (user_by users add (said_in 0x10 user_of (reply_at 0x10 first))) known in
     record {
       first = first;
       second = second;
-      is = cc (second_by fault user (said_in no_more (reply_at 0x2E second)) is);
+      is = cc (second_by fault user (said_in 0x2E no_more (reply_at 0x2E second)) is);
       told = λ clear. told none;
       begun = λ clear. told_after reading_user beginning talk second (said none) (begun clear);
     }
@@ -81,7 +81,7 @@ greet_second users add talk mid {before} {fault} first second {user} known told 
 
 -- the user that was read has a slot
 pub slot_read : (users : List ℕ) (add : Bool) (talk : Option Talk) {fault : Option LinkFault} (reply : List ℕ) {user : UserInfo}
-    → Ok user ≡ answer_by fault (user_by users add (said_in user_of (reply_at 0x10 reply)))
+    → Ok user ≡ answer_by fault (user_by users add (said_in 0x10 user_of (reply_at 0x10 reply)))
     → (fault ≡ None → IfSome talk (λ talk. reply ≡ (acted reading_user talk.device).0)) → HasSlot users add talk
 slot_read users add talk reply is told = search (rules, said_of_answer, no_fault_said)
 

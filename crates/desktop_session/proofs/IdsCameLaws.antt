@@ -131,16 +131,16 @@ module _ {L : Type 0} {talk : L → Option Talk} {since : L → L → Type 0} {f
   came_of : {ids : List ℕ} {now new : SessionValue L} {said : Talk} (before : IdsCame talk since fault downs handle count ids old now)
       (is : talk old.link ≡ Some said) (at : AtParts handle count ids before.acts said.device) → IsCounted (talk old.link) handle count
       → length ids < count → Asked talk since fault downs (listing_ids handle (length ids)) now new → fault new.link ≡ None
-      → IsOk (said_in ids_of (reply_at 0x31 new.reply)) → Came (8000 * at.parts) count (length (ids_in (reply_at 0x31 new.reply)))
+      → IsOk (said_in 0x31 ids_of (reply_at 0x31 new.reply)) → Came (8000 * at.parts) count (length (ids_in (reply_at 0x31 new.reply)))
   came_of {new} {said} before is at counted less asked none read =
       let same = reply_of before is at less asked none in
       subst (λ r. Came (8000 * at.parts) count (length (ids_in r))) (sym same)
       (ids_came said.device handle (8000 * at.parts) count (subst (λ o. IsCounted o handle count) is counted)
-      (subst (λ r. IsOk (said_in ids_of r)) same read))
+      (subst (λ r. IsOk (said_in 0x31 ids_of r)) same read))
 
   told_more : {ids : List ℕ} {now new : SessionValue L} (before : IdsCame talk since fault downs handle count ids old now) → length ids < count
       → Asked talk since fault downs (listing_ids handle (length ids)) now new → fault new.link ≡ None
-      → IsOk (said_in ids_of (reply_at 0x31 new.reply)) → IsCounted (talk old.link) handle count → (o : Option Talk) → talk old.link ≡ o
+      → IsOk (said_in 0x31 ids_of (reply_at 0x31 new.reply)) → IsCounted (talk old.link) handle count → (o : Option Talk) → talk old.link ≡ o
       → IfSome o (λ talk. AtParts handle count (ids ++ ids_in (reply_at 0x31 new.reply)) (before.acts ++ listing_ids handle (length ids) ∷ []) talk.device)
   told_more before less asked none read counted None is = tt
   told_more {ids} {now} {new} before less asked none read counted (Some said) is =
@@ -151,7 +151,7 @@ module _ {L : Type 0} {talk : L → Option Talk} {since : L → L → Type 0} {f
   pub came_more : (since_more : (a b c : L) → since a b → since b c → since a c) {ids more : List ℕ} {now new : SessionValue L}
       → IdsCame talk since fault downs handle count ids old now → length ids < count
       → Asked talk since fault downs (listing_ids handle (length ids)) now new → fault new.link ≡ None
-      → IsOk (said_in ids_of (reply_at 0x31 new.reply)) → more ≡ ids ++ ids_in (reply_at 0x31 new.reply)
+      → IsOk (said_in 0x31 ids_of (reply_at 0x31 new.reply)) → more ≡ ids ++ ids_in (reply_at 0x31 new.reply)
       → IdsCame talk since fault downs handle count more old new
   came_more since_more {ids} {more} {now} {new} before less asked none read added =
       let one = listing_ids handle (length ids) in
@@ -169,7 +169,7 @@ module _ {L : Type 0} {talk : L → Option Talk} {since : L → L → Type 0} {f
   -- some came, where a device is told
   pub some_came : {ids : List ℕ} {now new : SessionValue L} → IdsCame talk since fault downs handle count ids old now → length ids < count
       → Asked talk since fault downs (listing_ids handle (length ids)) now new → fault new.link ≡ None
-      → IsOk (said_in ids_of (reply_at 0x31 new.reply)) → IsCounted (talk old.link) handle count
+      → IsOk (said_in 0x31 ids_of (reply_at 0x31 new.reply)) → IsCounted (talk old.link) handle count
       → IfSome (talk old.link) (λ talk. 0 < length (ids_in (reply_at 0x31 new.reply)))
   some_came {ids} {now} {new} before less asked none read counted = by (talk old.link) refl
     where
@@ -243,7 +243,7 @@ module _ {L : Type 0} {talk : L → Option Talk} {since : L → L → Type 0} {f
 
   pub short_untold : {ids more : List ℕ} {now new : SessionValue L} → IdsCame talk since fault downs handle count ids old now → length ids < count
       → Asked talk since fault downs (listing_ids handle (length ids)) now new → fault new.link ≡ None
-      → IsOk (said_in ids_of (reply_at 0x31 new.reply)) → more ≡ ids ++ ids_in (reply_at 0x31 new.reply) → length more ≡ length ids
+      → IsOk (said_in 0x31 ids_of (reply_at 0x31 new.reply)) → more ≡ ids ++ ids_in (reply_at 0x31 new.reply) → length more ≡ length ids
       → IsCounted (talk old.link) handle count → talk old.link ≡ None
   short_untold {ids} {more} {now} {new} before less asked none read added same counted =
       by (talk old.link) (some_came before less asked none read counted)

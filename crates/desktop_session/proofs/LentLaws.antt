@@ -83,7 +83,7 @@ told_at device handle place is records there = search (rules, none_past)
 
 pub lent_at : (device : Device) (handle place : ℕ) (base : Base) (item : Record) → IsProper device → handle < 2 ^ 8 → place < 2 ^ 16
     → base_at device handle ≡ Some base → on_records base.database ≡ true → slice_get base.database.records place ≡ Some item
-    → said_in record_of (reply_at 0x20 (acted (reading_at handle place) device).0) ≡ Ok (record_lent item)
+    → said_in 0x20 record_of (reply_at 0x20 (acted (reading_at handle place) device).0) ≡ Ok (record_lent item)
 unfolding record_said
 lent_at device handle place base item proper byte half is records there =
     grind (arith, common_steps, nat_tests, acted_reads, act_sayable, at_fits, told_at, record_said, whole_bytes, record_short)
@@ -98,7 +98,7 @@ told_of device handle id is records found there = grind (arith, common_steps, na
 pub lent_of : (device : Device) (handle id place : ℕ) (base : Base) (item : Record) → IsProper device → handle < 2 ^ 8 → id < 2 ^ 32
     → base_at device handle ≡ Some base → on_records base.database ≡ true → place_of_id id base.database.records ≡ Some place
     → slice_get base.database.records place ≡ Some item
-    → said_in record_of (reply_at 0x20 (acted (reading_of handle id) device).0) ≡ Ok (record_lent item)
+    → said_in 0x20 record_of (reply_at 0x20 (acted (reading_of handle id) device).0) ≡ Ok (record_lent item)
 unfolding record_said
 lent_of device handle id place base item proper byte word is records found there =
     grind (arith, common_steps, nat_tests, acted_reads, act_sayable, of_fits, told_of, record_said, whole_bytes, record_short)
@@ -112,7 +112,7 @@ told_next device handle is records first there = cc (next_row device handle is r
 pub lent_next : (device : Device) (handle place : ℕ) (base : Base) (item : Record) → IsProper device → handle < 2 ^ 8
     → base_at device handle ≡ Some base → on_records base.database ≡ true → next_changed base.opened.next base.database.records ≡ Some place
     → slice_get base.database.records place ≡ Some item
-    → said_in record_of (reply_at 0x1F (acted (reading_next handle) device).0) ≡ Ok (record_lent item)
+    → said_in 0x1F record_of (reply_at 0x1F (acted (reading_next handle) device).0) ≡ Ok (record_lent item)
 lent_next device handle place base item proper byte is records first there =
     grind (arith, common_steps, nat_tests, acted_reads, act_sayable, next_fits, told_next)
 
@@ -130,7 +130,7 @@ told_resource device handle place is resources there = search (rules, none_past)
 
 pub lent_resource_at : (device : Device) (handle place : ℕ) (base : Base) (resource : Resource) → IsProper device → handle < 2 ^ 8 → place < 2 ^ 16
     → base_at device handle ≡ Some base → on_resources base.database ≡ true → slice_get base.database.resources place ≡ Some resource
-    → said_in resource_of (reply_at 0x23 (acted (reading_resource handle place) device).0) ≡ Ok (resource_lent resource)
+    → said_in 0x23 resource_of (reply_at 0x23 (acted (reading_resource handle place) device).0) ≡ Ok (resource_lent resource)
 unfolding resource_said
 lent_resource_at device handle place base resource proper byte half is resources there =
     grind (

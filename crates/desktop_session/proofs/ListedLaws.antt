@@ -7,9 +7,9 @@ use Rattle.desktop_session.specs.Answers.{ids_of, said_in}
 use Rattle.desktop_session.specs.Lists.{ids_in}
 use Rattle.std.proofs.Common.{rules}
 
-value_said : (value : ReplyValue) {ids : List ℕ} → said_in ids_of (Ok value) ≡ Ok ids → ids ≡ ids_of value
+value_said : (value : ReplyValue) {ids : List ℕ} → said_in 0x31 ids_of (Ok value) ≡ Ok ids → ids ≡ ids_of value
 value_said value is = search (rules)
 
-pub ids_said : (read : Result ReplyValue ReplyFault) {ids : List ℕ} → said_in ids_of read ≡ Ok ids → ids ≡ ids_in read
+pub ids_said : (read : Result ReplyValue ReplyFault) {ids : List ℕ} → said_in 0x31 ids_of read ≡ Ok ids → ids ≡ ids_in read
 ids_said (Ok value) is = value_said value is
 ids_said (Err fault) is = cc

@@ -271,16 +271,16 @@ order_answered (one ∷ acts) device order = (possible_answered one device order
 -- ---- what a call answers
 
 -- the reply is no error, unless its call has an answer for it
-said_unrefused : {A : Type 0} (f : Form) (take : ReplyValue → A) (value : ReplyValue) → may_find_none f ≡ false → IsAnswered f value
-    → IsUnrefused (said_in take (Ok value))
-said_unrefused f take value none is = search (rules)
+said_unrefused : {A : Type 0} (function : ℕ) (f : Form) (take : ReplyValue → A) (value : ReplyValue) → may_find_none f ≡ false → IsAnswered f value
+    → IsUnrefused (said_in function take (Ok value))
+said_unrefused function f take value none is = search (rules)
 
-none_unrefused : {A : Type 0} (f : Form) (take : ReplyValue → A) (value : ReplyValue) → IsAnswered f value
-    → IsUnrefused (or_none (said_in take (Ok value)))
-none_unrefused f take value is = search (rules, same_is)
+none_unrefused : {A : Type 0} (function : ℕ) (f : Form) (take : ReplyValue → A) (value : ReplyValue) → IsAnswered f value
+    → IsUnrefused (or_none (said_in function take (Ok value)))
+none_unrefused function f take value is = search (rules, same_is)
 
-false_unrefused : (f : Form) (value : ReplyValue) → IsAnswered f value → IsUnrefused (or_false (said_in no_more (Ok value)))
-false_unrefused f value is = search (rules, same_is)
+false_unrefused : (function : ℕ) (f : Form) (value : ReplyValue) → IsAnswered f value → IsUnrefused (or_false (said_in function no_more (Ok value)))
+false_unrefused function f value is = search (rules, same_is)
 
 fault_unrefused : {A : Type 0} (fault : Option LinkFault) (said : Result A SessionFault) → (fault ≡ None → IsUnrefused said)
     → IsUnrefused (answer_by fault said)
@@ -296,22 +296,22 @@ reads_told asked order none = grind (arith, common_steps, nat_tests, acted_reads
 module _ {L : Type 0} (talk : L → Option Talk) (since : L → L → Type 0) (fault : L → Option LinkFault) (downs : L → ℕ) (one : Act)
     (old new : SessionValue L) where
   pub said_in_order : {A : Type 0} (take : ReplyValue → A) → Asked talk since fault downs one old new → SaysInOrder talk one old.link
-      → may_find_none one.asks.form ≡ false → IsUnrefused (answer_by (fault new.link) (said_in take (reply_at (number_of one) new.reply)))
+      → may_find_none one.asks.form ≡ false → IsUnrefused (answer_by (fault new.link) (said_in (number_of one) take (reply_at (number_of one) new.reply)))
   said_in_order take asked order none =
-      fault_unrefused (fault new.link) (said_in take (reply_at (number_of one) new.reply)) (λ working.
+      fault_unrefused (fault new.link) (said_in (number_of one) take (reply_at (number_of one) new.reply)) (λ working.
       rw (reads_told asked order working)
-      (said_unrefused one.asks.form take (told one order.said.device) none (possible_answered one order.said.device order.possible)))
+      (said_unrefused (number_of one) one.asks.form take (told one order.said.device) none (possible_answered one order.said.device order.possible)))
 
   pub found_in_order : {A : Type 0} (take : ReplyValue → A) → Asked talk since fault downs one old new → SaysInOrder talk one old.link
-      → IsUnrefused (answer_by (fault new.link) (or_none (said_in take (reply_at (number_of one) new.reply))))
+      → IsUnrefused (answer_by (fault new.link) (or_none (said_in (number_of one) take (reply_at (number_of one) new.reply))))
   found_in_order take asked order =
-      fault_unrefused (fault new.link) (or_none (said_in take (reply_at (number_of one) new.reply))) (λ working.
+      fault_unrefused (fault new.link) (or_none (said_in (number_of one) take (reply_at (number_of one) new.reply))) (λ working.
       rw (reads_told asked order working)
-      (none_unrefused one.asks.form take (told one order.said.device) (possible_answered one order.said.device order.possible)))
+      (none_unrefused (number_of one) one.asks.form take (told one order.said.device) (possible_answered one order.said.device order.possible)))
 
   pub removed_in_order : Asked talk since fault downs one old new → SaysInOrder talk one old.link
-      → IsUnrefused (answer_by (fault new.link) (or_false (said_in no_more (reply_at (number_of one) new.reply))))
+      → IsUnrefused (answer_by (fault new.link) (or_false (said_in (number_of one) no_more (reply_at (number_of one) new.reply))))
   removed_in_order asked order =
-      fault_unrefused (fault new.link) (or_false (said_in no_more (reply_at (number_of one) new.reply))) (λ working.
+      fault_unrefused (fault new.link) (or_false (said_in (number_of one) no_more (reply_at (number_of one) new.reply))) (λ working.
       rw (reads_told asked order working)
-      (false_unrefused one.asks.form (told one order.said.device) (possible_answered one order.said.device order.possible)))
+      (false_unrefused (number_of one) one.asks.form (told one order.said.device) (possible_answered one order.said.device order.possible)))

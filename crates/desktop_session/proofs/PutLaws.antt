@@ -70,7 +70,7 @@ answers_own (Err fault) = tt
 
 -- what was done or refused is answered under this id
 said_of : (free : ℕ) (old : Device) (value : RequestValue) (r : Tried) {bytes : List ℕ} → function_number value ≡ 0x21 → IfDone (IsWritten free) r
-    → Keeps (Done old value) r → (outcome old 0x21 r).0 ≡ bytes → IfOk (said_in id_of (reply_at 0x21 bytes)) (λ id. id ≡ free)
+    → Keeps (Done old value) r → (outcome old 0x21 r).0 ≡ bytes → IfOk (said_in 0x21 id_of (reply_at 0x21 bytes)) (λ id. id ≡ free)
 said_of free old value (Ok done) {bytes} function written keeps is = grind (arith, common_steps, nat_tests, read_again, id_reply)
 said_of free old value (Err code) {bytes} function written keeps is =
     let read : reply_at 0x21 bytes ≡ Ok (reply.Refused 0x21 code) = cc (read_again 0x21 (reply.Refused 0x21 code) (refused_reply 0x21 code keeps.0 keeps.1)) in
@@ -105,7 +105,7 @@ unfolding MayGive
 may_of old handle free content fits may = search (rules, read_back)
 
 is_new : (handle : ℕ) (content : ContentValue) (old new : Option Talk) (bytes : List ℕ) {answer : Result ℕ SessionFault}
-    → IsRequest (putting 0 handle 0 content).asks → Answered old (text (putting 0 handle 0 content)) bytes new → answer ≡ said_in id_of (reply_at 0x21 bytes)
+    → IsRequest (putting 0 handle 0 content).asks → Answered old (text (putting 0 handle 0 content)) bytes new → answer ≡ said_in 0x21 id_of (reply_at 0x21 bytes)
     → IsNew handle content old new bytes answer
 unfolding saying text acted tried
 is_new handle content None new bytes {answer} fits is says = record {
@@ -158,13 +158,14 @@ module _ {L : Type 0} {talk : L → Option Talk} {since : L → L → Type 0} {f
 
   pub puts_new : IsRequest (putting 0 handle 0 content).asks → Answered (talk old.link) (text (putting 0 handle 0 content)) new.reply (talk new.link)
       → Stops talk since fault downs (text (putting 0 handle 0 content) ∷ []) old.link new.link → new.user ≡ old.user → new.abandoned ≡ old.abandoned
-      → answer ≡ said_in id_of (reply_at 0x21 new.reply) → Puts talk since fault downs handle 0 content old new answer
+      → answer ≡ said_in 0x21 id_of (reply_at 0x21 new.reply) → Puts talk since fault downs handle 0 content old new answer
   unfolding text
   puts_new fits is stops user abandoned says =
       let found = is_new handle content (talk old.link) (talk new.link) new.reply fits is says in
       record {
         given = found.given;
         asked = record {
+          fits = fits;
           stops = stops;
           does = λ none. record { said = found.said; sent = sent_answered (talk old.link) (talk new.link) (text (putting 0 handle 0 content)) new.reply is };
           told = λ none. found.told;
@@ -178,10 +179,10 @@ module _ {L : Type 0} {talk : L → Option Talk} {since : L → L → Type 0} {f
 
   -- ---- from the request as it was written
 
-  puts_same : (id : ℕ) → IsPut talk since fault downs (putting 0 handle id content).asks old new → answer ≡ said_in id_of (reply_at 0x21 new.reply)
+  puts_same : (id : ℕ) → IsPut talk since fault downs (putting 0 handle id content).asks old new → answer ≡ said_in 0x21 id_of (reply_at 0x21 new.reply)
       → Puts talk since fault downs handle id content old new answer
   puts_same id put says = search (rules, puts_new, puts_old, is_not_zero)
 
   pub puts_at : {id : ℕ} {value : RequestValue} → value ≡ (putting 0 handle id content).asks → IsPut talk since fault downs value old new
-      → answer ≡ said_in id_of (reply_at 0x21 new.reply) → Puts talk since fault downs handle id content old new answer
+      → answer ≡ said_in 0x21 id_of (reply_at 0x21 new.reply) → Puts talk since fault downs handle id content old new answer
   puts_at same put says = search (rules, puts_same)

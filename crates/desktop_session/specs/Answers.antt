@@ -18,12 +18,13 @@ abbrev pub answer_by : {A : Type 0} → Option LinkFault → Result A SessionFau
 answer_by None said = said
 answer_by (Some fault) said = Err (fault_of fault)
 
--- what a reply says, or its error, or the first rule that its bytes break
-abbrev pub said_in : {A : Type 0} → (ReplyValue → A) → Result ReplyValue ReplyFault
+-- what a reply to a function says, or its error, or the first rule that its bytes break
+abbrev pub said_in : {A : Type 0} → ℕ → (ReplyValue → A) → Result ReplyValue ReplyFault
     → Result A SessionFault
-said_in take (Err broken) = Err (session.BadReply broken)
-said_in take (Ok (reply.Refused number code)) = Err (session.Refused (record { 0 = code }))
-said_in take (Ok value) = Ok (take value)
+said_in function take (Err broken) = Err (session.BadReply function broken)
+said_in function take (Ok (reply.Refused number code)) =
+    Err (session.Refused function (record { 0 = code }))
+said_in function take (Ok value) = Ok (take value)
 
 -- the same, with another value where there is one
 abbrev pub mapped : {A B : Type 0} → (A → B) → Result A SessionFault → Result B SessionFault
@@ -33,13 +34,15 @@ mapped f (Err fault) = Err fault
 -- error 5 says that there is none
 abbrev pub or_none : {A : Type 0} → Result A SessionFault → Result (Option A) SessionFault
 or_none (Ok x) = Ok (Some x)
-or_none (Err (session.Refused code)) = if code.0 == 5 then Ok None else Err (session.Refused code)
+or_none (Err (session.Refused function code)) =
+    if code.0 == 5 then Ok None else Err (session.Refused function code)
 or_none (Err fault) = Err fault
 
 -- the same of what says nothing more
 abbrev pub or_false : Result (Unit {0}) SessionFault → Result Bool SessionFault
 or_false (Ok done) = Ok true
-or_false (Err (session.Refused code)) = if code.0 == 5 then Ok false else Err (session.Refused code)
+or_false (Err (session.Refused function code)) =
+    if code.0 == 5 then Ok false else Err (session.Refused function code)
 or_false (Err fault) = Err fault
 
 -- a copy of what was found, by its bytes; where there is none nothing is copied, and only a copy

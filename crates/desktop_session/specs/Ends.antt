@@ -38,5 +38,5 @@ end_of (Err halted) = Err halted.cause
 pub record Finished (talk : Option Talk) (fault : Option LinkFault)
     (answer : Result (Unit {0}) SessionFault) : Type 0 where
   pub reply : List ℕ
-  pub is : answer ≡ answer_by fault (said_in no_more (reply_at 0x2F reply))
+  pub is : answer ≡ answer_by fault (said_in 0x2F no_more (reply_at 0x2F reply))
   pub told : fault ≡ None → IfSome talk (λ talk. reply ≡ (acted ending talk.device).0)

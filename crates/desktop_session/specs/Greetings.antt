@@ -37,8 +37,8 @@ begun_by (Ok user) (Ok done) = Ok user
 -- what a greeting answers by the bytes of both replies
 abbrev pub greeted : List ℕ → Bool → List ℕ → List ℕ → Result UserInfo SessionFault
 greeted users add first second =
-    begun_by (user_by users add (said_in user_of (reply_at 0x10 first)))
-    (said_in no_more (reply_at 0x2E second))
+    begun_by (user_by users add (said_in 0x10 user_of (reply_at 0x10 first)))
+    (said_in 0x2E no_more (reply_at 0x2E second))
 
 -- A greeting answered the fault of the link, or what both replies say. Where the link has no fault,
 -- the first reply is the device's to ReadUserInfo, and the second, which is asked for where the
@@ -57,7 +57,7 @@ abbrev pub HasSlot : List ℕ → Bool → Option Talk → Type 0
 HasSlot users add talk =
     IfSome talk
     (λ talk. IsOk
-    (user_by users add (said_in user_of (reply_at 0x10 (acted reading_user talk.device).0))))
+    (user_by users add (said_in 0x10 user_of (reply_at 0x10 (acted reading_user talk.device).0))))
 
 -- a greeting asked for the user alone, which was answered unless the link has a fault
 pub record AsksUser {L : Type 0} (talk : L → Option Talk) (since : L → L → Type 0)

@@ -82,11 +82,17 @@ Refuses code (Err fault) = ⊥
 -- the cause of a refusal, by the link's fault and the last reply
 abbrev pub HasCause : Option LinkFault → Result ReplyValue ReplyFault → SessionFault → Type 0
 HasCause fault read session.Down = fault ≡ Some link.Down
-HasCause fault read (session.Refused code) = (fault ≡ None) × Refuses code.0 read
-HasCause fault read (session.BadReply broken) = (fault ≡ None) × (read ≡ Err broken)
+HasCause fault read (session.Refused function code) = (fault ≡ None) × Refuses code.0 read
+HasCause fault read (session.BadReply function broken) = (fault ≡ None) × (read ≡ Err broken)
 HasCause fault read session.NoMemory = Unit {0}
 HasCause fault read (session.OtherUser handheld desktop) = ⊥
 HasCause fault read session.TooManyUsers = ⊥
+
+-- a refusal, or a reply that is none, is told with this function
+abbrev pub IsToldOf : ℕ → SessionFault → Type 0
+IsToldOf number (session.Refused function code) = function ≡ number
+IsToldOf number (session.BadReply function broken) = function ≡ number
+IsToldOf number other = Unit {0}
 
 -- the device's reply to one of so many requests
 pub record HasReplied (most : ℕ) (asks : ℕ → Act) (device : Device) (bytes : List ℕ) : Type 0 where
@@ -102,9 +108,9 @@ IsByReplyTo talk fault most asks old new =
     fault new.link ≡ None
     → IfSome (talk old.link) (λ talk. HasReplied most asks talk.device new.reply)
 
--- the refusal of a list of the databases is not by error 5, which says that none is left
+-- a refusal is not by error 5, which says that there is none, or that none is left
 abbrev pub IsNotMissing : SessionFault → Type 0
-IsNotMissing (session.Refused code) = (code.0 == 5) ≡ false
+IsNotMissing (session.Refused function code) = (code.0 == 5) ≡ false
 IsNotMissing other = Unit {0}
 
 -- ---- what a list of the databases did

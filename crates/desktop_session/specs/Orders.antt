@@ -171,8 +171,8 @@ AreAnswered (act ∷ acts) device =
 -- an answer that is neither an error of the handheld's nor bytes that are no reply
 abbrev pub IsUnrefused : {A : Type 0} → Result A SessionFault → Type 0
 IsUnrefused (Ok x) = Unit {0}
-IsUnrefused (Err (session.Refused code)) = ⊥
-IsUnrefused (Err (session.BadReply broken)) = ⊥
+IsUnrefused (Err (session.Refused function code)) = ⊥
+IsUnrefused (Err (session.BadReply function broken)) = ⊥
 IsUnrefused (Err other) = Unit {0}
 
 -- a session over a link that tells its device says an act in its order

@@ -1,5 +1,6 @@
 -- Where a call of a session stopped, and what it did.
 use Rattle.std.specs.Prelude.{◌≡◌, ◌≤◌, ℕ, List, [], ◌∷◌, map, Option, None, Some, IfSome, IsSome}
+use Rattle.dlp_requests.specs.RequestTexts.{IsRequest}
 use Rattle.dlp_commands.specs.declared.link.LinkFault.{LinkFault}
 use Rattle.dlp_commands.specs.declared.link.LinkFault.TheVariants.{Down}
 use Rattle.dlp_commands.specs.Links.{WentDown}
@@ -25,11 +26,13 @@ pub record Does {L : Type 0} (talk : L → Option Talk) (acts : List Act) (old n
   pub said : talk new ≡ saying acts (talk old)
   pub sent : sent (talk new) ≡ grown (sent (talk old)) (map text acts)
 
--- A session asked for one act: nothing else went out; where the link has no fault the act was done,
--- and the last reply is the device's to it; the user is as before, and nothing was abandoned.
+-- A session asked for one act, by a request that fits: nothing else went out; where the link has no
+-- fault the act was done, and the last reply is the device's to it; the user is as before, and
+-- nothing was abandoned.
 pub record Asked {L : Type 0} (talk : L → Option Talk) (since : L → L → Type 0)
     (fault : L → Option LinkFault) (downs : L → ℕ) (one : Act)
     (old new : SessionValue L) : Type 0 where
+  pub fits : IsRequest one.asks
   pub stops : Stops talk since fault downs (text one ∷ []) old.link new.link
   pub does : fault new.link ≡ None → Does talk (one ∷ []) old.link new.link
   pub told : fault new.link ≡ None

@@ -21,7 +21,7 @@ impl<'s, L: Link> OpenDb<'s, L> {
             self.old.linked.now self.new.linked.now }
         ensures answer { IsCopy (λ copy. copy.items) result
             (answer_by (L.fault self.new.linked.now.link)
-            (or_none (said_in block_of (reply_at 0x1B self.new.linked.now.reply)))) }
+            (or_none (said_in 0x1B block_of (reply_at 0x1B self.new.linked.now.reply)))) }
     {
         let handle = self.handle();
         self.linked.ask(&Request::ReadAppBlock {
@@ -41,7 +41,7 @@ impl<'s, L: Link> OpenDb<'s, L> {
             self.old.linked.now self.new.linked.now }
         ensures answer { IsCopy (λ copy. copy.items) result
             (answer_by (L.fault self.new.linked.now.link)
-            (or_none (said_in block_of (reply_at 0x1D self.new.linked.now.reply)))) }
+            (or_none (said_in 0x1D block_of (reply_at 0x1D self.new.linked.now.reply)))) }
     {
         let handle = self.handle();
         self.linked.ask(&Request::ReadSortBlock {

@@ -24,7 +24,7 @@ impl<L: Link> Linked<L> {
         ensures asked { Asked L.talk L.since L.fault L.downs (marking mark.now bits) self.old
             self.new }
         ensures answer { result ≡ answer_by (L.fault self.new.link)
-            (said_in no_more (reply_at 0x11 self.new.reply)) }
+            (said_in 0x11 no_more (reply_at 0x11 self.new.reply)) }
     {
         let name = name_where_set(bits, mark.name.as_bytes());
         self.ask(&Request::WriteUserInfo {
@@ -45,7 +45,7 @@ impl<L: Link> Linked<L> {
         requires { self.old.abandoned ≡ false }
         ensures asked { Asked L.talk L.since L.fault L.downs (deleting name.now) self.old self.new }
         ensures answer { result ≡ answer_by (L.fault self.new.link)
-            (or_false (said_in no_more (reply_at 0x1A self.new.reply))) }
+            (or_false (said_in 0x1A no_more (reply_at 0x1A self.new.reply))) }
     {
         let name = name.as_bytes();
         self.ask(&Request::DeleteDb { card: 0, name })?;

@@ -32,7 +32,7 @@ impl<L: Link> Linked<L> {
     fn end(&mut self) -> Result<(), SessionFault>
         ensures asked { Asked L.talk L.since L.fault L.downs ending self.old self.new }
         ensures answer { result ≡ answer_by (L.fault self.new.link)
-            (said_in no_more (reply_at 0x2F self.new.reply)) }
+            (said_in 0x2F no_more (reply_at 0x2F self.new.reply)) }
         ensures last { IfErr result (IsByLastReply (L.talk self.new.link)) }
     {
         self.ask(&Request::EndOfSync { status: 0 })?;

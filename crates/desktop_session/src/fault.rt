@@ -10,12 +10,12 @@ use std::alloc::AllocError;
 pub enum SessionFault {
     /// The link went down.
     Down,
-    /// The handheld answered this error, and the call has no answer of its own for it.
-    Refused(ErrorCode),
+    /// The handheld refused a request of this function with this error, and the call has no answer of its own for it.
+    Refused { function: u8, code: ErrorCode },
     /// Both sides have a user, and the desktop knows none of the handheld's; its first one is told.
     OtherUser { handheld: u32, desktop: u32 },
-    /// The bytes of a reply are none, and which rule they break.
-    BadReply(ReplyFault),
+    /// The bytes of the reply to a request of this function are none, and which rule they break.
+    BadReply { function: u8, fault: ReplyFault },
     /// The handheld's user would be the desktop's seventeenth.
     TooManyUsers,
     /// Memory ran out.

@@ -23,7 +23,7 @@ impl<L: Link> Linked<L> {
         requires room { length users.now ≤ 16 }
         ensures asked { Asked L.talk L.since L.fault L.downs reading_user self.old self.new }
         ensures answer { result ≡ answer_by (L.fault self.new.link)
-            (user_by users.now add (said_in user_of (reply_at 0x10 self.new.reply))) }
+            (user_by users.now add (said_in 0x10 user_of (reply_at 0x10 self.new.reply))) }
         ensures last { IfErr result (IsByLastReply (L.talk self.new.link)) }
     {
         self.ask(&Request::ReadUserInfo)?;
@@ -36,7 +36,7 @@ impl<L: Link> Linked<L> {
     fn ask_conduits(&mut self) -> Result<(), SessionFault>
         ensures asked { Asked L.talk L.since L.fault L.downs beginning self.old self.new }
         ensures answer { result ≡ answer_by (L.fault self.new.link)
-            (said_in no_more (reply_at 0x2E self.new.reply)) }
+            (said_in 0x2E no_more (reply_at 0x2E self.new.reply)) }
         ensures last { IfErr result (IsByLastReply (L.talk self.new.link)) }
     {
         self.ask(&Request::OpenConduit)?;

@@ -18,8 +18,9 @@ ghost use Rattle.desktop_session.specs.Acts.{Act, acted};
 ghost use Rattle.desktop_session.specs.Answers.{answer_by, no_more, or_false, or_none, record_of, resource_of, said_in};
 ghost use Rattle.desktop_session.specs.Lasts.{IsByLastReply};
 ghost use Rattle.desktop_session.specs.Lent.{record_lent, resource_lent};
-ghost use Rattle.desktop_session.specs.Lists.{has_more, heads_listed, id_parts, ids_listed, list_reply};
+ghost use Rattle.desktop_session.specs.Lists.{IsNotMissing, has_more, heads_listed, id_parts, ids_listed, list_reply};
 ghost use Rattle.desktop_session.specs.Opens.{IsOpenAs, LeavesOpen};
+ghost use Rattle.desktop_session.specs.Orders.{may_find_none};
 ghost use Rattle.desktop_session.specs.Requests.{closing, making, opening_in, reading_at, reading_next, reading_of, reading_resource};
 ghost use Rattle.desktop_session.specs.Says.{said};
 ghost use Rattle.desktop_session.specs.Sessions.{SessionValue};
@@ -51,23 +52,25 @@ pub fn acts_are_steps()
 {}
 
 /// Over any link a call that stops for a refusal, or for a reply that can't be read, stops for what the
-/// last reply of the link's talk says, read as one to the function of its request: whatever the call
-/// takes from the reply, and also where error 5 has an answer of its own.
+/// last reply of the link's talk says, read as one to the function of its request, and tells that
+/// function: whatever the call takes from the reply, and also where error 5 has an answer of its own.
+/// A call that has one never stops for it.
 pub fn refusals_are_the_last_reply<L: Link, A>()
     ensures said { (one : Act) (old new : SessionValue L) (take : ReplyValue → A)
-        (cause : SessionFault) → Asked L.talk L.since L.fault L.downs one old new
+        (cause : SessionFault) → (may_find_none one.asks.form ≡ true → IsNotMissing cause)
+        → Asked L.talk L.since L.fault L.downs one old new
         → Err cause ≡ answer_by (L.fault new.link)
-        (said_in take (reply_at (number_of one) new.reply))
+        (said_in (number_of one) take (reply_at (number_of one) new.reply))
         → IsByLastReply (L.talk new.link) cause }
     ensures found { (one : Act) (old new : SessionValue L) (take : ReplyValue → A)
         (cause : SessionFault) → Asked L.talk L.since L.fault L.downs one old new
         → Err cause ≡ answer_by (L.fault new.link)
-        (or_none (said_in take (reply_at (number_of one) new.reply)))
+        (or_none (said_in (number_of one) take (reply_at (number_of one) new.reply)))
         → IsByLastReply (L.talk new.link) cause }
     ensures removed { (one : Act) (old new : SessionValue L) (cause : SessionFault)
         → Asked L.talk L.since L.fault L.downs one old new
         → Err cause ≡ answer_by (L.fault new.link)
-        (or_false (said_in no_more (reply_at (number_of one) new.reply)))
+        (or_false (said_in (number_of one) no_more (reply_at (number_of one) new.reply)))
         → IsByLastReply (L.talk new.link) cause }
 {}
 
@@ -118,26 +121,26 @@ pub fn lent_ones_are_the_devices()
     ensures at { (device : Device) (handle place : ℕ) (base : Base) (item : Record)
         → IsProper device → handle < 2 ^ 8 → place < 2 ^ 16 → base_at device handle ≡ Some base
         → on_records base.database ≡ true → slice_get base.database.records place ≡ Some item
-        → said_in record_of (reply_at 0x20 (acted (reading_at handle place) device).0)
+        → said_in 0x20 record_of (reply_at 0x20 (acted (reading_at handle place) device).0)
         ≡ Ok (record_lent item) }
     ensures by_id { (device : Device) (handle id place : ℕ) (base : Base) (item : Record)
         → IsProper device → handle < 2 ^ 8 → id < 2 ^ 32 → base_at device handle ≡ Some base
         → on_records base.database ≡ true → place_of_id id base.database.records ≡ Some place
         → slice_get base.database.records place ≡ Some item
-        → said_in record_of (reply_at 0x20 (acted (reading_of handle id) device).0)
+        → said_in 0x20 record_of (reply_at 0x20 (acted (reading_of handle id) device).0)
         ≡ Ok (record_lent item) }
     ensures next { (device : Device) (handle place : ℕ) (base : Base) (item : Record)
         → IsProper device → handle < 2 ^ 8 → base_at device handle ≡ Some base
         → on_records base.database ≡ true
         → next_changed base.opened.next base.database.records ≡ Some place
         → slice_get base.database.records place ≡ Some item
-        → said_in record_of (reply_at 0x1F (acted (reading_next handle) device).0)
+        → said_in 0x1F record_of (reply_at 0x1F (acted (reading_next handle) device).0)
         ≡ Ok (record_lent item) }
     ensures resource { (device : Device) (handle place : ℕ) (base : Base) (resource : Resource)
         → IsProper device → handle < 2 ^ 8 → place < 2 ^ 16 → base_at device handle ≡ Some base
         → on_resources base.database ≡ true
         → slice_get base.database.resources place ≡ Some resource
-        → said_in resource_of (reply_at 0x23 (acted (reading_resource handle place) device).0)
+        → said_in 0x23 resource_of (reply_at 0x23 (acted (reading_resource handle place) device).0)
         ≡ Ok (resource_lent resource) }
     ensures ids { (device : Device) (handle count : ℕ) (base : Base) → IsProper device
         → handle < 2 ^ 8 → count < 2 ^ 16 → base_at device handle ≡ Some base

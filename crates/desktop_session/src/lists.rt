@@ -58,7 +58,7 @@ impl<L: Link> Linked<L> {
         ensures none { OnOk result (L.fault self.new.link ≡ None) }
         ensures ids { OnOk result (ids.new.items ≡ ids.old.items ++ ids_in (reply_at 0x31
             self.new.reply)) }
-        ensures read { OnOk result (IsOk (said_in ids_of (reply_at 0x31 self.new.reply))) }
+        ensures read { OnOk result (IsOk (said_in 0x31 ids_of (reply_at 0x31 self.new.reply))) }
         ensures cause { IfErr result (HasCause (L.fault self.new.link) (reply_at 0x31
             self.new.reply)) }
         ensures last { IfErr result (IsByLastReply (L.talk self.new.link)) }
@@ -134,7 +134,10 @@ impl<L: Link> Linked<L> {
             self.ids_from(handle, before as u16, &mut ids)?;
             if ids.len() == before {
                 self.forget_reply();
-                return Err(SessionFault::BadReply(ReplyFault::Wrapper(0)));
+                return Err(SessionFault::BadReply {
+                    function: 0x31,
+                    fault: ReplyFault::Wrapper(0),
+                });
             }
         }
         Ok(ids)

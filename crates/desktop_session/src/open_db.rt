@@ -25,7 +25,7 @@ impl<L: Link> Linked<L> {
         ensures asked { Asked L.talk L.since L.fault L.downs (opening_in mode name.now) self.old
             self.new }
         ensures answer { result ≡ answer_by (L.fault self.new.link)
-            (said_in handle_of (reply_at 0x17 self.new.reply)) }
+            (said_in 0x17 handle_of (reply_at 0x17 self.new.reply)) }
     {
         let name = name.as_bytes();
         self.ask(&Request::OpenDb {
@@ -49,7 +49,7 @@ impl<L: Link> Linked<L> {
         ensures asked { Asked L.talk L.since L.fault L.downs
             (making_of creator.0 kind.0 attributes version name.now) self.old self.new }
         ensures answer { result ≡ answer_by (L.fault self.new.link)
-            (said_in handle_of (reply_at 0x18 self.new.reply)) }
+            (said_in 0x18 handle_of (reply_at 0x18 self.new.reply)) }
     {
         let name = name.as_bytes();
         self.ask(&Request::CreateDb {
@@ -75,7 +75,7 @@ impl<L: Link> Linked<L> {
             (λ opened. opened.linked.ghost_name) result
             (λ last. Asked L.talk L.since L.fault L.downs (opening name.now) self.entry.now last
             × IfErr result (λ fault. Err fault ≡ answer_by (L.fault last.link)
-            (said_in handle_of (reply_at 0x17 last.reply))))) }
+            (said_in 0x17 handle_of (reply_at 0x17 last.reply))))) }
         ensures same_reference { IfOk result (λ opened. opened.linked.ghost_name ≡
             self.entry.ghost_name) }
         ensures asked { IfOk result (λ opened. Asked L.talk L.since L.fault L.downs
@@ -83,7 +83,7 @@ impl<L: Link> Linked<L> {
             self.old opened.linked.now) }
         ensures handle { IfOk result (λ opened. Ok opened.handle ≡ answer_by
             (L.fault opened.linked.now.link)
-            (said_in handle_of (reply_at 0x17 opened.linked.now.reply))) }
+            (said_in 0x17 handle_of (reply_at 0x17 opened.linked.now.reply))) }
     {
         match self.ask_to_open(0xD0, name) {
             Ok(handle) => Ok(OpenDb {
@@ -102,7 +102,7 @@ impl<L: Link> Linked<L> {
             (λ last. Asked L.talk L.since L.fault L.downs (opening_to_read name.now)
             self.entry.now last
             × IfErr result (λ fault. Err fault ≡ answer_by (L.fault last.link)
-            (said_in handle_of (reply_at 0x17 last.reply))))) }
+            (said_in 0x17 handle_of (reply_at 0x17 last.reply))))) }
         ensures same_reference { IfOk result (λ opened. opened.linked.ghost_name ≡
             self.entry.ghost_name) }
         ensures asked { IfOk result (λ opened. Asked L.talk L.since L.fault L.downs
@@ -110,7 +110,7 @@ impl<L: Link> Linked<L> {
             self.old opened.linked.now) }
         ensures handle { IfOk result (λ opened. Ok opened.handle ≡ answer_by
             (L.fault opened.linked.now.link)
-            (said_in handle_of (reply_at 0x17 opened.linked.now.reply))) }
+            (said_in 0x17 handle_of (reply_at 0x17 opened.linked.now.reply))) }
     {
         match self.ask_to_open(0x90, name) {
             Ok(handle) => Ok(OpenDb {
@@ -129,7 +129,7 @@ impl<L: Link> Linked<L> {
             (λ opened. opened.linked.ghost_name) result
             (λ last. Asked L.talk L.since L.fault L.downs (making head.now) self.entry.now last
             × IfErr result (λ fault. Err fault ≡ answer_by (L.fault last.link)
-            (said_in handle_of (reply_at 0x18 last.reply))))) }
+            (said_in 0x18 handle_of (reply_at 0x18 last.reply))))) }
         ensures same_reference { IfOk result (λ opened. opened.linked.ghost_name ≡
             self.entry.ghost_name) }
         ensures asked { IfOk result (λ opened. Asked L.talk L.since L.fault L.downs
@@ -137,7 +137,7 @@ impl<L: Link> Linked<L> {
             self.old opened.linked.now) }
         ensures handle { IfOk result (λ opened. Ok opened.handle ≡ answer_by
             (L.fault opened.linked.now.link)
-            (said_in handle_of (reply_at 0x18 opened.linked.now.reply))) }
+            (said_in 0x18 handle_of (reply_at 0x18 opened.linked.now.reply))) }
     {
         match self.ask_to_make(
             head.creator,
@@ -170,7 +170,7 @@ impl<'s, L: Link> OpenDb<'s, L> {
         ensures asked { Asked L.talk L.since L.fault L.downs (closing self.entry.handle)
             self.entry.linked.now self.exit.0.now }
         ensures answer { result ≡ answer_by (L.fault self.exit.0.now.link)
-            (said_in no_more (reply_at 0x19 self.exit.0.now.reply)) }
+            (said_in 0x19 no_more (reply_at 0x19 self.exit.0.now.reply)) }
     {
         let OpenDb { linked, handle } = self;
         linked.ask(&Request::CloseDb { handle })?;

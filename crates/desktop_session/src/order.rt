@@ -42,15 +42,15 @@ pub fn kept_order_is_never_refused<L: Link, A>()
         → Asked L.talk L.since L.fault L.downs one old new → SaysInOrder L.talk one old.link
         → may_find_none one.asks.form ≡ false
         → IsUnrefused (answer_by (L.fault new.link)
-        (said_in take (reply_at (number_of one) new.reply))) }
+        (said_in (number_of one) take (reply_at (number_of one) new.reply))) }
     ensures found { (one : Act) (old new : SessionValue L) (take : ReplyValue → A)
         → Asked L.talk L.since L.fault L.downs one old new → SaysInOrder L.talk one old.link
         → IsUnrefused (answer_by (L.fault new.link)
-        (or_none (said_in take (reply_at (number_of one) new.reply)))) }
+        (or_none (said_in (number_of one) take (reply_at (number_of one) new.reply)))) }
     ensures removed { (one : Act) (old new : SessionValue L)
         → Asked L.talk L.since L.fault L.downs one old new → SaysInOrder L.talk one old.link
         → IsUnrefused (answer_by (L.fault new.link)
-        (or_false (said_in no_more (reply_at (number_of one) new.reply)))) }
+        (or_false (said_in (number_of one) no_more (reply_at (number_of one) new.reply)))) }
 {}
 
 /// The same of lists: of the databases at any time, and of the ids of an open database of records.

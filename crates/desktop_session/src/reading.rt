@@ -29,7 +29,7 @@ impl<'s, L: Link> OpenDb<'s, L> {
         ensures asked { Asked L.talk L.since L.fault L.downs (counting self.old.handle)
             self.old.linked.now self.new.linked.now }
         ensures answer { result ≡ answer_by (L.fault self.new.linked.now.link)
-            (said_in count_of (reply_at 0x2B self.new.linked.now.reply)) }
+            (said_in 0x2B count_of (reply_at 0x2B self.new.linked.now.reply)) }
     {
         let handle = self.handle();
         self.linked.ask(&Request::ReadOpenDbInfo { handle })?;
@@ -102,7 +102,7 @@ impl<'s, L: Link> OpenDb<'s, L> {
             × Asked L.talk L.since L.fault L.downs (reading_at self.old.handle index)
             self.old.linked.now last.linked.now
             × Gives lent_value result (answer_by (L.fault last.linked.now.link)
-            (said_in record_of (reply_at 0x20 last.linked.now.reply))))) }
+            (said_in 0x20 record_of (reply_at 0x20 last.linked.now.reply))))) }
     {
         let handle = self.handle();
         let linked = &mut *self.linked;
@@ -122,7 +122,7 @@ impl<'s, L: Link> OpenDb<'s, L> {
             × Asked L.talk L.since L.fault L.downs (reading_of self.old.handle id)
             self.old.linked.now last.linked.now
             × Gives (option_map lent_value) result (answer_by (L.fault last.linked.now.link)
-            (or_none (said_in record_of (reply_at 0x20 last.linked.now.reply)))))) }
+            (or_none (said_in 0x20 record_of (reply_at 0x20 last.linked.now.reply)))))) }
     {
         let handle = self.handle();
         let linked = &mut *self.linked;
@@ -142,7 +142,7 @@ impl<'s, L: Link> OpenDb<'s, L> {
             × Asked L.talk L.since L.fault L.downs (reading_next self.old.handle)
             self.old.linked.now last.linked.now
             × Gives (option_map lent_value) result (answer_by (L.fault last.linked.now.link)
-            (or_none (said_in record_of (reply_at 0x1F last.linked.now.reply)))))) }
+            (or_none (said_in 0x1F record_of (reply_at 0x1F last.linked.now.reply)))))) }
     {
         let handle = self.handle();
         let linked = &mut *self.linked;
@@ -162,7 +162,7 @@ impl<'s, L: Link> OpenDb<'s, L> {
             × Asked L.talk L.since L.fault L.downs (reading_resource self.old.handle index)
             self.old.linked.now last.linked.now
             × Gives lent_resource result (answer_by (L.fault last.linked.now.link)
-            (said_in resource_of (reply_at 0x23 last.linked.now.reply))))) }
+            (said_in 0x23 resource_of (reply_at 0x23 last.linked.now.reply))))) }
     {
         let handle = self.handle();
         let linked = &mut *self.linked;

@@ -20,20 +20,20 @@ use std::alloc::AllocError;
 
 // The reply to a function, which is no error.
 fn reply_in(function: u8, bytes: &[u8]) -> Result<Reply<'_>, SessionFault>
-    ensures said { Gives reply_value result (said_in (λ reply. reply)
+    ensures said { Gives reply_value result (said_in function (λ reply. reply)
         (reply_at function bytes.now)) }
     ensures own { IfOk result (λ reply. AnswersTo function (reply_value reply) bytes.now) }
 {
     match read_reply(function, bytes) {
-        Ok(Reply::Refused { code, .. }) => Err(SessionFault::Refused(code)),
+        Ok(Reply::Refused { code, .. }) => Err(SessionFault::Refused { function, code }),
         Ok(reply) => Ok(reply),
-        Err(fault) => Err(SessionFault::BadReply(fault)),
+        Err(fault) => Err(SessionFault::BadReply { function, fault }),
     }
 }
 
 // The handle of a database that is open now.
 pub(crate) fn opened_in(bytes: &[u8]) -> Result<u8, SessionFault>
-    ensures { result ≡ said_in handle_of (reply_at 0x17 bytes.now) }
+    ensures { result ≡ said_in 0x17 handle_of (reply_at 0x17 bytes.now) }
 {
     match reply_in(0x17, bytes)? {
         Reply::OpenDb { handle } => Ok(handle),
@@ -43,7 +43,7 @@ pub(crate) fn opened_in(bytes: &[u8]) -> Result<u8, SessionFault>
 
 // The handle of a database that was made.
 pub(crate) fn created_in(bytes: &[u8]) -> Result<u8, SessionFault>
-    ensures { result ≡ said_in handle_of (reply_at 0x18 bytes.now) }
+    ensures { result ≡ said_in 0x18 handle_of (reply_at 0x18 bytes.now) }
 {
     match reply_in(0x18, bytes)? {
         Reply::CreateDb { handle } => Ok(handle),
@@ -53,7 +53,7 @@ pub(crate) fn created_in(bytes: &[u8]) -> Result<u8, SessionFault>
 
 // A number of entries.
 pub(crate) fn count_in(bytes: &[u8]) -> Result<u16, SessionFault>
-    ensures { result ≡ said_in count_of (reply_at 0x2B bytes.now) }
+    ensures { result ≡ said_in 0x2B count_of (reply_at 0x2B bytes.now) }
 {
     match reply_in(0x2B, bytes)? {
         Reply::ReadOpenDbInfo { count } => Ok(count),
@@ -63,7 +63,7 @@ pub(crate) fn count_in(bytes: &[u8]) -> Result<u16, SessionFault>
 
 // A reply that says nothing but that it was done.
 pub(crate) fn done_in(function: u8, bytes: &[u8]) -> Result<(), SessionFault>
-    ensures { result ≡ said_in no_more (reply_at function bytes.now) }
+    ensures { result ≡ said_in function no_more (reply_at function bytes.now) }
 {
     let _reply = reply_in(function, bytes)?;
     Ok(())
@@ -75,7 +75,12 @@ pub(crate) fn or_none<T>(answer: Result<T, SessionFault>) -> Result<Option<T>, S
 {
     match answer {
         Ok(found) => Ok(Some(found)),
-        Err(SessionFault::Refused(ErrorCode(5))) => Ok(None),
+        Err(
+            SessionFault::Refused {
+                code: ErrorCode(5),
+                ..
+            },
+        ) => Ok(None),
         Err(fault) => Err(fault),
     }
 }
@@ -86,14 +91,19 @@ pub(crate) fn or_false(answer: Result<(), SessionFault>) -> Result<bool, Session
 {
     match answer {
         Ok(()) => Ok(true),
-        Err(SessionFault::Refused(ErrorCode(5))) => Ok(false),
+        Err(
+            SessionFault::Refused {
+                code: ErrorCode(5),
+                ..
+            },
+        ) => Ok(false),
         Err(fault) => Err(fault),
     }
 }
 
 // The id of a written record.
 pub(crate) fn id_in(bytes: &[u8]) -> Result<RecordId, SessionFault>
-    ensures { result ≡ said_in id_of (reply_at 0x21 bytes.now) }
+    ensures { result ≡ said_in 0x21 id_of (reply_at 0x21 bytes.now) }
 {
     match reply_in(0x21, bytes)? {
         Reply::WriteRecord { id } => Ok(id),
@@ -103,7 +113,7 @@ pub(crate) fn id_in(bytes: &[u8]) -> Result<RecordId, SessionFault>
 
 // The record in a reply to ReadRecord.
 pub(crate) fn record_in(bytes: &[u8]) -> Result<RecordLent<'_>, SessionFault>
-    ensures { Gives lent_value result (said_in record_of (reply_at 0x20 bytes.now)) }
+    ensures { Gives lent_value result (said_in 0x20 record_of (reply_at 0x20 bytes.now)) }
 {
     match reply_in(0x20, bytes)? {
         Reply::ReadRecord {
@@ -126,14 +136,14 @@ pub(crate) fn record_in(bytes: &[u8]) -> Result<RecordLent<'_>, SessionFault>
 #[tactic(auto, using(crate::proofs::AnswerLaws::gives_or_none))]
 pub(crate) fn found_in(bytes: &[u8]) -> Result<Option<RecordLent<'_>>, SessionFault>
     ensures { Gives (option_map lent_value) result
-        (answers.or_none (said_in record_of (reply_at 0x20 bytes.now))) }
+        (answers.or_none (said_in 0x20 record_of (reply_at 0x20 bytes.now))) }
 {
     or_none(record_in(bytes))
 }
 
 // The record in a reply to ReadNextModifiedRec.
 fn changed_in(bytes: &[u8]) -> Result<RecordLent<'_>, SessionFault>
-    ensures { Gives lent_value result (said_in record_of (reply_at 0x1F bytes.now)) }
+    ensures { Gives lent_value result (said_in 0x1F record_of (reply_at 0x1F bytes.now)) }
 {
     match reply_in(0x1F, bytes)? {
         Reply::ReadNextModifiedRec {
@@ -156,14 +166,14 @@ fn changed_in(bytes: &[u8]) -> Result<RecordLent<'_>, SessionFault>
 #[tactic(auto, using(crate::proofs::AnswerLaws::gives_or_none))]
 pub(crate) fn next_in(bytes: &[u8]) -> Result<Option<RecordLent<'_>>, SessionFault>
     ensures { Gives (option_map lent_value) result
-        (answers.or_none (said_in record_of (reply_at 0x1F bytes.now))) }
+        (answers.or_none (said_in 0x1F record_of (reply_at 0x1F bytes.now))) }
 {
     or_none(changed_in(bytes))
 }
 
 // The resource in a reply to ReadResource.
 pub(crate) fn resource_in(bytes: &[u8]) -> Result<ResourceLent<'_>, SessionFault>
-    ensures { Gives lent_resource result (said_in resource_of (reply_at 0x23 bytes.now)) }
+    ensures { Gives lent_resource result (said_in 0x23 resource_of (reply_at 0x23 bytes.now)) }
 {
     match reply_in(0x23, bytes)? {
         Reply::ReadResource {
@@ -178,7 +188,7 @@ pub(crate) fn resource_in(bytes: &[u8]) -> Result<ResourceLent<'_>, SessionFault
 
 // The app block in a reply to ReadAppBlock.
 pub(crate) fn app_in(bytes: &[u8]) -> Result<&[u8], SessionFault>
-    ensures { Gives (λ block. block.now) result (said_in block_of (reply_at 0x1B bytes.now)) }
+    ensures { Gives (λ block. block.now) result (said_in 0x1B block_of (reply_at 0x1B bytes.now)) }
 {
     match reply_in(0x1B, bytes)? {
         Reply::ReadAppBlock { bytes } => Ok(bytes),
@@ -188,7 +198,7 @@ pub(crate) fn app_in(bytes: &[u8]) -> Result<&[u8], SessionFault>
 
 // The sort block in a reply to ReadSortBlock.
 pub(crate) fn sort_in(bytes: &[u8]) -> Result<&[u8], SessionFault>
-    ensures { Gives (λ block. block.now) result (said_in block_of (reply_at 0x1D bytes.now)) }
+    ensures { Gives (λ block. block.now) result (said_in 0x1D block_of (reply_at 0x1D bytes.now)) }
 {
     match reply_in(0x1D, bytes)? {
         Reply::ReadSortBlock { bytes } => Ok(bytes),
@@ -198,7 +208,7 @@ pub(crate) fn sort_in(bytes: &[u8]) -> Result<&[u8], SessionFault>
 
 // What the handheld knows of its user.
 pub(crate) fn user_in(bytes: &[u8]) -> Result<UserInfo, SessionFault>
-    ensures { result ≡ said_in user_of (reply_at 0x10 bytes.now) }
+    ensures { result ≡ said_in 0x10 user_of (reply_at 0x10 bytes.now) }
 {
     match reply_in(0x10, bytes)? {
         Reply::ReadUserInfo {
@@ -228,7 +238,7 @@ pub(crate) fn user_in(bytes: &[u8]) -> Result<UserInfo, SessionFault>
 
 // The last index, the flags and the entries in a reply to ReadDBList.
 fn entries_in(bytes: &[u8]) -> Result<(u16, u8, Entries<'_>), SessionFault>
-    ensures { Gives (λ found. found) result (said_in list_of (reply_at 0x16 bytes.now)) }
+    ensures { Gives (λ found. found) result (said_in 0x16 list_of (reply_at 0x16 bytes.now)) }
 {
     match reply_in(0x16, bytes)? {
         Reply::ReadDbList {
@@ -242,7 +252,7 @@ fn entries_in(bytes: &[u8]) -> Result<(u16, u8, Entries<'_>), SessionFault>
 
 // The ids in a reply to ReadRecordIDList.
 fn ids_in(bytes: &[u8]) -> Result<Ids<'_>, SessionFault>
-    ensures { Gives (λ ids. ids) result (said_in ids_of (reply_at 0x31 bytes.now)) }
+    ensures { Gives (λ ids. ids) result (said_in 0x31 ids_of (reply_at 0x31 bytes.now)) }
 {
     match reply_in(0x31, bytes)? {
         Reply::ReadRecordIdList { ids } => Ok(ids),
@@ -261,6 +271,7 @@ pub(crate) fn add_heads(
         (reply_at 0x16 bytes.now)) }
     ensures next { IfOk result (λ next. next ≡ next_start start (reply_at 0x16 bytes.now)) }
     ensures cause { IfErr result (lists.HasCause None (reply_at 0x16 bytes.now)) }
+    ensures function { IfErr result (lists.IsToldOf 0x16) }
     ensures others { IfErr result lists.IsNotMissing }
 {
     let Some((last, flags, entries)) = or_none(entries_in(bytes))? else {
@@ -281,8 +292,9 @@ pub(crate) fn add_heads(
 pub(crate) fn add_ids(bytes: &[u8], all: &mut Vec<RecordId>) -> Result<(), SessionFault>
     ensures ids { OnOk result (all.new.items ≡ all.old.items ++ lists.ids_in
         (reply_at 0x31 bytes.now)) }
-    ensures read { OnOk result (IsOk (said_in ids_of (reply_at 0x31 bytes.now))) }
+    ensures read { OnOk result (IsOk (said_in 0x31 ids_of (reply_at 0x31 bytes.now))) }
     ensures cause { IfErr result (lists.HasCause None (reply_at 0x31 bytes.now)) }
+    ensures function { IfErr result (lists.IsToldOf 0x31) }
 {
     let ids = ids_in(bytes)?;
     for place in 0..ids.len() {

@@ -32,7 +32,7 @@ impl<L: Link> Linked<L> {
         ensures puts { Puts L.talk L.since L.fault L.downs handle id content.now self.old
             self.new result }
         ensures answer { result ≡ answer_by (L.fault self.new.link)
-            (said_in id_of (reply_at 0x21 self.new.reply)) }
+            (said_in 0x21 id_of (reply_at 0x21 self.new.reply)) }
     {
         let request = Request::WriteRecord {
             handle,
@@ -82,7 +82,7 @@ impl<'s, L: Link> OpenDb<'s, L> {
         ensures puts { Puts L.talk L.since L.fault L.downs self.old.handle id content.now
             self.old.linked.now self.new.linked.now result }
         ensures answer { result ≡ answer_by (L.fault self.new.linked.now.link)
-            (said_in id_of (reply_at 0x21 self.new.linked.now.reply)) }
+            (said_in 0x21 id_of (reply_at 0x21 self.new.linked.now.reply)) }
     {
         let handle = self.handle();
         self.linked.ask_to_put(handle, id, content)
@@ -96,7 +96,7 @@ impl<'s, L: Link> OpenDb<'s, L> {
         ensures asked { Asked L.talk L.since L.fault L.downs (removing self.old.handle id)
             self.old.linked.now self.new.linked.now }
         ensures answer { result ≡ answer_by (L.fault self.new.linked.now.link)
-            (or_false (said_in no_more (reply_at 0x22 self.new.linked.now.reply))) }
+            (or_false (said_in 0x22 no_more (reply_at 0x22 self.new.linked.now.reply))) }
     {
         let handle = self.handle();
         self.linked.ask(&Request::DeleteRecord {
@@ -115,7 +115,7 @@ impl<'s, L: Link> OpenDb<'s, L> {
         ensures asked { Asked L.talk L.since L.fault L.downs (cleaning self.old.handle)
             self.old.linked.now self.new.linked.now }
         ensures answer { result ≡ answer_by (L.fault self.new.linked.now.link)
-            (said_in no_more (reply_at 0x26 self.new.linked.now.reply)) }
+            (said_in 0x26 no_more (reply_at 0x26 self.new.linked.now.reply)) }
     {
         let handle = self.handle();
         self.linked.ask(&Request::CleanUpDatabase { handle })?;
@@ -130,7 +130,7 @@ impl<'s, L: Link> OpenDb<'s, L> {
         ensures asked { Asked L.talk L.since L.fault L.downs (resetting self.old.handle)
             self.old.linked.now self.new.linked.now }
         ensures answer { result ≡ answer_by (L.fault self.new.linked.now.link)
-            (said_in no_more (reply_at 0x27 self.new.linked.now.reply)) }
+            (said_in 0x27 no_more (reply_at 0x27 self.new.linked.now.reply)) }
     {
         let handle = self.handle();
         self.linked.ask(&Request::ResetSyncFlags { handle })?;
@@ -146,7 +146,7 @@ impl<'s, L: Link> OpenDb<'s, L> {
         ensures asked { Asked L.talk L.since L.fault L.downs (writing_app self.old.handle bytes.now)
             self.old.linked.now self.new.linked.now }
         ensures answer { result ≡ answer_by (L.fault self.new.linked.now.link)
-            (said_in no_more (reply_at 0x1C self.new.linked.now.reply)) }
+            (said_in 0x1C no_more (reply_at 0x1C self.new.linked.now.reply)) }
     {
         let handle = self.handle();
         self.linked.ask(&Request::WriteAppBlock { handle, bytes })?;
@@ -163,7 +163,7 @@ impl<'s, L: Link> OpenDb<'s, L> {
             self.old.handle bytes.now)
             self.old.linked.now self.new.linked.now }
         ensures answer { result ≡ answer_by (L.fault self.new.linked.now.link)
-            (said_in no_more (reply_at 0x1E self.new.linked.now.reply)) }
+            (said_in 0x1E no_more (reply_at 0x1E self.new.linked.now.reply)) }
     {
         let handle = self.handle();
         self.linked.ask(&Request::WriteSortBlock { handle, bytes })?;
@@ -181,7 +181,7 @@ impl<'s, L: Link> OpenDb<'s, L> {
             self.old.handle resource.now.kind.0 resource.now.id resource.now.bytes)
             self.old.linked.now self.new.linked.now }
         ensures answer { result ≡ answer_by (L.fault self.new.linked.now.link)
-            (said_in no_more (reply_at 0x24 self.new.linked.now.reply)) }
+            (said_in 0x24 no_more (reply_at 0x24 self.new.linked.now.reply)) }
     {
         let handle = self.handle();
         self.linked.ask_to_put_resource(

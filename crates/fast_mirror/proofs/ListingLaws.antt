@@ -51,12 +51,12 @@ unfolding saying
 ids_by first count ids same is told listed = search (rules, count_same)
 
 count_stays : {now : Option Talk} {count : ℕ} (handle : ℕ) (bytes : List ℕ) (first : Option Talk) → now ≡ saying (counting handle ∷ []) first
-    → IfSome first (λ told. bytes ≡ (acted (counting handle) told.device).0) → said_in count_of (reply_at 0x2B bytes) ≡ Ok count
+    → IfSome first (λ told. bytes ≡ (acted (counting handle) told.device).0) → said_in 0x2B count_of (reply_at 0x2B bytes) ≡ Ok count
     → IsCounted now handle count
 unfolding saying
 count_stays handle bytes None is told said = rw is tt
 count_stays {count} handle bytes (Some first) is told said =
-    rw (is, count_same first.device) (ap (λ xs. said_in count_of (reply_at 0x2B xs)) (sym told) ∙ said)
+    rw (is, count_same first.device) (ap (λ xs. said_in 0x2B count_of (reply_at 0x2B xs)) (sym told) ∙ said)
 
 said_without : {fault : Option LinkFault} {said : Result ℕ SessionFault} {count : ℕ} → Ok count ≡ answer_by fault said → fault ≡ None → Ok count ≡ said
 said_without is none = cc
@@ -64,12 +64,12 @@ said_without is none = cc
 module _ {L : Type 0} {talk : L → Option Talk} {since : L → L → Type 0} {fault : L → Option LinkFault} {downs : L → ℕ} {count : ℕ}
     {old now : SessionValue L} where
   -- the count was told
-  pub told_count : (handle : ℕ) → Ok count ≡ answer_by (fault now.link) (said_in count_of (reply_at 0x2B now.reply))
+  pub told_count : (handle : ℕ) → Ok count ≡ answer_by (fault now.link) (said_in 0x2B count_of (reply_at 0x2B now.reply))
       → Asked talk since fault downs (counting handle) old now → IfSome (talk old.link) (λ told. count ≡ entries_told told.device handle)
   told_count handle x1 asked = search (rules, count_from, count_told)
 
   -- behind the counting the count is what the device tells
-  counted_there : {handle here : ℕ} → here ≡ handle → Ok count ≡ answer_by (fault now.link) (said_in count_of (reply_at 0x2B now.reply))
+  counted_there : {handle here : ℕ} → here ≡ handle → Ok count ≡ answer_by (fault now.link) (said_in 0x2B count_of (reply_at 0x2B now.reply))
       → Asked talk since fault downs (counting handle) old now → IsCounted (talk now.link) here count
   counted_there {handle} {here} is said asked =
       let from = count_from (fault now.link) (reply_at 0x2B now.reply) said in
@@ -77,7 +77,7 @@ module _ {L : Type 0} {talk : L → Option Talk} {since : L → L → Type 0} {f
       (count_stays handle now.reply (talk old.link) (asked.does from.0).said (asked.told from.0) (sym (said_without said from.0)))
 
   pub listing_stops : (since_more : (a b c : L) → since a b → since b c → since a c) {handle here : ℕ} {new : L} → here ≡ handle
-      → Ok count ≡ answer_by (fault now.link) (said_in count_of (reply_at 0x2B now.reply)) → Asked talk since fault downs (counting handle) old now
+      → Ok count ≡ answer_by (fault now.link) (said_in 0x2B count_of (reply_at 0x2B now.reply)) → Asked talk since fault downs (counting handle) old now
       → (IsCounted (talk now.link) here count → Stops talk since fault downs (map text (id_listings here (id_parts count))) now.link new)
       → Stops talk since fault downs (map text (listing_acts handle (talk old.link))) old.link new
   listing_stops since_more {handle} {new} is said asked stops =
@@ -86,7 +86,7 @@ module _ {L : Type 0} {talk : L → Option Talk} {since : L → L → Type 0} {f
       (stops_then talk since fault downs since_more (counting handle ∷ []) (map text (id_listings handle (id_parts count))) old.link now.link new
       (asked.does from.0) asked.stops (rw (← is) (stops (counted_there is said asked))))
 
-  listing_does : {handle here : ℕ} {new : L} → here ≡ handle → Ok count ≡ answer_by (fault now.link) (said_in count_of (reply_at 0x2B now.reply))
+  listing_does : {handle here : ℕ} {new : L} → here ≡ handle → Ok count ≡ answer_by (fault now.link) (said_in 0x2B count_of (reply_at 0x2B now.reply))
       → Asked talk since fault downs (counting handle) old now → Does talk (id_listings here (id_parts count)) now.link new
       → Does talk (listing_acts handle (talk old.link)) old.link new
   listing_does {handle} {new} is said asked does =
@@ -96,7 +96,7 @@ module _ {L : Type 0} {talk : L → Option Talk} {since : L → L → Type 0} {f
       (rw (← is) does))
 
   pub listing_done : {A : Type 0} {handle here : ℕ} (new : L) (answer : Result A SessionFault) → here ≡ handle
-      → Ok count ≡ answer_by (fault now.link) (said_in count_of (reply_at 0x2B now.reply)) → Asked talk since fault downs (counting handle) old now
+      → Ok count ≡ answer_by (fault now.link) (said_in 0x2B count_of (reply_at 0x2B now.reply)) → Asked talk since fault downs (counting handle) old now
       → OnOk answer (IsCounted (talk now.link) here count → Does talk (id_listings here (id_parts count)) now.link new)
       → OnOk answer (Does talk (listing_acts handle (talk old.link)) old.link new)
   listing_done new (Ok x) is said asked does =
@@ -104,7 +104,7 @@ module _ {L : Type 0} {talk : L → Option Talk} {since : L → L → Type 0} {f
   listing_done new (Err cause) is said asked does = tt
 
   pub listing_ids : {A : Type 0} {handle here : ℕ} (items : A → List ℕ) (answer : Result A SessionFault) → here ≡ handle
-      → Ok count ≡ answer_by (fault now.link) (said_in count_of (reply_at 0x2B now.reply)) → Asked talk since fault downs (counting handle) old now
+      → Ok count ≡ answer_by (fault now.link) (said_in 0x2B count_of (reply_at 0x2B now.reply)) → Asked talk since fault downs (counting handle) old now
       → IfOk answer (λ ids. IsCounted (talk now.link) here count → IfSome (talk now.link) (λ told. items ids ≡ ids_listed told.device here (id_parts count)))
       → IfOk answer (λ ids. IfSome (talk old.link) (λ told. items ids ≡ ids_told handle told.device))
   listing_ids {handle} items (Ok ids) is said asked listed =
@@ -114,7 +114,7 @@ module _ {L : Type 0} {talk : L → Option Talk} {since : L → L → Type 0} {f
   listing_ids items (Err cause) is said asked listed = tt
 
   pub listing_last : {A : Type 0} {handle here : ℕ} (new : L) (answer : Result A SessionFault) → here ≡ handle
-      → Ok count ≡ answer_by (fault now.link) (said_in count_of (reply_at 0x2B now.reply)) → Asked talk since fault downs (counting handle) old now
+      → Ok count ≡ answer_by (fault now.link) (said_in 0x2B count_of (reply_at 0x2B now.reply)) → Asked talk since fault downs (counting handle) old now
       → IfErr answer (λ cause. IsCounted (talk now.link) here count → IsByLastReply (talk new) cause) → IfErr answer (IsByLastReply (talk new))
   listing_last new (Ok x) is said asked last = tt
   listing_last new (Err cause) is said asked last = last (counted_there is said asked)

@@ -165,7 +165,7 @@ lent_step : {device : Device} {place : ℕ} (handle : ℕ) {base : Base} {item :
     → Steps device handle (place + 1) base.database (slow_seen item ∷ [])
 unfolding at_index
 lent_step {device} {place} handle {base} {item} proper byte is records first there = record {
-  lends = (lent_seen None (reply_at 0x1F (acted (reading_next handle) device).0)
+  lends = (lent_seen 0x1F None (reply_at 0x1F (acted (reading_next handle) device).0)
       (lent_next device handle place base item proper byte is records first there)).1 ∙ ap (λ (s : Seen). s ∷ []) (lent_is_seen item);
   after = record {
     proper = next_proper handle proper byte;

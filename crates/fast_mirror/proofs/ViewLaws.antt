@@ -77,7 +77,7 @@ own_lent {device} {i} handle {base} {item} proper byte below is records finds =
     let word : i < 2 ^ 32 = omega arith in
     let lent = lent_of device handle i finds.place base item proper byte word is records finds.found finds.there in
     ap (map (λ (entry : Seen). record entry { id = i }))
-    ((lent_seen None (reply_at 0x20 (acted (reading_of handle i) device).0) lent).1 ∙ ap (λ (s : Seen). s ∷ []) (lent_is_seen item))
+    ((lent_seen 0x20 None (reply_at 0x20 (acted (reading_of handle i) device).0) lent).1 ∙ ap (λ (s : Seen). s ∷ []) (lent_is_seen item))
     ∙ ap (λ (k : ℕ). record (slow_seen item) { id = k } ∷ []) (sym finds.id)
 
 -- ---- one id

@@ -31,6 +31,7 @@ fn read_next<L: Link>(alloc: Global, db: &mut OpenDb<'_, L>) -> Result<Option<Se
     ensures read { IfOk result (λ found. IfSome found IsRead) }
     ensures cause { IfErr result (HasCause (L.fault db.new.linked.now.link)
         (reply_at 0x1F db.new.linked.now.reply)) }
+    ensures last { IfErr result (IsByLastReply (L.talk db.new.linked.now.link)) }
 {
     match db.next_changed() {
         Ok(Some(lent)) => Ok(Some(entry_of(alloc, &lent)?)),

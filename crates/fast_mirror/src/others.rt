@@ -78,6 +78,7 @@ fn read_of<L: Link>(
     ensures own { IfOk result (IsOf id) }
     ensures cause { IfErr result (HasCause (L.fault db.new.linked.now.link)
         (reply_at 0x20 db.new.linked.now.reply)) }
+    ensures last { IfErr result (IsByLastReply (L.talk db.new.linked.now.link)) }
 {
     match db.by_id(id) {
         Ok(Some(lent)) => {

@@ -1,5 +1,6 @@
 pub mod AlongLaws
 pub mod AmongActs
+pub mod AnsweredLaws
 pub mod BehindActs
 pub mod CountLaws
 pub mod CutActs

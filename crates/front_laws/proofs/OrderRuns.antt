@@ -6,7 +6,7 @@ use Rattle.palm_device.specs.Devices.{Device}
 use Rattle.dlp_commands.specs.DeviceRuns.{DeviceRun, exchanged}
 use Rattle.desktop_session.specs.Acts.{Act, text}
 use Rattle.desktop_session.specs.Orders.{AreAnswered, AreInOrder}
-use Rattle.desktop_session.specs.Tellings.{IsProper, IsSayable, exchanges, told}
+use Rattle.desktop_session.specs.Tellings.{AreSayable, IsProper, IsSayable, exchanges, told}
 use Rattle.desktop_session.proofs.ActLaws.{read_back}
 use Rattle.desktop_session.proofs.OrderLaws.{order_answered}
 use Rattle.desktop_session.proofs.TellLaws.{acted_proper, acted_reads}
@@ -22,8 +22,8 @@ use Rattle.front_laws.proofs.FitLaws.{Fit, FitsOne, fit-before}
 use Rattle.front_laws.proofs.FrontLaws.{all-take, first_fit, first_requests, take-map}
 use Rattle.front_laws.proofs.OrderActs.{read-order}
 use Rattle.front_laws.proofs.OrderWrites.{session-order}
-use Rattle.front_laws.proofs.RelabelLaws.{none-quiet, none-same, session-labelled}
-use Rattle.front_laws.proofs.RunLaws.{asks, exchanges-are, given_to, ids_left, relabel, relabel-take, runs-by}
+use Rattle.front_laws.proofs.RelabelLaws.{NoAsk, none-quiet, none-same, session-labelled}
+use Rattle.front_laws.proofs.RunLaws.{answers, asks, exchanges-are, given_to, ids_left, relabel, relabel-take, runs-by, sayable-all}
 
 -- ---- exchanges
 
@@ -80,6 +80,28 @@ run_answered bare {old} new replies fit proper order run =
 -- what a run by these requests is answered
 abbrev IsRunAnswered : Device → Device → List (List ℕ) → List (List ℕ) → Type 0
 IsRunAnswered old new replies asked = DeviceRun old asked replies new → AllByRecursion IsAnsweredExchange (exchanged asked replies)
+
+-- by acts that keep their order, fit into messages, and ask for no ids
+pub plain-answered : (acts : List Act) (count : ℕ) {old : Device} (replies : List (List ℕ)) (reached : Device) → Fit acts → NoAsk acts → IsProper old
+    → AreInOrder (take count acts) old → DeviceRun old (take count (map text acts)) replies reached
+    → AllByRecursion IsAnsweredExchange (exchanged (take count (map text acts)) replies)
+plain-answered acts count {old} replies reached fit none proper order =
+    let same : (ids : List ℕ) → relabel ids (take count acts) ≡ take count acts =
+    λ ids. sym (relabel-take count ids acts) ∙ ap (take count) (none-same ids acts none) in
+    subst (IsRunAnswered old reached replies) (sym (take-map text count acts))
+    (run_answered (take count acts) reached replies (all-take FitsOne count acts fit) proper
+    (λ ids free. subst (λ (zs : List Act). AreInOrder zs old) (sym (same ids)) order))
+
+-- a run by them is that of the acts
+pub plain-said : (acts : List Act) {old : Device} (replies : List (List ℕ)) (reached : Device) → Fit acts → NoAsk acts
+    → DeviceRun old (map text acts) replies reached → (exchanged (map text acts) replies ≡ exchanges acts old) × AreSayable acts old
+plain-said acts {old} replies reached fit none run =
+    let runs = runs-by acts old reached replies fit run.same run.ran in
+    let same : relabel runs.ids acts ≡ acts = none-same runs.ids acts none in
+    let told : replies ≡ answers (exchanges acts old) =
+    runs.told ∙ ap (λ (zs : List Act). answers (exchanges zs old)) same in
+    let free : GetFreeIds acts old = subst (λ (zs : List Act). GetFreeIds zs old) same runs.free in
+    (ap (exchanged (map text acts)) told ∙ exchanges-are acts old, sayable-all acts old fit free)
 
 pub read-answered : (m : Meeting) (count : ℕ) (replies : List (List ℕ)) (reached : Device) → IsSoundMeeting m
     → DeviceRun m.device (take count (map text (before_writes m))) replies reached

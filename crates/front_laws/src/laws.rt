@@ -1,12 +1,15 @@
 //! What a session makes of a handheld. Each function here does nothing: its contract is the law.
-ghost use Rattle.std.specs.Prelude.{◌≡◌, ◌≤◌, ◌++◌, ℕ, List, [], ◌∷◌, None, filter, length, map, take};
+ghost use Rattle.std.specs.Prelude.{◌≡◌, ◌≤◌, ◌++◌, ℕ, List, [], ◌∷◌, Err, None, Some, filter, length, map, take};
 ghost use Rattle.std.specs.List.{AllByRecursion, flat_map};
 ghost use Rattle.palm_device.specs.Devices.{Device};
 ghost use Rattle.palm_device.specs.Handles.{no_handles};
 ghost use Rattle.dlp_commands.specs.Changes.{changes, given_in};
 ghost use Rattle.dlp_commands.specs.DeviceRuns.{DeviceRun, Exchange, exchanged};
+ghost use Rattle.dlp_commands.specs.Talks.{Talk};
+ghost use Rattle.desktop_session.specs.declared.fault.SessionFault.{SessionFault};
 ghost use Rattle.desktop_session.specs.Acts.{Act, text};
-ghost use Rattle.desktop_session.specs.Orders.{AreAnswered, AreInOrder};
+ghost use Rattle.desktop_session.specs.Lasts.{IsByLastReply};
+ghost use Rattle.desktop_session.specs.Orders.{AreAnswered, AreInOrder, IsUnrefused};
 ghost use Rattle.desktop_session.specs.Requests.{ending};
 ghost use Rattle.desktop_session.specs.Tellings.{AreSayable, device_after, exchanges};
 ghost use Rattle.sync_session.specs.Fronts.{MeetingFront};
@@ -89,6 +92,13 @@ pub fn a_session_is_never_refused()
         → let asked = take count (requests meeting) in
         DeviceRun meeting.device asked replies reached
         → AllByRecursion IsAnsweredExchange (exchanged asked replies) }
+{}
+
+/// A session all of whose exchanges were answered stops for no refusal, and for no reply that can't be read.
+pub fn answered_sessions_are_never_refused()
+    ensures { (talk : Talk) (cause : SessionFault)
+        → AllByRecursion IsAnsweredExchange talk.exchanges → IsByLastReply (Some talk) cause
+        → IsUnrefused {A = Unit {0}} (Err cause) }
 {}
 
 /// Any beginning of a session's acts leads to a front, which has as many writes as the acts have, and the

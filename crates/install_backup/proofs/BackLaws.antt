@@ -63,27 +63,27 @@ retype None f cause is = let same : cause ≡ f = cc in ap (λ c. Err c) same
 retype (Some x) f cause is = let same : cause ≡ fault_of x = cc in ap (λ c. Err c) same
 
 unbegun : (talk : Option Talk) (fault : Option LinkFault) (read : Result ReplyValue ReplyFault) (user : UserInfo) (cause : SessionFault) (second : Result (Unit {0}) SessionFault)
-    → said_in no_more read ≡ second → Err cause ≡ answer_by fault (begun_by (Ok user) second) → IsByLastReply talk cause → IsLater talk fault cause
+    → said_in 0x2E no_more read ≡ second → Err cause ≡ answer_by fault (begun_by (Ok user) second) → IsByLastReply talk cause → IsLater talk fault cause
 unbegun talk fault read user cause (Err f) said is last =
-    later_said talk fault no_more read cause (retype fault f cause is ∙ ap (answer_by fault) (sym said)) last
+    later_said 0x2E talk fault no_more read cause (retype fault f cause is ∙ ap (answer_by fault) (sym said)) last
 unbegun talk None read user cause (Ok done) said is last = absurd cc
 unbegun talk (Some x) read user cause (Ok done) said is last =
     let same : cause ≡ fault_of x = cc in
-    later_said talk (Some x) no_more read cause (ap (λ c. Err c) same) last
+    later_said 0x2E talk (Some x) no_more read cause (ap (λ c. Err c) same) last
 
 greeted_by : (talk : Option Talk) (fault : Option LinkFault) (one two : Result ReplyValue ReplyFault) (cause : SessionFault) (first : Result UserInfo SessionFault)
-    → said_in user_of one ≡ first → Err cause ≡ answer_by fault (begun_by (user_by (0 ∷ []) false first) (said_in no_more two))
+    → said_in 0x10 user_of one ≡ first → Err cause ≡ answer_by fault (begun_by (user_by (0 ∷ []) false first) (said_in 0x2E no_more two))
     → IsByLastReply talk cause → IsLater talk fault cause
-greeted_by talk fault one two cause (Err f) said is last = later_said talk fault user_of one cause (is ∙ ap (answer_by fault) (sym said)) last
+greeted_by talk fault one two cause (Err f) said is last = later_said 0x10 talk fault user_of one cause (is ∙ ap (answer_by fault) (sym said)) last
 greeted_by talk fault one two cause (Ok user) said is last =
-    unbegun talk fault two user cause (said_in no_more two) refl
-    (is ∙ ap (λ s. answer_by fault (begun_by (user_with (0 ∷ []) user s) (said_in no_more two))) (zero_slot user.user)) last
+    unbegun talk fault two user cause (said_in 0x2E no_more two) refl
+    (is ∙ ap (λ s. answer_by fault (begun_by (user_with (0 ∷ []) user s) (said_in 0x2E no_more two))) (zero_slot user.user)) last
 
 pub unmet_later : (told talk : Option Talk) (fault : Option LinkFault) (cause : SessionFault)
     → Greeted (0 ∷ []) false told fault (Err cause) ⊎ IsUnlisted (0 ∷ []) false told fault cause → IsByLastReply talk cause
     → IsLater talk fault cause
 unmet_later told talk fault cause (inl said) last =
-    greeted_by talk fault (reply_at 0x10 said.first) (reply_at 0x2E said.second) cause (said_in user_of (reply_at 0x10 said.first)) refl said.is last
+    greeted_by talk fault (reply_at 0x10 said.first) (reply_at 0x2E said.second) cause (said_in 0x10 user_of (reply_at 0x10 said.first)) refl said.is last
 unmet_later told talk fault cause (inr said) last = later_by talk fault (reply_at 0x16 said.reply) cause said.is last
 
 -- ---- lists

@@ -74,7 +74,7 @@ module _ (device : Device) (rests : IsAtRest device) (database : DatabaseValue) 
   one_record : (k : ℕ) {item : Record} → holds_resources database.head.attributes ≡ false → k < 2 ^ 16 → slice_get database.records k ≡ Some item
       → records_in (reply_at 0x20 (acted (reading_at 1 k) here).0) ≡ item ∷ []
   one_record k {item} holds half there =
-      lent_record None (reply_at 0x20 (acted (reading_at 1 k) here).0)
+      lent_record 0x20 None (reply_at 0x20 (acted (reading_at 1 k) here).0)
       (lent_at here 1 k (base device rests database held) item (proper_here device rests database held) (lit< tt) half (base_here device rests database held)
       (ap not holds) there)
       ∙ ap (λ (r : Record). r ∷ [])
@@ -102,7 +102,7 @@ module _ (device : Device) (rests : IsAtRest device) (database : DatabaseValue) 
       (lent_resource_at here 1 k (base device rests database held) item (proper_here device rests database held) (lit< tt) half
       (base_here device rests database held) holds there)
     where
-      resource_lends : (read : Result ReplyValue ReplyFault) → said_in resource_of read ≡ Ok (resource_lent item) → resources_in read ≡ item ∷ []
+      resource_lends : (read : Result ReplyValue ReplyFault) → said_in 0x23 resource_of read ≡ Ok (resource_lent item) → resources_in read ≡ item ∷ []
       resource_lends read is = grind (arith, common_steps, nat_tests)
 
   resources_so_far : (k : ℕ) → holds_resources database.head.attributes ≡ true → k ≤ length database.resources → length database.resources ≤ 65535
@@ -122,27 +122,27 @@ module _ (device : Device) (rests : IsAtRest device) (database : DatabaseValue) 
 
   -- ---- the blocks
 
-  app_by : (app : Option (List ℕ)) → database.app ≡ app → block_length app ≤ 65500 → block_in (Ok (told (reading_app 1) here)) ≡ app
+  app_by : (app : Option (List ℕ)) → database.app ≡ app → block_length app ≤ 65500 → block_in 0x1B (Ok (told (reading_app 1) here)) ≡ app
   unfolding told tried
   app_by None is short = rw (base_here device rests database held, is) refl
   app_by (Some bytes) is short =
       rw (base_here device rests database held, is, none_past (length bytes)) (ap (λ b. Some b) (take_whole bytes 65535 (omega arith)))
 
-  sort_by : (sort : Option (List ℕ)) → database.sort ≡ sort → block_length sort ≤ 65500 → block_in (Ok (told (reading_sort 1) here)) ≡ sort
+  sort_by : (sort : Option (List ℕ)) → database.sort ≡ sort → block_length sort ≤ 65500 → block_in 0x1D (Ok (told (reading_sort 1) here)) ≡ sort
   unfolding told tried
   sort_by None is short = rw (base_here device rests database held, is) refl
   sort_by (Some bytes) is short =
       rw (base_here device rests database held, is, none_past (length bytes)) (ap (λ b. Some b) (take_whole bytes 65535 (omega arith)))
 
-  app_is : block_in (reply_at 0x1B (acted (reading_app 1) here).0) ≡ database.app
+  app_is : block_in 0x1B (reply_at 0x1B (acted (reading_app 1) here).0) ≡ database.app
   app_is =
-      ap block_in (acted_reads (reading_app 1) here (proper_here device rests database held)
+      ap (block_in 0x1B) (acted_reads (reading_app 1) here (proper_here device rests database held)
       (act_sayable (reading_app 1).asks here (app_fits 1 (lit< tt)) refl))
       ∙ app_by database.app refl bounded.whole.short_app
 
-  sort_is : block_in (reply_at 0x1D (acted (reading_sort 1) here).0) ≡ database.sort
+  sort_is : block_in 0x1D (reply_at 0x1D (acted (reading_sort 1) here).0) ≡ database.sort
   sort_is =
-      ap block_in (acted_reads (reading_sort 1) here (proper_here device rests database held)
+      ap (block_in 0x1D) (acted_reads (reading_sort 1) here (proper_here device rests database held)
       (act_sayable (reading_sort 1).asks here (sort_fits 1 (lit< tt)) refl))
       ∙ sort_by database.sort refl bounded.whole.short_sort
 
@@ -175,7 +175,7 @@ module _ (device : Device) (rests : IsAtRest device) (database : DatabaseValue) 
   unfolding copied
   copies-are =
       ap (copied (listed database.head) 1) (opens device rests database held)
-      ∙ ap (λ (block : Option (List ℕ)). with_entries (blocked (listed database.head) block (block_in (reply_at 0x1D (acted (reading_sort 1) here).0))) here 1
+      ∙ ap (λ (block : Option (List ℕ)). with_entries (blocked (listed database.head) block (block_in 0x1D (reply_at 0x1D (acted (reading_sort 1) here).0))) here 1
       (entries_told here 1)) app_is
       ∙ ap (λ (block : Option (List ℕ)). with_entries (blocked (listed database.head) database.app block) here 1 (entries_told here 1)) sort_is
       ∙ ap (with_entries (blocked (listed database.head) database.app database.sort) here 1) (counts device rests database held)

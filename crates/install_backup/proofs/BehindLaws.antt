@@ -1,22 +1,15 @@
 -- A stretch of a session behind an act that opens and closes nothing.
-use Rattle.std.proofs.Common.{◌≡◌, ◌∙◌, ap, refl, sym, subst, ℕ, ◌==◌, Bool, true, false, cond, List, [], ◌∷◌, map}
+use Rattle.std.proofs.Common.{◌≡◌, ◌∙◌, refl, subst, ℕ, List, [], ◌∷◌, map}
 use Rattle.std.specs.Prelude.{Option, Some, None, OnOk, Result, Ok, Err}
 use Rattle.palm_device.specs.Devices.{Device}
-use Rattle.dlp_replies.specs.ReplyValues.{ReplyValue}
-use Rattle.dlp_replies.specs.declared.fault.ReplyFault.{ReplyFault}
 use Rattle.desktop_session.specs.declared.fault.SessionFault.TheVariants as session
-use Rattle.desktop_session.specs.Answers.{or_false}
 use Rattle.desktop_session.proofs.StopLaws.{does_then, fell_none, stops_none, stops_then}
 use Rattle.slow_mirror.proofs.AskLaws.{asked_part, one_said}
 use Rattle.session_parts.specs.Causes.{IsLater}
 use Rattle.session_parts.specs.Rests.{IsFirst}
 use Rattle.session_parts.specs.Spans.{Spans}
-use Rattle.desktop_session.specs.Lasts.{IsByLastReply}
-use Rattle.desktop_session.specs.Tellings.{number_of}
-use Rattle.desktop_session.proofs.LastLaws.{last_removed}
-use Rattle.session_parts.proofs.CauseLaws.{later_said}
 use Rattle.session_parts.proofs.HandleLaws.{one_first}
-use Rattle.session_parts.proofs.LinkWords.{LinkFault, Talk, SessionFault, Act, acted, answer_by, no_more, said_in, text, saying, SessionValue, Asked, Does}
+use Rattle.session_parts.proofs.LinkWords.{LinkFault, Talk, SessionFault, Act, acted, text, saying, SessionValue, Asked, Does}
 
 -- the handle is the first one before it, too
 first_before : (first : Act) (handle : ℕ) → ((device : Device) → (acted first device).1.handles ≡ device.handles) → (o : Option Talk)

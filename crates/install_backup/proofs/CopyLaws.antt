@@ -23,9 +23,9 @@ use Rattle.slow_mirror.proofs.AskLaws.{asks_then, one_said}
 use Rattle.install_backup.specs.BackupActs.{backup_under}
 use Rattle.install_backup.specs.Copies.{block_in, blocked, copied, or_no_block, record_from, records_in, with_entries}
 
-pub lent_record : (fault : Option LinkFault) (read : Result ReplyValue ReplyFault) {lent : LentValue} → answer_by fault (said_in record_of read) ≡ Ok lent
+pub lent_record : (function : ℕ) (fault : Option LinkFault) (read : Result ReplyValue ReplyFault) {lent : LentValue} → answer_by fault (said_in function record_of read) ≡ Ok lent
     → records_in read ≡ record_from lent ∷ []
-lent_record fault read is = grind (arith, common_steps, nat_tests)
+lent_record function fault read is = grind (arith, common_steps, nat_tests)
 
 -- what was answered
 pub if_ok : {A E : Type 0} {P Q : A → Type 0} (r : Result A E) → IfOk r P → ((x : A) → P x → Q x) → IfOk r Q
@@ -33,14 +33,14 @@ if_ok (Ok x) held each = each x held
 if_ok (Err cause) held each = tt
 
 -- a block that was read
-pub block_said : (fault : Option LinkFault) (read : Result ReplyValue ReplyFault) (block : Option (List ℕ)) → answer_by fault (or_none (said_in block_of read)) ≡ Ok block
-    → (fault ≡ None) × (block_in read ≡ block)
-block_said None read block is = (refl, by (or_none (said_in block_of read)) is)
+pub block_said : (function : ℕ) (fault : Option LinkFault) (read : Result ReplyValue ReplyFault) (block : Option (List ℕ)) → answer_by fault (or_none (said_in function block_of read)) ≡ Ok block
+    → (fault ≡ None) × (block_in function read ≡ block)
+block_said function None read block is = (refl, by (or_none (said_in function block_of read)) is)
   where
     by : (said : Result (Option (List ℕ)) SessionFault) → said ≡ Ok block → or_no_block said ≡ block
     by (Ok other) is = let same : other ≡ block = cc in same
     by (Err cause) is = absurd cc
-block_said (Some fault) read block is = absurd cc
+block_said function (Some fault) read block is = absurd cc
 
 -- ---- acts that leave the device as it was
 
@@ -67,8 +67,8 @@ told_before P one same (Some talk) is told = subst P (same talk.device) (rw is a
 
 pub copied_by : (o : Option Talk) (head : DbHead) (handle count : ℕ) (app sort : Option (List ℕ)) (app_reply sort_reply : List ℕ) (whole : DatabaseValue)
     → IfSome o (λ talk. count ≡ entries_told talk.device handle)
-    → IfSome o (λ talk. app_reply ≡ (acted (reading_app handle) talk.device).0) → block_in (reply_at 0x1B app_reply) ≡ app
-    → IfSome o (λ talk. sort_reply ≡ (acted (reading_sort handle) talk.device).0) → block_in (reply_at 0x1D sort_reply) ≡ sort
+    → IfSome o (λ talk. app_reply ≡ (acted (reading_app handle) talk.device).0) → block_in 0x1B (reply_at 0x1B app_reply) ≡ app
+    → IfSome o (λ talk. sort_reply ≡ (acted (reading_sort handle) talk.device).0) → block_in 0x1D (reply_at 0x1D sort_reply) ≡ sort
     → IfSome o (λ talk. whole ≡ with_entries (blocked head app sort) talk.device handle count) → IfSome o (λ talk. whole ≡ copied head handle talk.device)
 unfolding copied
 copied_by None head handle count app sort app_reply sort_reply whole counted app_told app_is sort_told sort_is is = tt
@@ -77,9 +77,9 @@ copied_by (Some talk) head handle count app sort app_reply sort_reply whole coun
     is
     ∙ ap (λ n. with_entries (blocked head app sort) device handle n) counted
     ∙ ap (λ (b : Option (List ℕ)). with_entries (blocked head b sort) device handle (entries_told device handle))
-    (sym app_is ∙ ap (λ bytes. block_in (reply_at 0x1B bytes)) app_told)
-    ∙ ap (λ (b : Option (List ℕ)). with_entries (blocked head (block_in (reply_at 0x1B (acted (reading_app handle) device).0)) b) device handle
-    (entries_told device handle)) (sym sort_is ∙ ap (λ bytes. block_in (reply_at 0x1D bytes)) sort_told)
+    (sym app_is ∙ ap (λ bytes. block_in 0x1B (reply_at 0x1B bytes)) app_told)
+    ∙ ap (λ (b : Option (List ℕ)). with_entries (blocked head (block_in 0x1B (reply_at 0x1B (acted (reading_app handle) device).0)) b) device handle
+    (entries_told device handle)) (sym sort_is ∙ ap (λ bytes. block_in 0x1D (reply_at 0x1D bytes)) sort_told)
 
 grown_untold : (xs ys : List (List ℕ)) → grown (sent None) xs ≡ grown (sent None) ys
 unfolding grown sent

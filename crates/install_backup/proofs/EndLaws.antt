@@ -17,16 +17,18 @@ use Rattle.session_parts.specs.declared.stop.Stop.TheVariants as stop
 use Rattle.session_parts.proofs.CloseLaws.{TellsClosed}
 use Rattle.session_parts.proofs.LinkWords.{Act, Does, LinkFault, SessionFault, SessionValue, Stops, Talk, ending, saying, text}
 use Rattle.session_parts.proofs.RestLaws.{greeting_same}
-use Rattle.session_parts.proofs.StretchLaws.{Tells, flat_map-kept, tells_on}
+use Rattle.session_parts.proofs.StretchLaws.{Tells, first_is, flat_map-kept, tells_on}
 use Rattle.install_backup.specs.declared.moved.MoveOutcome.{MoveOutcome}
 use Rattle.install_backup.specs.declared.moved.Moved.{Moved}
 use Rattle.install_backup.specs.Installed.{with_installed}
 use Rattle.install_backup.specs.InstallActs.{install_acts, install_one, installs_of, installs_under, is_installable}
-use Rattle.install_backup.specs.InstallEnds.{InstallEnds, InstallWent, IsFull, IsInstallCause, IsInstallStop, IsInstalled, StopsAtLimit, all_installed, first_full}
-use Rattle.install_backup.specs.Installs.{SaysMoved, StopsAt, making_acts}
-use Rattle.install_backup.specs.Rooms.{RestsFor, has_room}
-use Rattle.install_backup.proofs.ClosedLaws.{installs_lead, says_one}
+use Rattle.install_backup.specs.InstallEnds.{InstallEnds, InstallWent, IsFull, IsInstallCause, IsInstallStop, IsInstalled, StopsAtLimit, all_installed, first_full, until_full}
+use Rattle.install_backup.specs.Installs.{SaysMoved, StopsAt, StopsWithin, making_acts}
+use Rattle.install_backup.specs.Rooms.{IsNoLimit, RestsFor, has_room}
+use Rattle.install_backup.proofs.ClosedLaws.{installs_lead, says_one, under_is}
 use Rattle.install_backup.proofs.EvolveLaws.{Evolves, evolves, judged_at}
+use Rattle.install_backup.proofs.GoneLaws.{with_databases}
+use Rattle.install_backup.proofs.WithinLaws.{room_or, until-append, until_one}
 
 -- ---- lists of databases
 
@@ -61,14 +63,16 @@ module _ {L : Type 0} {talk : L → Option Talk} {since : L → L → Type 0} {f
     (is : talk old ≡ Some told) (rests : IsAtRest told.device) (bounded : AllByRecursion IsBoundedDatabase databases) where
   -- it was not greeted
   pub ungreeted_ends : {new : L} {cause : SessionFault} → Stops talk since fault downs (map text greeting) old new → IsLater (talk new) (fault new) cause
-      → InstallEnds talk since fault downs databases told.device old new (Err (stop.Session cause))
+      → IsNoLimit cause → InstallEnds talk since fault downs databases told.device old new (Err (stop.Session cause))
   unfolding install_acts
-  ungreeted_ends {new} {cause} stops later = record {
+  ungreeted_ends {new} {cause} stops later other = record {
     stops = rw (map-append text greeting (installs_of databases ++ ending ∷ []))
         (stops_more talk since fault downs (map text greeting) (map text (installs_of databases ++ ending ∷ [])) old new stops);
     ended = tt;
-    cause = later;
+    cause = (later, other);
     limit = λ name full. tt;
+    until = λ name full. rw (map-append text greeting (until_full databases told.device.databases))
+        (stops_more talk since fault downs (map text greeting) (map text (until_full databases told.device.databases)) old new stops);
   }
 
   module _ {F : Type 0} {now : SessionValue L} {left : MoveOutcome L F} (greeted : Stops talk since fault downs (map text greeting) old now.link)
@@ -92,9 +96,10 @@ module _ {L : Type 0} {talk : L → Option Talk} {since : L → L → Type 0} {f
     behind_stops : Stops talk since fault downs (map text (installs_of databases ++ ending ∷ [])) now.link left.link
     behind_stops = by went.whole
       where
-        by : (went.last ≡ []) ⊎ ((went.last ≡ ending ∷ []) × EachSays installs_under SaysMoved (talk now.link) databases went.stretches went.moved)
+        by : ((went.last ≡ []) × StopsWithin talk since fault downs databases now left.link)
+            ⊎ ((went.last ≡ ending ∷ []) × EachSays installs_under SaysMoved (talk now.link) databases went.stretches went.moved)
             → Stops talk since fault downs (map text (installs_of databases ++ ending ∷ [])) now.link left.link
-        by (inl none) =
+        by (inl (none, within)) =
             let lead = installs_lead (talk now.link) databases went.stretches closed went.firsts in
             let said : Stops talk since fault downs (map text said_all) now.link left.link =
             subst (λ (acts : List Act). Stops talk since fault downs (map text acts) now.link left.link)
@@ -155,12 +160,53 @@ module _ {L : Type 0} {talk : L → Option Talk} {since : L → L → Type 0} {f
               (subst (λ (acts : List Act). Does talk acts now.link at.now.link) same at.does) at.asked);
         }
 
+    -- no more than what has room was asked for, and that the first one without be made
+    behind_within : StopsWithin talk since fault downs databases now left.link
+        → Stops talk since fault downs (map text (until_full databases told.device.databases)) now.link left.link
+    behind_within at =
+        let all = all-parts IsBoundedDatabase at.before (at.one ∷ at.rest) (subst (AllByRecursion IsBoundedDatabase) (sym at.parts) bounded) in
+        let evolve = evolves (talk now.link) told.device at.before at.stretches at.moved tells rests all.0 at.firsts at.said in
+        let held = all_installed at.before told.device.databases in
+        let there = with_databases held told.device in
+        let before_them = each_acts installs_under (talk now.link) at.before at.stretches in
+        let later = until_full (at.one ∷ at.rest) held in
+        let tells_now : Tells there (talk at.now.link) = subst (Tells there)
+        (ap (λ (acts : List Act). saying acts (talk now.link)) (sym evolve.acts_are) ∙ sym at.does.said) evolve.tells in
+        let first = first_is there (talk at.now.link) at.handle tells_now rests.closed at.first in
+        let acts = under_is (talk at.now.link) at.one at.handle at.given first in
+        let one : Stops talk since fault downs (map text later) at.now.link left.link =
+        until_one talk since fault downs at.one at.rest held at.now.link left.link
+        (subst (λ (acts : List Act). Stops talk since fault downs (map text acts) at.now.link left.link) acts at.stops)
+        (λ may. room_or (judged_at (RestsFor at.one) true at.one.head.name there (talk at.now.link) tells_now (evolve.rests, all.1.0.head.name))
+        (at.within may)) in
+        let whole : Stops talk since fault downs (map text (before_them ++ later)) now.link left.link =
+        rw (map-append text before_them later)
+        (stops_then talk since fault downs since_more before_them (map text later) now.link at.now.link left.link at.does at.reached one) in
+        subst (λ (acts : List Act). Stops talk since fault downs (map text acts) now.link left.link)
+        (ap (λ (acts : List Act). acts ++ later) evolve.acts_are
+        ∙ sym (until-append at.before (at.one ∷ at.rest) told.device.databases evolve.room)
+        ∙ ap (λ (ds : List DatabaseValue). until_full ds told.device.databases) at.parts) whole
+
+    until_stops : (name : List ℕ) → first_full databases told.device.databases ≡ Some name
+        → Stops talk since fault downs (map text (greeting ++ until_full databases told.device.databases)) old left.link
+    until_stops name full =
+        rw (map-append text greeting (until_full databases told.device.databases))
+        (stops_then talk since fault downs since_more greeting (map text (until_full databases told.device.databases)) old now.link left.link does greeted
+        (by went.whole))
+      where
+        by : ((went.last ≡ []) × StopsWithin talk since fault downs databases now left.link)
+            ⊎ ((went.last ≡ ending ∷ []) × EachSays installs_under SaysMoved (talk now.link) databases went.stretches went.moved)
+            → Stops talk since fault downs (map text (until_full databases told.device.databases)) now.link left.link
+        by (inl within) = behind_within within.1
+        by (inr all) = absurd (let none = sym (all_evolve went.moved all.1).room ∙ full in cc)
+
     pub greeted_ends : InstallEnds talk since fault downs databases told.device old left.link left.end
     greeted_ends = record {
       stops = all_stops;
       ended = done left.end went.does went.said;
       cause = why left.end went.cause;
       limit = λ name full. limit left.end name full went.does went.said went.cause;
+      until = λ name full. until_stops name full;
     }
       where
         done : (r : Result (Vec Moved) Stop) → IfOk r (λ moved. Does talk (said_all ++ ending ∷ []) now.link left.link)

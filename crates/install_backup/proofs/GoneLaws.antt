@@ -92,7 +92,7 @@ judged_before name room (Some talk) judged = λ holds.
 pub unmade_before : {L : Type 0} (talk : L → Option Talk) (made : Act) (name : List ℕ) (old now new : L) (why : Stop) → Does talk (deleting name ∷ []) old now
     → IsUnmade talk (λ (device : Device). device.handles ≡ no_handles) (made ∷ []) name now new why
     → IsUnmade talk (λ (device : Device). IsAtRest device × IsName name) (deleting name ∷ made ∷ []) name old new why
-unmade_before talk made name old now new (stop.Session cause) before is = tt
+unmade_before talk made name old now new (stop.Session cause) before is = is
 unmade_before talk made name old now new (stop.Limit other) before is = (
   is.0,
   does_then talk (deleting name ∷ []) (made ∷ []) old now new before is.1,

@@ -203,9 +203,9 @@ module _ {L F : Type 0} {talk : L → Option Talk} {since : L → L → Type 0} 
         unkept stop.DeskFault is = tt
         unkept (stop.Session session.NoMemory) is = tt
         unkept (stop.Session session.Down) is = absurd is
-        unkept (stop.Session (session.Refused code)) is = absurd is
+        unkept (stop.Session (session.Refused function code)) is = absurd is
         unkept (stop.Session (session.OtherUser one two)) is = absurd is
-        unkept (stop.Session (session.BadReply broken)) is = absurd is
+        unkept (stop.Session (session.BadReply function broken)) is = absurd is
         unkept (stop.Session session.TooManyUsers) is = absurd is
         unkept (stop.Limit name) is = absurd is
         unkept (stop.NewHandheld name) is = absurd is

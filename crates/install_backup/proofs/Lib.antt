@@ -2,6 +2,7 @@ pub mod ArriveLaws
 pub mod AskWords
 pub mod BackLaws
 pub mod BackedUpLaws
+pub mod BackupOrder
 pub mod BegunLaws
 pub mod BehindLaws
 pub mod ClosedLaws
@@ -12,8 +13,10 @@ pub mod EndLaws
 pub mod EvolveLaws
 pub mod FillLaws
 pub mod GoneLaws
+pub mod InstallOrder
 pub mod InstalledLaws
 pub mod KeepLaws
+pub mod LimitLaws
 pub mod ManyLaws
 pub mod MetLaws
 pub mod OpenReadLaws
@@ -27,4 +30,5 @@ pub mod TurnLaws
 pub mod UnmarkedLaws
 pub mod WentLaws
 pub mod WholeLaws
+pub mod WithinLaws
 pub mod WrittenLaws

@@ -1,5 +1,5 @@
 -- Databases that are installed one after another.
-use Rattle.std.proofs.Common.{◌≡◌, ◌∙◌, ap, refl, sym, subst, ℕ, not, Bool, true, false, cond, List, [], take}
+use Rattle.std.proofs.Common.{◌≡◌, ◌∙◌, ap, inl, refl, sym, subst, ℕ, not, Bool, true, false, cond, List, [], take}
 use Rattle.std.specs.Prelude.{Option, Some, None, Ok, Err}
 use Rattle.pdb_values.specs.Databases.{DatabaseValue}
 use Rattle.pdb_values.specs.Heads.{is_read_only}
@@ -12,8 +12,8 @@ use Rattle.session_parts.proofs.LinkWords.{Act, LinkFault, Talk, SessionFault, S
 use Rattle.session_parts.proofs.SpanLaws.{span_none}
 use Rattle.install_backup.specs.declared.moved.Moved.{Moved}
 use Rattle.install_backup.specs.InstallActs.{install_one, installs_under, is_installable, moved_of, written_count}
-use Rattle.install_backup.specs.Installs.{IsLimit, SaysMoved, making_acts}
-use Rattle.install_backup.specs.Rooms.{IsUnmade, Judges, RestsFor}
+use Rattle.install_backup.specs.Installs.{IsLimit, SaysMoved, StopsWithin, making_acts}
+use Rattle.install_backup.specs.Rooms.{IsUnmade, IsWithin, Judges, RestsFor}
 use Rattle.install_backup.proofs.BehindLaws.{span_failed}
 
 -- the acts of one, where it is known whether it is read-only
@@ -81,7 +81,7 @@ pub limit_at : {L : Type 0} {talk : L → Option Talk} {since : L → L → Type
     → SplitAt databases k one → EachSoFar talk since fault downs installs_under SaysMoved (take k databases) moved old now
     → is_installable one ≡ true → IsUnmade talk (RestsFor one) (making_acts one) one.head.name now.link new why
     → IsLimit talk databases old new why
-limit_at new (stop.Session cause) split before writable unmade = tt
+limit_at new (stop.Session cause) split before writable unmade = unmade
 limit_at {databases = databases} {k = k} {one = one} {moved = moved} {now = now} new (stop.Limit name) split before writable unmade = record {
   before = take k databases;
   one = one;
@@ -100,3 +100,53 @@ limit_at {databases = databases} {k = k} {one = one} {moved = moved} {now = now}
 }
 limit_at new (stop.NewHandheld name) split before writable unmade = absurd unmade
 limit_at new stop.DeskFault split before writable unmade = absurd unmade
+
+-- so far others were done, and this one was not
+module _ {L : Type 0} {talk : L → Option Talk} {since : L → L → Type 0} {fault : L → Option LinkFault} {downs : L → ℕ}
+    {databases : List DatabaseValue} {k : ℕ} {one : DatabaseValue} {moved : List Moved} {old now new : SessionValue L}
+    (split : SplitAt databases k one) (before : EachSoFar talk since fault downs installs_under SaysMoved (take k databases) moved old now) where
+  pub within_at : {cause : SessionFault}
+      → Spans {A = Moved} talk since fault downs (installs_under (talk now.link) one) (SaysMoved (talk now.link) one) now new (Err cause)
+      → IsWithin talk since fault downs (RestsFor one) (making_acts one) one.head.name now.link new.link
+      → StopsWithin talk since fault downs databases old new.link
+  within_at spans within = record {
+    before = take k databases;
+    one = one;
+    rest = split.rest;
+    parts = split.is;
+    stretches = before.stretches;
+    moved = moved;
+    now = now;
+    firsts = before.firsts;
+    does = before.so.does;
+    reached = before.so.stops;
+    said = before.said;
+    handle = spans.handle;
+    given = spans.given;
+    first = spans.first;
+    stops = spans.stops;
+    within = λ is. within;
+  }
+
+  -- or it was, and memory ran out then
+  pub within_past : {x : Moved}
+      → Spans {A = Moved} talk since fault downs (installs_under (talk now.link) one) (SaysMoved (talk now.link) one) now new (Ok x)
+      → StopsWithin talk since fault downs databases old new.link
+  within_past spans = record {
+    before = take k databases;
+    one = one;
+    rest = split.rest;
+    parts = split.is;
+    stretches = before.stretches;
+    moved = moved;
+    now = now;
+    firsts = before.firsts;
+    does = before.so.does;
+    reached = before.so.stops;
+    said = before.said;
+    handle = spans.handle;
+    given = spans.given;
+    first = spans.first;
+    stops = spans.stops;
+    within = λ is. inl (spans.said.1 is);
+  }

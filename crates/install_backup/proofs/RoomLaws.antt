@@ -1,6 +1,6 @@
 -- Whether a handheld that is told made a database, and why it did not.
-use Rattle.std.proofs.lemmas.Bool.{eqb-true}
-use Rattle.std.proofs.Common.{◌≡◌, ◌∙◌, ap, refl, sym, subst, ℕ, ◌==◌, ◌||◌, Bool, true, false, cond, List, [], ◌∷◌, length, lit<, lit≤}
+use Rattle.std.proofs.lemmas.Bool.{and_parts, eqb-true}
+use Rattle.std.proofs.Common.{◌≡◌, ◌∙◌, ap, refl, sym, subst, ℕ, ◌==◌, ◌&&◌, ◌||◌, Bool, true, false, cond, List, [], ◌∷◌, length, lit<, lit≤}
 use Rattle.std.specs.Prelude.{Option, Some, None, IfErr, IfSome, Result, Ok, Err, is_none, is_some, nat_lt}
 use Rattle.pdb_values.specs.NamedDatabases.{database_of}
 use Rattle.pdb_values.specs.Names.{name_fault}
@@ -90,14 +90,14 @@ refused_read code (Err other) is keeps =
 refused_read code (Ok done) is keeps = absurd cc
 
 room_by : (device : Device) (name : List ℕ) (handle : ℕ) (r : Tried) → IfDone (λ (done : Device × ReplyValue). has_room name device.databases ≡ true) r
-    → Keeps (λ (done : Device × ReplyValue). Unit {0}) r → said_in handle_of (reply_at 0x18 (outcome device 0x18 r).0) ≡ Ok handle
+    → Keeps (λ (done : Device × ReplyValue). Unit {0}) r → said_in 0x18 handle_of (reply_at 0x18 (outcome device 0x18 r).0) ≡ Ok handle
     → has_room name device.databases ≡ true
 room_by device name handle (Ok done) room keeps is = room
 room_by device name handle (Err code) room keeps is =
-    absurd (let none = sym (ap (said_in handle_of) (refused_read code (Err code) refl keeps)) ∙ is in cc)
+    absurd (let none = sym (ap (said_in 0x18 handle_of) (refused_read code (Err code) refl keeps)) ∙ is in cc)
 
 -- a database that was made had room
-pub made_room : (device : Device) (head : DbHead) (handle : ℕ) → said_in handle_of (reply_at 0x18 (acted (making head) device).0) ≡ Ok handle
+pub made_room : (device : Device) (head : DbHead) (handle : ℕ) → said_in 0x18 handle_of (reply_at 0x18 (acted (making head) device).0) ≡ Ok handle
     → has_room head.name device.databases ≡ true
 unfolding acted tried
 made_room device head handle is =
@@ -105,28 +105,28 @@ made_room device head handle is =
     room_by device head.name handle made (room_done device head.creator.0 head.kind.0 head.attributes head.version head.name)
     (any_kept _ made (tried_done 0 device (making head).asks tt)) is
 
-full_by : (device : Device) (name : List ℕ) (code : ErrorCode) (r : Tried) → IfDone (Opens name 0xC0 (reply.CreateDb 1)) r
+full_by : (device : Device) (name : List ℕ) (function : ℕ) (code : ErrorCode) (r : Tried) → IfDone (Opens name 0xC0 (reply.CreateDb 1)) r
     → IfErr r (λ other. (other == limit) ≡ true → has_room name device.databases ≡ false)
     → Keeps (λ (done : Device × ReplyValue). Unit {0}) r
-    → said_in handle_of (reply_at 0x18 (outcome device 0x18 r).0) ≡ Err (session.Refused code) → (code.0 == limit) ≡ true
+    → said_in 0x18 handle_of (reply_at 0x18 (outcome device 0x18 r).0) ≡ Err (session.Refused function code) → (code.0 == limit) ≡ true
     → has_room name device.databases ≡ false
-full_by device name code (Ok done) opens full keeps is at_limit =
-    absurd (let none = sym (ap (said_in handle_of) (read_again 0x18 (reply.CreateDb 1) made_reply))
-    ∙ ap (λ (v : ReplyValue). said_in handle_of (reply_at 0x18 (reply_text v))) (sym opens.reply) ∙ is in cc)
-full_by device name code (Err other) opens full keeps is at_limit =
-    let both : ◌≡◌ {A = Result ℕ SessionFault} (Err (session.Refused (record { 0 = other }))) (Err (session.Refused code)) =
-    sym (ap (said_in handle_of) (refused_read other (Err other) refl keeps)) ∙ is in
+full_by device name function code (Ok done) opens full keeps is at_limit =
+    absurd (let none = sym (ap (said_in 0x18 handle_of) (read_again 0x18 (reply.CreateDb 1) made_reply))
+    ∙ ap (λ (v : ReplyValue). said_in 0x18 handle_of (reply_at 0x18 (reply_text v))) (sym opens.reply) ∙ is in cc)
+full_by device name function code (Err other) opens full keeps is at_limit =
+    let both : ◌≡◌ {A = Result ℕ SessionFault} (Err (session.Refused 0x18 (record { 0 = other }))) (Err (session.Refused function code)) =
+    sym (ap (said_in 0x18 handle_of) (refused_read other (Err other) refl keeps)) ∙ is in
     let same : ◌≡◌ {A = ErrorCode} (record { 0 = other }) code = cc in
     full (ap (λ (c : ErrorCode). c.0 == limit) same ∙ at_limit)
 
 -- one that was refused for want of room had none
-pub unmade_full : (device : Device) (head : DbHead) (code : ErrorCode) → device.handles ≡ no_handles
-    → said_in handle_of (reply_at 0x18 (acted (making head) device).0) ≡ Err (session.Refused code) → (code.0 == limit) ≡ true
+pub unmade_full : (device : Device) (head : DbHead) (function : ℕ) (code : ErrorCode) → device.handles ≡ no_handles
+    → said_in 0x18 handle_of (reply_at 0x18 (acted (making head) device).0) ≡ Err (session.Refused function code) → (code.0 == limit) ≡ true
     → has_room head.name device.databases ≡ false
 unfolding acted tried
-unmade_full device head code none is at_limit =
+unmade_full device head function code none is at_limit =
     let made = create_db device head.creator.0 head.kind.0 0 head.attributes head.version head.name in
-    full_by device head.name code made (make_done device head.creator.0 head.kind.0 head.attributes head.version head.name none)
+    full_by device head.name function code made (make_done device head.creator.0 head.kind.0 head.attributes head.version head.name none)
     (full_refused device head.creator.0 head.kind.0 head.attributes head.version head.name)
     (any_kept _ made (tried_done 0 device (making head).asks tt)) is at_limit
 
@@ -140,12 +140,15 @@ said_of_answer None said answer none is = sym is
 said_of_answer (Some fault) said answer none is = absurd cc
 
 pub fault_at : (name : List ℕ) (cause : SessionFault) → fault_of (stop_at name cause) ≡ cause
-fault_at name (session.Refused code) = by (code.0 == limit) refl
+fault_at name (session.Refused function code) = by ((function == 0x18) && (code.0 == limit)) refl
   where
-    by : (b : Bool) → (code.0 == limit) ≡ b → fault_of (cond b (stop.Limit name) (stop.Session (session.Refused code))) ≡ session.Refused code
+    by : (b : Bool) → ((function == 0x18) && (code.0 == limit)) ≡ b
+        → fault_of (cond b (stop.Limit name) (stop.Session (session.Refused function code))) ≡ session.Refused function code
     by true is =
-        let same : limit ≡ code.0 = sym (eqb-true code.0 limit is) in
-        ap (λ n. let other : ErrorCode = record { 0 = n } in session.Refused other) same
+        let both = and_parts (function == 0x18) (code.0 == limit) is in
+        let making : 0x18 ≡ function = sym (eqb-true function 0x18 both.0) in
+        let same : limit ≡ code.0 = sym (eqb-true code.0 limit both.1) in
+        ap (λ n. let other : ErrorCode = record { 0 = n } in session.Refused 0x18 other) same ∙ ap (λ n. session.Refused n code) making
     by false is = refl
 fault_at name other = refl
 
@@ -153,37 +156,38 @@ module _ {L : Type 0} {talk : L → Option Talk} {since : L → L → Type 0} {f
     {old new : SessionValue L} (asked : Asked talk since fault downs (making head) old new) where
   -- it was made
   pub room_judged : (Holds : Device → Type 0) {handle : ℕ} → fault new.link ≡ None
-      → Ok handle ≡ answer_by (fault new.link) (said_in handle_of (reply_at 0x18 new.reply)) → Judges Holds true head.name (talk old.link)
+      → Ok handle ≡ answer_by (fault new.link) (said_in 0x18 handle_of (reply_at 0x18 new.reply)) → Judges Holds true head.name (talk old.link)
   room_judged Holds {handle} none is =
-      by (talk old.link) (asked.told none) (said_of_answer (fault new.link) (said_in handle_of (reply_at 0x18 new.reply)) (Ok handle) none is)
+      by (talk old.link) (asked.told none) (said_of_answer (fault new.link) (said_in 0x18 handle_of (reply_at 0x18 new.reply)) (Ok handle) none is)
     where
       by : (o : Option Talk) → IfSome o (λ talk. new.reply ≡ (acted (making head) talk.device).0)
-          → said_in handle_of (reply_at 0x18 new.reply) ≡ Ok handle → Judges Holds true head.name o
+          → said_in 0x18 handle_of (reply_at 0x18 new.reply) ≡ Ok handle → Judges Holds true head.name o
       by None told said = tt
-      by (Some one) told said = λ holds. made_room one.device head handle (subst (λ r. said_in handle_of (reply_at 0x18 r) ≡ Ok handle) told said)
+      by (Some one) told said = λ holds. made_room one.device head handle (subst (λ r. said_in 0x18 handle_of (reply_at 0x18 r) ≡ Ok handle) told said)
 
   -- it was not made
   pub unmade_judged : (cause : SessionFault)
-      → ◌≡◌ {A = Result ℕ SessionFault} (Err cause) (answer_by (fault new.link) (said_in handle_of (reply_at 0x18 new.reply)))
+      → ◌≡◌ {A = Result ℕ SessionFault} (Err cause) (answer_by (fault new.link) (said_in 0x18 handle_of (reply_at 0x18 new.reply)))
       → IsUnmade talk IsClosed (making head ∷ []) head.name old.link new.link (stop_at head.name cause)
-  unmade_judged (session.Refused code) is = by (code.0 == limit) refl
+  unmade_judged (session.Refused function code) is = by ((function == 0x18) && (code.0 == limit)) refl
     where
       none : fault new.link ≡ None
-      none = (cause_answered (fault new.link) handle_of (reply_at 0x18 new.reply) (session.Refused code) is).0
+      none = (cause_answered (fault new.link) 0x18 handle_of (reply_at 0x18 new.reply) (session.Refused function code) is).0
 
       at : (o : Option Talk) → IfSome o (λ talk. new.reply ≡ (acted (making head) talk.device).0) → (code.0 == limit) ≡ true
-          → said_in handle_of (reply_at 0x18 new.reply) ≡ Err (session.Refused code) → Judges IsClosed false head.name o
+          → said_in 0x18 handle_of (reply_at 0x18 new.reply) ≡ Err (session.Refused function code) → Judges IsClosed false head.name o
       at None told at_limit said = tt
-      at (Some one) told at_limit said = λ closed. unmade_full one.device head code closed
-          (subst (λ r. said_in handle_of (reply_at 0x18 r) ≡ Err (session.Refused code)) told said) at_limit
+      at (Some one) told at_limit said = λ closed. unmade_full one.device head function code closed
+          (subst (λ r. said_in 0x18 handle_of (reply_at 0x18 r) ≡ Err (session.Refused function code)) told said) at_limit
 
-      by : (b : Bool) → (code.0 == limit) ≡ b
-          → IsUnmade talk IsClosed (making head ∷ []) head.name old.link new.link (cond b (stop.Limit head.name) (stop.Session (session.Refused code)))
+      by : (b : Bool) → ((function == 0x18) && (code.0 == limit)) ≡ b
+          → IsUnmade talk IsClosed (making head ∷ []) head.name old.link new.link
+          (cond b (stop.Limit head.name) (stop.Session (session.Refused function code)))
       by true at_limit = (
         refl,
         asked.does none,
-        at (talk old.link) (asked.told none) at_limit
-            (said_of_answer (fault new.link) (said_in handle_of (reply_at 0x18 new.reply)) (Err (session.Refused code)) none is),
+        at (talk old.link) (asked.told none) (and_parts (function == 0x18) (code.0 == limit) at_limit).1
+            (said_of_answer (fault new.link) (said_in 0x18 handle_of (reply_at 0x18 new.reply)) (Err (session.Refused function code)) none is),
       )
-      by false at_limit = tt
+      by false at_limit = at_limit
   unmade_judged other is = tt

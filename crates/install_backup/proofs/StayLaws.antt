@@ -103,7 +103,7 @@ module _ (mine : List ℕ → Bool) where
       all-append (IsMine mine) (install_one database 1 []) (flat_map (λ (d : DatabaseValue). install_one d 1 []) databases)
       (one_mine database bounded.0 are.0) (all_mine databases bounded.1 are.1)
 
-  session_mine : (databases : List DatabaseValue) → AllByRecursion IsBoundedDatabase databases
+  pub session_mine : (databases : List DatabaseValue) → AllByRecursion IsBoundedDatabase databases
       → AllByRecursion (λ (d : DatabaseValue). mine d.head.name ≡ true) (filter is_installable databases)
       → AllByRecursion (IsMine mine) (install_acts databases)
   unfolding install_acts installs_of

@@ -2,7 +2,7 @@
 use Rattle.std.proofs.lemmas.Bool.{and_parts, not-true}
 use Rattle.std.proofs.lemmas.Bool.Decides.{nat_tests}
 use Rattle.std.proofs.lemmas.Nat.{and_mask, and_shr}
-use Rattle.std.proofs.Common.{arith, ◌≡◌, ◌∙◌, ◌<◌, ◌^◌, ◌%◌, ◌/◌, ap, refl, sym, subst, ℕ, ◌==◌, not, Bool, true, false, List, [], ◌∷◌, map}
+use Rattle.std.proofs.Common.{arith, ◌≡◌, ◌∙◌, ◌<◌, ◌^◌, ◌%◌, ◌/◌, ap, refl, sym, subst, ℕ, ◌==◌, not, true, false, List, [], ◌∷◌, map}
 use Rattle.std.specs.Prelude.{Option, None, Some, bit_and}
 use Rattle.std.specs.List.{AllByRecursion, list_all}
 use Rattle.pdb_values.specs.Databases.{DatabaseValue}

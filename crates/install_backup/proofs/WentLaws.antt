@@ -13,12 +13,12 @@ use Rattle.session_parts.proofs.LinkWords.{Act, Does, LinkFault, SessionFault, S
 use Rattle.install_backup.specs.declared.moved.Moved.{Moved}
 use Rattle.install_backup.specs.InstallActs.{installs_under}
 use Rattle.install_backup.specs.InstallEnds.{InstallWent, IsInstallCause}
-use Rattle.install_backup.specs.Installs.{IsLimit, SaysMoved}
-use Rattle.install_backup.specs.Rooms.{fault_of}
+use Rattle.install_backup.specs.Installs.{IsLimit, SaysMoved, StopsWithin}
+use Rattle.install_backup.specs.Rooms.{IsNoLimit, fault_of}
 
 cause_of : {L : Type 0} (talk : L → Option Talk) (fault : L → Option LinkFault) (databases : List DatabaseValue) (old : SessionValue L) (new : L) (why : Stop)
     → IsLater (talk new) (fault new) (fault_of why) → IsLimit talk databases old new why → IsInstallCause talk fault databases old new why
-cause_of talk fault databases old new (stop.Session cause) later limit = later
+cause_of talk fault databases old new (stop.Session cause) later limit = (later, limit)
 cause_of talk fault databases old new (stop.Limit name) later limit = limit
 cause_of talk fault databases old new (stop.NewHandheld name) later limit = absurd limit
 cause_of talk fault databases old new stop.DeskFault later limit = absurd limit
@@ -53,9 +53,10 @@ module _ {L : Type 0} {talk : L → Option Talk} {since : L → L → Type 0} {f
     }
 
     -- and the session was not ended
-    pub went_unended : {F : Type 0} (folder : F) (new : L) {cause : SessionFault} → Stops talk since fault downs (text ending ∷ []) now.link new → IsLater (talk new) (fault new) cause
+    pub went_unended : {F : Type 0} (folder : F) (new : L) {cause : SessionFault} → Stops talk since fault downs (text ending ∷ []) now.link new
+        → IsLater (talk new) (fault new) cause → IsNoLimit cause
         → InstallWent talk since fault downs databases old (record { link = new; folder = folder; end = Err (stop.Session cause) })
-    went_unended folder new stops later = record {
+    went_unended folder new stops later other = record {
       stretches = spans.stretches;
       firsts = spans.firsts;
       moved = moved.items;
@@ -64,20 +65,20 @@ module _ {L : Type 0} {talk : L → Option Talk} {since : L → L → Type 0} {f
       stops = ends_stops stops;
       does = tt;
       said = tt;
-      cause = later;
+      cause = (later, other);
     }
 
   -- not all were installed
   pub went_stopped : {F : Type 0} (folder : F) (why : Stop)
       → SpansEach {B = Vec Moved} talk since fault downs installs_under SaysMoved databases (λ (made : Vec Moved). made.items) old now (Err (fault_of why))
-      → IsLimit talk databases old now.link why
+      → IsLimit talk databases old now.link why → StopsWithin talk since fault downs databases old now.link
       → InstallWent talk since fault downs databases old (record { link = now.link; folder = folder; end = Err why })
-  went_stopped folder why spans limit = record {
+  went_stopped folder why spans limit within = record {
     stretches = spans.stretches;
     firsts = spans.firsts;
     moved = [];
     last = [];
-    whole = inl refl;
+    whole = inl (refl, within);
     stops = rw (append-nil (each_acts installs_under (talk old.link) databases spans.stretches)) spans.stops;
     does = tt;
     said = tt;

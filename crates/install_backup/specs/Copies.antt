@@ -75,8 +75,8 @@ abbrev pub or_no_block : Result (Option (List ℕ)) SessionFault → Option (Lis
 or_no_block (Ok block) = block
 or_no_block (Err fault) = None
 
-abbrev pub block_in : Result ReplyValue ReplyFault → Option (List ℕ)
-block_in read = or_no_block (or_none (said_in block_of read))
+abbrev pub block_in : ℕ → Result ReplyValue ReplyFault → Option (List ℕ)
+block_in function read = or_no_block (or_none (said_in function block_of read))
 
 -- a database of this head with these blocks and no entry
 abbrev pub blocked : DbHead → Option (List ℕ) → Option (List ℕ) → DatabaseValue
@@ -93,6 +93,6 @@ with_entries database device handle count =
 unfoldable pub copied : DbHead → ℕ → Device → DatabaseValue
 copied head handle device =
     with_entries
-    (blocked head (block_in (reply_at 0x1B (acted (reading_app handle) device).0))
-    (block_in (reply_at 0x1D (acted (reading_sort handle) device).0)))
+    (blocked head (block_in 0x1B (reply_at 0x1B (acted (reading_app handle) device).0))
+    (block_in 0x1D (reply_at 0x1D (acted (reading_sort handle) device).0)))
     device handle (entries_told device handle)

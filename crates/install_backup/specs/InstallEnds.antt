@@ -17,16 +17,17 @@ use Rattle.session_parts.specs.declared.stop.Stop.TheVariants as stop
 use Rattle.install_backup.specs.declared.moved.MoveOutcome.{MoveOutcome}
 use Rattle.install_backup.specs.declared.moved.Moved.{Moved}
 use Rattle.install_backup.specs.Installed.{with_installed}
-use Rattle.install_backup.specs.InstallActs.{install_acts, installs_of, installs_under, is_installable, moved_of}
-use Rattle.install_backup.specs.Installs.{SaysMoved, StopsAt, making_acts}
-use Rattle.install_backup.specs.Rooms.{has_room}
+use Rattle.install_backup.specs.InstallActs.{install_acts, install_one, installs_of, installs_under, is_installable, moved_of}
+use Rattle.install_backup.specs.Installs.{SaysMoved, StopsAt, StopsWithin, making_acts}
+use Rattle.install_backup.specs.Rooms.{IsNoLimit, has_room}
 
 -- ---- over any link
 
 -- why an install stopped behind the greeting
 abbrev pub IsInstallCause : {L : Type 0} → (L → Option Talk) → (L → Option LinkFault)
     → List DatabaseValue → SessionValue L → L → Stop → Type 0
-IsInstallCause talk fault databases old new (stop.Session cause) = IsLater (talk new) (fault new) cause
+IsInstallCause talk fault databases old new (stop.Session cause) =
+    IsLater (talk new) (fault new) cause × IsNoLimit cause
 IsInstallCause talk fault databases old new (stop.Limit name) = StopsAt talk databases name old new
 IsInstallCause talk fault databases old new other = ⊥
 
@@ -39,7 +40,7 @@ pub record InstallWent {L F : Type 0} (talk : L → Option Talk) (since : L → 
   pub firsts : AreFirst installs_under (talk old.link) databases stretches
   pub moved : List Moved
   pub last : List Act
-  pub whole : (last ≡ [])
+  pub whole : ((last ≡ []) × StopsWithin talk since fault downs databases old left.link)
       ⊎ ((last ≡ ending ∷ [])
       × EachSays installs_under SaysMoved (talk old.link) databases stretches moved)
   pub stops : Stops talk since fault downs
@@ -71,6 +72,16 @@ all_installed [] held = held
 all_installed (database ∷ databases) held =
     all_installed databases (if is_installable database then with_installed database held else held)
 
+-- what is asked for up to the making of the first of these that has no room
+unfoldable pub until_full : List DatabaseValue → List DatabaseValue → List Act
+until_full [] held = []
+until_full (database ∷ databases) held =
+    if is_installable database then (
+    if has_room database.head.name held
+    then install_one database 1 [] ++ until_full databases (with_installed database held)
+    else making_acts database
+    ) else until_full databases held
+
 -- it stopped at this database for want of room: all before it were installed, and no more was asked
 -- for than that it be made
 pub record IsFull {L : Type 0} (talk : L → Option Talk) (databases : List DatabaseValue)
@@ -84,10 +95,11 @@ pub record IsFull {L : Type 0} (talk : L → Option Talk) (databases : List Data
   pub does : Does talk (greeting ++ (installs_of before ++ making_acts one)) old new
 
 -- The cause of a stop: the link is down, or has no fault and a reply was an error or none that can
--- be read, or memory was wanted; or it is a limit.
+-- be read, or memory was wanted; or it is a limit, which is told as one wherever it is the cause.
 abbrev pub IsInstallStop : {L : Type 0} → (L → Option Talk) → (L → Option LinkFault)
     → List DatabaseValue → Device → L → L → Stop → Type 0
-IsInstallStop talk fault databases device old new (stop.Session cause) = IsLater (talk new) (fault new) cause
+IsInstallStop talk fault databases device old new (stop.Session cause) =
+    IsLater (talk new) (fault new) cause × IsNoLimit cause
 IsInstallStop talk fault databases device old new (stop.Limit name) =
     IsFull talk databases device old new name
 IsInstallStop talk fault databases device old new other = ⊥
@@ -107,7 +119,8 @@ pub record IsInstalled {L : Type 0} (talk : L → Option Talk) (databases : List
   pub room : first_full databases device.databases ≡ None
   pub told : moved ≡ map moved_of databases
 
--- An install of these databases ended, or stopped, and why.
+-- An install of these databases ended, or stopped, and why. Where one has no room, no more is asked
+-- for than that it be made.
 pub record InstallEnds {L : Type 0} (talk : L → Option Talk) (since : L → L → Type 0)
     (fault : L → Option LinkFault) (downs : L → ℕ)
     (databases : List DatabaseValue) (device : Device) (old new : L)
@@ -117,3 +130,6 @@ pub record InstallEnds {L : Type 0} (talk : L → Option Talk) (since : L → L 
   pub cause : IfErr answer (IsInstallStop talk fault databases device old new)
   pub limit : (name : List ℕ) → first_full databases device.databases ≡ Some name
       → StopsAtLimit name answer
+  pub until : (name : List ℕ) → first_full databases device.databases ≡ Some name
+      → Stops talk since fault downs
+      (map text (greeting ++ until_full databases device.databases)) old new

@@ -9,6 +9,7 @@ ghost use Rattle.slow_mirror.specs.Asks.{Asks};
 ghost use Rattle.session_parts.specs.Causes.{IsLater};
 ghost use Rattle.install_backup.specs.InstallActs as acts;
 ghost use Rattle.install_backup.specs.InstallActs.{block_acts, record_acts};
+ghost use Rattle.install_backup.specs.Rooms.{IsNoLimit};
 
 use desktop_session::{OpenDb, SessionFault};
 use dlp_commands::Link;
@@ -27,6 +28,7 @@ pub(crate) fn write_app<L: Link>(
         db.old.linked.now db.new.linked.now result }
     ensures cause { IfErr result (IsLater (L.talk db.new.linked.now.link)
         (L.fault db.new.linked.now.link)) }
+    ensures others { IfErr result IsNoLimit }
 {
     let Some(bytes) = block else {
         return Ok(());
@@ -50,6 +52,7 @@ pub(crate) fn write_sort<L: Link>(
         db.old.linked.now db.new.linked.now result }
     ensures cause { IfErr result (IsLater (L.talk db.new.linked.now.link)
         (L.fault db.new.linked.now.link)) }
+    ensures others { IfErr result IsNoLimit }
 {
     let Some(bytes) = block else {
         return Ok(());
@@ -70,6 +73,7 @@ fn put_records<L: Link>(db: &mut OpenDb<'_, L>, records: &[Record]) -> Result<()
         db.old.linked.now db.new.linked.now result }
     ensures cause { IfErr result (IsLater (L.talk db.new.linked.now.link)
         (L.fault db.new.linked.now.link)) }
+    ensures others { IfErr result IsNoLimit }
 {
     for item in records {
         db.put(item.id, &item.content)?;
@@ -89,6 +93,7 @@ pub(crate) fn write_records<L: Link>(
         db.old.linked.now db.new.linked.now result }
     ensures cause { IfErr result (IsLater (L.talk db.new.linked.now.link)
         (L.fault db.new.linked.now.link)) }
+    ensures others { IfErr result IsNoLimit }
 {
     put_records(db, records)?;
     db.reset_flags()
@@ -107,6 +112,7 @@ pub(crate) fn write_resources<L: Link>(
         db.old.linked.now db.new.linked.now result }
     ensures cause { IfErr result (IsLater (L.talk db.new.linked.now.link)
         (L.fault db.new.linked.now.link)) }
+    ensures others { IfErr result IsNoLimit }
 {
     for resource in resources {
         db.put_resource(resource)?;

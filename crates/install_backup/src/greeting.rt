@@ -5,6 +5,7 @@ ghost use Rattle.desktop_session.specs.Ends.{link_begun};
 ghost use Rattle.desktop_session.specs.Stops.{Does, Stops};
 ghost use Rattle.session_parts.specs.Causes.{IsLater};
 ghost use Rattle.session_parts.specs.Meets.{greeting};
+ghost use Rattle.install_backup.specs.Rooms.{IsNoLimit};
 
 use desktop_session::{Halted, Idle, Linked};
 use dlp_commands::Link;
@@ -19,6 +20,7 @@ pub(crate) fn greet<L: Link>(alloc: Global, link: L) -> Result<Linked<L>, Halted
     ensures open { IfOk result (λ linked. linked.abandoned ≡ false) }
     ensures cause { IfErr result (λ halted. IsLater (L.talk halted.link) (L.fault halted.link)
         halted.cause) }
+    ensures others { IfErr result (λ halted. IsNoLimit halted.cause) }
 {
     match Idle::new(alloc, link) {
         Ok(idle) => idle.hello(&[0], false),

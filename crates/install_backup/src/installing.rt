@@ -1,5 +1,5 @@
 // One database of a file, installed on a handheld.
-ghost use Rattle.std.specs.Prelude.{◌≡◌, ◌≤◌, ◌∷◌, [], IfErr, OnOk, false, length, true};
+ghost use Rattle.std.specs.Prelude.{◌≡◌, ◌≤◌, ◌∷◌, [], IfErr, OnErr, OnOk, false, length, true};
 ghost use Rattle.palm_device.specs.Devices.{Device};
 ghost use Rattle.palm_device.specs.Handles.{no_handles};
 ghost use Rattle.pdb_values.specs.Heads.{is_read_only};
@@ -12,8 +12,9 @@ ghost use Rattle.session_parts.specs.Spans.{Spans, within};
 ghost use Rattle.install_backup.specs.Installed.{installed_head, installed_records};
 ghost use Rattle.install_backup.specs.InstallActs as acts;
 ghost use Rattle.install_backup.specs.InstallActs.{entry_acts, fill_acts, written_count};
+ghost use Rattle.install_backup.specs.Installs.{making_acts};
 ghost use Rattle.install_backup.specs.Rooms as rooms;
-ghost use Rattle.install_backup.specs.Rooms.{IsUnmade, Judges, fault_in, stop_at};
+ghost use Rattle.install_backup.specs.Rooms.{IsNoLimit, IsUnmade, IsWithin, Judges, RestsFor, fault_in, stop_at};
 
 use crate::entries::{write_app, write_records, write_resources, write_sort};
 use crate::live::to_install;
@@ -36,6 +37,7 @@ fn write_entries<L: Link>(
         db.old.linked.now db.new.linked.now result }
     ensures cause { IfErr result (IsLater (L.talk db.new.linked.now.link)
         (L.fault db.new.linked.now.link)) }
+    ensures others { IfErr result IsNoLimit }
 {
     if database.head().holds_resources() {
         write_resources(db, database.resources())
@@ -57,6 +59,7 @@ fn fill<L: Link>(
         db.old.linked.now db.new.linked.now result }
     ensures cause { IfErr result (IsLater (L.talk db.new.linked.now.link)
         (L.fault db.new.linked.now.link)) }
+    ensures others { IfErr result IsNoLimit }
 {
     write_app(db, database.app())?;
     write_sort(db, database.sort())?;
@@ -87,7 +90,10 @@ fn not_made(cause: SessionFault, name: &DbName) -> Stop
     ensures { result ≡ stop_at name.now cause }
 {
     match cause {
-        SessionFault::Refused(ErrorCode(17)) => Stop::Limit(name.copy()),
+        SessionFault::Refused {
+            function: 0x18,
+            code: ErrorCode(17),
+        } => Stop::Limit(name.copy()),
         cause => Stop::Session(cause),
     }
 }
@@ -106,6 +112,10 @@ fn make<L: Link>(
     ensures room { OnOk result (Judges (λ (device : Device). device.handles ≡ no_handles) true
         database.now.head.name (L.talk linked.old.link)) }
     ensures full { IfErr result (IsUnmade L.talk (λ (device : Device). device.handles ≡ no_handles)
+        (making (installed_head database.now.head) ∷ []) database.now.head.name
+        linked.old.link linked.new.link) }
+    ensures within { OnErr result (IsWithin L.talk L.since L.fault L.downs
+        (λ (device : Device). device.handles ≡ no_handles)
         (making (installed_head database.now.head) ∷ []) database.now.head.name
         linked.old.link linked.new.link) }
 {
@@ -154,6 +164,9 @@ pub(crate) fn install_one<L: Link>(
         (λ (device : Device). IsAtRest device × IsName database.now.head.name)
         (deleting database.now.head.name ∷ making (installed_head database.now.head) ∷ [])
         database.now.head.name linked.old.link linked.new.link) }
+    ensures within { OnErr result (IsWithin L.talk L.since L.fault L.downs
+        (RestsFor database.now) (making_acts database.now)
+        database.now.head.name linked.old.link linked.new.link) }
 {
     let live = to_install(alloc, database)?;
     linked.delete(&database.head().name)?;
@@ -167,7 +180,10 @@ fn fault_of(stop: Stop) -> SessionFault
 {
     match stop {
         Stop::Session(cause) => cause,
-        Stop::Limit(_) => SessionFault::Refused(ErrorCode(17)),
+        Stop::Limit(_) => SessionFault::Refused {
+            function: 0x18,
+            code: ErrorCode(17),
+        },
         Stop::NewHandheld(_) | Stop::DeskFault => SessionFault::NoMemory,
     }
 }

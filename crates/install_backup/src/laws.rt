@@ -1,5 +1,5 @@
 // What an install makes of a database and of a handheld, and what a backup reads. Each function here does nothing: its contract is the law.
-ghost use Rattle.std.specs.Prelude.{◌≡◌, ◌++◌, ℕ, List, [], None, Some, false, filter, flat_map, map, true};
+ghost use Rattle.std.specs.Prelude.{◌≡◌, ◌++◌, ℕ, List, [], None, Some, false, filter, flat_map, map, take, true};
 ghost use Rattle.std.specs.List.{AllByRecursion};
 ghost use Rattle.pdb_values.specs.Databases.{DatabaseValue};
 ghost use Rattle.pdb_values.specs.Heads.{is_read_only};
@@ -20,7 +20,7 @@ ghost use Rattle.desktop_session.specs.Tellings.{device_after};
 ghost use Rattle.session_parts.specs.Fronts.{Front};
 ghost use Rattle.session_parts.specs.Rests.{IsAtRest};
 ghost use Rattle.install_backup.specs.BackedUp.{IsUnmarked, backed_up};
-ghost use Rattle.install_backup.specs.BackupActs.{backup_of};
+ghost use Rattle.install_backup.specs.BackupActs.{backup_acts, backup_of};
 ghost use Rattle.install_backup.specs.BackupEnds.{backup_front, read_of};
 ghost use Rattle.install_backup.specs.InstallActs.{install_acts, install_one, is_installable};
 ghost use Rattle.install_backup.specs.InstallEnds.{first_full};
@@ -102,6 +102,20 @@ pub fn copies_are_the_devices()
 pub fn backups_change_nothing()
     ensures { (device : Device) → IsAtRest device
         → device_after (backup_front device ++ flat_map backup_of device.databases) device ≡ device }
+{}
+
+/// Each request of a backup may be asked at its turn of a handheld on which nothing is open, and so it is answered.
+pub fn backups_keep_their_order()
+    ensures { (device : Device) (count : ℕ) → IsAtRest device
+        → AreInOrder (take count (backup_acts device)) device }
+{}
+
+/// Each request of an install may be asked at its turn of a handheld on which nothing is open, and which has room for all of its databases.
+pub fn installs_keep_their_order()
+    ensures { (device : Device) (databases : List DatabaseValue) (count : ℕ) → IsAtRest device
+        → AllByRecursion IsBoundedDatabase databases
+        → first_full databases device.databases ≡ None
+        → AreInOrder (take count (install_acts databases)) device }
 {}
 
 /// An unmarked database of a file comes back from a backup as it was, and so with its own canonical bytes: what is installed of it and backed up

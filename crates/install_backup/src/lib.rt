@@ -18,9 +18,9 @@ pub use backing_up::backup_one;
 pub use installing::install;
 pub use keeping::backup_all;
 pub use laws::{
-    backups_change_nothing, copies_are_the_devices, databases_go,
+    backups_change_nothing, backups_keep_their_order, copies_are_the_devices, databases_go,
     installed_databases_are_databases, installs_arrive, installs_come_back, installs_come_in_turn,
-    others_stay, resources_are_put_in_turn, what_is_written_is_there,
+    installs_keep_their_order, others_stay, resources_are_put_in_turn, what_is_written_is_there,
 };
 pub use many::install_all;
 pub use moved::{MoveOutcome, Moved};

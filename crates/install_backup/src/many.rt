@@ -1,12 +1,12 @@
 // Several databases of files, installed one after another.
-ghost use Rattle.std.specs.Prelude.{◌≡◌, ◌++◌, ◌∷◌, [], IfErr, OnOk, false, true};
+ghost use Rattle.std.specs.Prelude.{◌≡◌, ◌++◌, ◌∷◌, [], IfErr, OnErr, OnOk, false, true};
 ghost use Rattle.session_parts.specs.Spans.{Spans};
 ghost use Rattle.session_parts.specs.Stretches.{SpansEach};
 ghost use Rattle.session_parts.specs.declared.stop.Stop.TheVariants as stops;
 ghost use Rattle.desktop_session.specs.declared.fault.SessionFault.TheVariants as session;
 ghost use Rattle.install_backup.specs.InstallActs.{installs_under, is_installable};
-ghost use Rattle.install_backup.specs.Installs.{IsLimit, SaysMoved, making_acts};
-ghost use Rattle.install_backup.specs.Rooms.{IsUnmade, RestsFor, fault_in};
+ghost use Rattle.install_backup.specs.Installs.{IsLimit, SaysMoved, StopsWithin, making_acts};
+ghost use Rattle.install_backup.specs.Rooms.{IsUnmade, IsWithin, RestsFor, fault_in};
 
 use crate::installing::install_one;
 use crate::moved::Moved;
@@ -27,6 +27,9 @@ fn install_writable<L: Link>(
         (installs_under (L.talk linked.old.link) database.now)
         (SaysMoved (L.talk linked.old.link) database.now) linked.old linked.new (fault_in result) }
     ensures full { IfErr result (IsUnmade L.talk (RestsFor database.now) (making_acts database.now)
+        database.now.head.name linked.old.link linked.new.link) }
+    ensures within { OnErr result (IsWithin L.talk L.since L.fault L.downs
+        (RestsFor database.now) (making_acts database.now)
         database.now.head.name linked.old.link linked.new.link) }
     ensures writable { IfErr result (λ why. is_installable database.now ≡ true) }
 {
@@ -65,6 +68,8 @@ pub fn install_all<L: Link>(
         databases.now (λ made. made.items) linked.old linked.new (fault_in result) }
     ensures full { IfErr result (IsLimit L.talk databases.now linked.old
         linked.new.link) }
+    ensures within { OnErr result (StopsWithin L.talk L.since L.fault L.downs databases.now
+        linked.old linked.new.link) }
 {
     let mut moved = Vec::new(alloc);
     for database in databases {

@@ -11,22 +11,28 @@ use std::fmt::Write;
 pub fn refused(alloc: Global, fault: SessionFault) -> Result<String, AllocError> {
     match fault {
         SessionFault::Down => String::from_str(alloc, "down"),
-        SessionFault::Refused(ErrorCode(code)) => format!(in alloc; "refused {code}"),
+        SessionFault::Refused {
+            function,
+            code: ErrorCode(code),
+        } => format!(in alloc; "refused {function:x} {code}"),
         SessionFault::OtherUser { handheld, desktop } => {
             format!(in alloc; "other user {handheld} {desktop}")
         }
-        SessionFault::BadReply(ReplyFault::Wrapper(place)) => {
-            format!(in alloc; "bad reply: wrapper {place}")
-        }
-        SessionFault::BadReply(ReplyFault::Function(byte)) => {
-            format!(in alloc; "bad reply: function {byte:x}")
-        }
-        SessionFault::BadReply(ReplyFault::Argument) => {
-            String::from_str(alloc, "bad reply: argument")
-        }
-        SessionFault::BadReply(_) => String::from_str(alloc, "bad reply"),
+        SessionFault::BadReply { function, fault } => bad_reply(alloc, function, fault),
         SessionFault::TooManyUsers => String::from_str(alloc, "too many users"),
         SessionFault::NoMemory => String::from_str(alloc, "no memory"),
+    }
+}
+
+// Which rule the reply to a request of this function breaks.
+fn bad_reply(alloc: Global, function: u8, fault: ReplyFault) -> Result<String, AllocError> {
+    match fault {
+        ReplyFault::Wrapper(place) => format!(in alloc; "bad reply {function:x}: wrapper {place}"),
+        ReplyFault::Function(byte) => format!(in alloc;
+            "bad reply {function:x}: function {byte:x}"
+        ),
+        ReplyFault::Argument => format!(in alloc; "bad reply {function:x}: argument"),
+        _ => format!(in alloc; "bad reply {function:x}"),
     }
 }
 

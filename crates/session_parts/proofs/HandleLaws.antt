@@ -53,17 +53,17 @@ make_done device creator kind flags version name none =
 
 -- the handle that a reply says, where the answer bears handle 1, and a refusal bears none
 handle_by : (device : Device) (number handle mode : ℕ) (name : List ℕ) (answer : ReplyValue) (r : Tried)
-    → reply_at number (reply_text answer) ≡ Ok answer → said_in handle_of (Ok answer) ≡ Ok 1 → IfDone (Opens name mode answer) r
-    → Keeps (λ (done : Device × ReplyValue). Unit {0}) r → said_in handle_of (reply_at number (outcome device number r).0) ≡ Ok handle → handle ≡ 1
+    → reply_at number (reply_text answer) ≡ Ok answer → said_in number handle_of (Ok answer) ≡ Ok 1 → IfDone (Opens name mode answer) r
+    → Keeps (λ (done : Device × ReplyValue). Unit {0}) r → said_in number handle_of (reply_at number (outcome device number r).0) ≡ Ok handle → handle ≡ 1
 handle_by device number handle mode name answer (Ok done) reads says opens keeps is =
     let both : ◌≡◌ {A = Result ℕ SessionFault} (Ok 1) (Ok handle)
-    = sym says ∙ ap (said_in handle_of) (sym reads) ∙ ap (λ v. said_in handle_of (reply_at number (reply_text v))) (sym opens.reply) ∙ is in
+    = sym says ∙ ap (said_in number handle_of) (sym reads) ∙ ap (λ v. said_in number handle_of (reply_at number (reply_text v))) (sym opens.reply) ∙ is in
     let same : 1 ≡ handle = cc in
     sym same
 handle_by device number handle mode name answer (Err code) reads says opens keeps is =
     let read : reply_at number (reply_text (reply.Refused number code)) ≡ Ok (reply.Refused number code)
     = read_again number (reply.Refused number code) (refused_reply number code keeps.0 keeps.1) in
-    absurd (let none = sym (ap (said_in handle_of) read) ∙ is in cc)
+    absurd (let none = sym (ap (said_in number handle_of) read) ∙ is in cc)
 
 -- whatever was refused has a code
 any_kept : (P : Device × ReplyValue → Type 0) (r : Tried) → Keeps P r → Keeps (λ (done : Device × ReplyValue). Unit {0}) r
@@ -71,14 +71,14 @@ any_kept P (Ok done) keeps = tt
 any_kept P (Err code) keeps = keeps
 
 opens_one : (device : Device) (name : List ℕ) (handle : ℕ) → device.handles ≡ no_handles
-    → said_in handle_of (reply_at 0x17 (acted (opening name) device).0) ≡ Ok handle → handle ≡ 1
+    → said_in 0x17 handle_of (reply_at 0x17 (acted (opening name) device).0) ≡ Ok handle → handle ≡ 1
 unfolding acted tried
 opens_one device name handle none is =
     handle_by device 0x17 handle 0xD0 name (reply.OpenDb 1) (open_db device 0 0xD0 name) (read_again 0x17 (reply.OpenDb 1) one_reply) refl
     (open_done device 0xD0 name none) (any_kept _ (open_db device 0 0xD0 name) (tried_done 0 device (opening name).asks tt)) is
 
 makes_one : (device : Device) (head : DbHead) (handle : ℕ) → device.handles ≡ no_handles
-    → said_in handle_of (reply_at 0x18 (acted (making head) device).0) ≡ Ok handle → handle ≡ 1
+    → said_in 0x18 handle_of (reply_at 0x18 (acted (making head) device).0) ≡ Ok handle → handle ≡ 1
 unfolding acted tried
 makes_one device head handle none is =
     let made = create_db device head.creator.0 head.kind.0 0 head.attributes head.version head.name in
@@ -93,11 +93,11 @@ said_of_answer None said x is = sym is
 said_of_answer (Some fault) said x is = absurd cc
 
 first_by : (o : Option Talk) (one : Act) (number handle : ℕ) (bytes : List ℕ)
-    → ((device : Device) → device.handles ≡ no_handles → said_in handle_of (reply_at number (acted one device).0) ≡ Ok handle → handle ≡ 1)
-    → IfSome o (λ talk. bytes ≡ (acted one talk.device).0) → said_in handle_of (reply_at number bytes) ≡ Ok handle → IsFirst o handle
+    → ((device : Device) → device.handles ≡ no_handles → said_in number handle_of (reply_at number (acted one device).0) ≡ Ok handle → handle ≡ 1)
+    → IfSome o (λ talk. bytes ≡ (acted one talk.device).0) → said_in number handle_of (reply_at number bytes) ≡ Ok handle → IsFirst o handle
 first_by None one number handle bytes opens told said = tt
 first_by (Some talk) one number handle bytes opens told said =
-    λ none. opens talk.device none (subst (λ r. said_in handle_of (reply_at number r) ≡ Ok handle) told said)
+    λ none. opens talk.device none (subst (λ r. said_in number handle_of (reply_at number r) ≡ Ok handle) told said)
 
 -- handle 1 is the first
 pub one_first : (told : Option Talk) → IsFirst told 1
@@ -114,11 +114,11 @@ pub record IsOpened {L : Type 0} (talk : L → Option Talk) (since : L → L →
 
 module _ {L : Type 0} {talk : L → Option Talk} {since : L → L → Type 0} {fault : L → Option LinkFault} {downs : L → ℕ} where
   answered_first : (number : ℕ) (one : Act) {handle : ℕ} {old now : SessionValue L}
-      → ((device : Device) → device.handles ≡ no_handles → said_in handle_of (reply_at number (acted one device).0) ≡ Ok handle → handle ≡ 1)
-      → Asked talk since fault downs one old now → Ok handle ≡ answer_by (fault now.link) (said_in handle_of (reply_at number now.reply))
+      → ((device : Device) → device.handles ≡ no_handles → said_in number handle_of (reply_at number (acted one device).0) ≡ Ok handle → handle ≡ 1)
+      → Asked talk since fault downs one old now → Ok handle ≡ answer_by (fault now.link) (said_in number handle_of (reply_at number now.reply))
       → IsOpened talk since fault downs one handle old now
   answered_first number one {handle} {old} {now} opens asked is =
-      let said = said_in handle_of (reply_at number now.reply) in
+      let said = said_in number handle_of (reply_at number now.reply) in
       let none = no_fault_said (fault now.link) said handle is in
       record {
         asked = asked;
@@ -128,11 +128,11 @@ module _ {L : Type 0} {talk : L → Option Talk} {since : L → L → Type 0} {f
       }
 
   pub opened_first : (name : List ℕ) {handle : ℕ} {old now : SessionValue L} → Asked talk since fault downs (opening name) old now
-      → Ok handle ≡ answer_by (fault now.link) (said_in handle_of (reply_at 0x17 now.reply))
+      → Ok handle ≡ answer_by (fault now.link) (said_in 0x17 handle_of (reply_at 0x17 now.reply))
       → IsOpened talk since fault downs (opening name) handle old now
   opened_first name asked is = answered_first 0x17 (opening name) (λ device none. opens_one device name _ none) asked is
 
   pub made_first : (head : DbHead) {handle : ℕ} {old now : SessionValue L} → Asked talk since fault downs (making head) old now
-      → Ok handle ≡ answer_by (fault now.link) (said_in handle_of (reply_at 0x18 now.reply))
+      → Ok handle ≡ answer_by (fault now.link) (said_in 0x18 handle_of (reply_at 0x18 now.reply))
       → IsOpened talk since fault downs (making head) handle old now
   made_first head asked is = answered_first 0x18 (making head) (λ device none. makes_one device head _ none) asked is

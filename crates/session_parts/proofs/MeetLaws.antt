@@ -28,9 +28,9 @@ clear users add talk fault user said =
 
 -- the user that was read has a slot
 slot_by : (users : List ℕ) (add : Bool) (bytes : List ℕ) (user : UserInfo) (second : Result (Unit {0}) SessionFault)
-    → Ok user ≡ begun_by (user_by users add (said_in user_of (reply_at 0x10 bytes))) second
-    → IsOk (user_by users add (said_in user_of (reply_at 0x10 bytes)))
-slot_by users add bytes user second is = begun_ok (user_by users add (said_in user_of (reply_at 0x10 bytes))) second is
+    → Ok user ≡ begun_by (user_by users add (said_in 0x10 user_of (reply_at 0x10 bytes))) second
+    → IsOk (user_by users add (said_in 0x10 user_of (reply_at 0x10 bytes)))
+slot_by users add bytes user second is = begun_ok (user_by users add (said_in 0x10 user_of (reply_at 0x10 bytes))) second is
   where
     begun_ok : (read : Result UserInfo SessionFault) (second : Result (Unit {0}) SessionFault) → Ok user ≡ begun_by read second → IsOk read
     begun_ok (Ok other) second is = refl
@@ -40,7 +40,7 @@ pub greeted_slot : (users : List ℕ) (add : Bool) (told : Option Talk) (user : 
 greeted_slot users add None user said = tt
 greeted_slot users add (Some talk) user said =
     rw (said.told refl) at
-    (slot_by users add said.first user (said_in no_more (reply_at 0x2E said.second)) said.is)
+    (slot_by users add said.first user (said_in 0x2E no_more (reply_at 0x2E said.second)) said.is)
 
 module _ {L : Type 0} {talk : L → Option Talk} {since : L → L → Type 0} {fault : L → Option LinkFault} {downs : L → ℕ} {users : List ℕ} {add : Bool}
     {old : L} where
@@ -131,7 +131,7 @@ seated_by users add (Ok other) user second is =
 pub greeted_seated : (users : List ℕ) (add : Bool) (told : Option Talk) (user : UserInfo) → Greeted users add told None (Ok user)
     → IsSeated (slot_for users user.user add)
 greeted_seated users add told user said =
-    seated_by users add (said_in user_of (reply_at 0x10 said.first)) user (said_in no_more (reply_at 0x2E said.second)) said.is
+    seated_by users add (said_in 0x10 user_of (reply_at 0x10 said.first)) user (said_in 0x2E no_more (reply_at 0x2E said.second)) said.is
 
 -- a slot that was found can be picked
 pub seated_pickable : (users slots : ℕ) (found : Slot) → users ≡ slots → IsWithin users found → IsSeated found → IsPickable slots found

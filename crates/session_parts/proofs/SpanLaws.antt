@@ -1,9 +1,10 @@
 -- A database is opened, something is done, and it is closed: where it stops, and where it is done.
-use Rattle.std.proofs.Common.{◌≡◌, ℕ, List, [], ◌∷◌, ◌++◌, ap, true, Option, None, Some, IfErr, IfOk, OnErr, OnOk, Result, Ok, Err}
+use Rattle.std.proofs.Common.{◌≡◌, ℕ, List, [], ◌∷◌, ◌++◌, ap, false, refl, true, Option, None, Some, IfErr, IfOk, OnErr, OnOk, Result, Ok, Err}
 use Rattle.dlp_replies.specs.ReplyReading.{reply_at}
 use Rattle.session_parts.proofs.LinkWords.{LinkFault, Talk, SessionFault, Act, answer_by, handle_of, mapped, no_more, said_in, closing, SessionValue, Asked}
 use Rattle.slow_mirror.specs.Asks.{Asks}
 use Rattle.slow_mirror.proofs.AskLaws.{all_said, asked_answer, asked_part, asks_part, asks_then, none_said, one_said}
+use Rattle.desktop_session.specs.Orders.{may_find_none}
 use Rattle.desktop_session.specs.Tellings.{number_of}
 use Rattle.session_parts.specs.Causes.{IsLater}
 use Rattle.session_parts.specs.Spans.{nothing, Spans, within}
@@ -49,10 +50,10 @@ module _ {L A : Type 0} {talk : L → Option Talk} {since : L → L → Type 0} 
 
   -- it was not opened
   pub span_unopened : {C : Type 0} (number : ℕ) {first : Act} (acts : ℕ → List ℕ → List Act) {says : ℕ → List ℕ → A → Type 0} {old new : SessionValue L}
-      {cause : SessionFault} (r : Result C SessionFault) → number ≡ number_of first → r ≡ Err cause → OnErr r (Asked talk since fault downs first old new
-      × IfErr r (λ why. ◌≡◌ {A = Result ℕ SessionFault} (Err why) (answer_by (fault new.link) (said_in handle_of (reply_at number new.reply)))))
+      {cause : SessionFault} (r : Result C SessionFault) → number ≡ number_of first → may_find_none first.asks.form ≡ false → r ≡ Err cause → OnErr r (Asked talk since fault downs first old new
+      × IfErr r (λ why. ◌≡◌ {A = Result ℕ SessionFault} (Err why) (answer_by (fault new.link) (said_in number handle_of (reply_at number new.reply)))))
       → Spans talk since fault downs (within first acts) says old new (Err cause)
-  span_unopened number acts {old} {new} {cause} r own was held =
+  span_unopened number acts {old} {new} {cause} r own none was held =
       let both = err_case _ r cause was held in
       let asks = asked_part {A = A} talk since fault downs _ (acts 1 [] ++ closing 1 ∷ []) old new cause both.0 in
       record {
@@ -64,7 +65,7 @@ module _ {L A : Type 0} {talk : L → Option Talk} {since : L → L → Type 0} 
         clear = tt;
         user = asks.user;
         closed = tt;
-        cause = later_unopened number handle_of r cause own both.0 was both.1;
+        cause = later_unopened number handle_of r cause own none both.0 was both.1;
         said = tt;
       }
 
@@ -127,11 +128,11 @@ module _ {L A : Type 0} {talk : L → Option Talk} {since : L → L → Type 0} 
         (opened : IsOpened talk since fault downs first handle old now) (asks : Asks {A = A} talk since fault downs (acts handle given) now done (Ok x))
         (same : last ≡ handle) (closes : Asked talk since fault downs (closing last) done new) where
       pub span_unclosed : {cause : SessionFault}
-          → ◌≡◌ {A = Result (Unit {0}) SessionFault} (Err cause) (answer_by (fault new.link) (said_in no_more (reply_at 0x19 new.reply))) → left ≡ new
+          → ◌≡◌ {A = Result (Unit {0}) SessionFault} (Err cause) (answer_by (fault new.link) (said_in 0x19 no_more (reply_at 0x19 new.reply))) → left ≡ new
           → Spans talk since fault downs (within first acts) says old left (Err cause)
       span_unclosed {cause} is goes =
-          span_closed given _ opened asks same closes (answer_behind _ _ (Err cause) x is) (later_refused no_more cause closes is) tt goes
+          span_closed given _ opened asks same closes (answer_behind _ _ (Err cause) x is) (later_refused no_more cause refl closes is) tt goes
 
-      pub span_done : {end : Unit {0}} → Ok end ≡ answer_by (fault new.link) (said_in no_more (reply_at 0x19 new.reply)) → says handle given x → left ≡ new
+      pub span_done : {end : Unit {0}} → Ok end ≡ answer_by (fault new.link) (said_in 0x19 no_more (reply_at 0x19 new.reply)) → says handle given x → left ≡ new
           → Spans talk since fault downs (within first acts) says old left (Ok x)
       span_done {end} is said goes = span_closed given _ opened asks same closes (answer_behind _ _ (Ok end) x is) tt said goes

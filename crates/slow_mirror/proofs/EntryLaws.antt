@@ -81,25 +81,25 @@ next_short bytes = search (rules, at_short, shape_short)
 
 -- ---- what was lent
 
-pub lent_short : (fault : Option LinkFault) (read : Result ReplyValue ReplyFault) {lent : LentValue} → IfOk read LendsShort
-    → answer_by fault (said_in record_of read) ≡ Ok lent → IsShort lent
-lent_short fault read short is = search (rules)
+pub lent_short : (function : ℕ) (fault : Option LinkFault) (read : Result ReplyValue ReplyFault) {lent : LentValue} → IfOk read LendsShort
+    → answer_by fault (said_in function record_of read) ≡ Ok lent → IsShort lent
+lent_short function fault read short is = search (rules)
 
 -- the link has no fault, and the reply has this record
-pub lent_seen : (fault : Option LinkFault) (read : Result ReplyValue ReplyFault) {lent : LentValue} → answer_by fault (said_in record_of read) ≡ Ok lent
+pub lent_seen : (function : ℕ) (fault : Option LinkFault) (read : Result ReplyValue ReplyFault) {lent : LentValue} → answer_by fault (said_in function record_of read) ≡ Ok lent
     → (fault ≡ None) × (seen_in read ≡ seen_of lent ∷ [])
-lent_seen fault read is = grind (arith, common_steps, nat_tests)
+lent_seen function fault read is = grind (arith, common_steps, nat_tests)
 
 -- ---- causes
 
-cause_said : {A : Type 0} (take : ReplyValue → A) (read : Result ReplyValue ReplyFault) {now : SessionFault} → said_in take read ≡ Err now
+cause_said : {A : Type 0} (function : ℕ) (take : ReplyValue → A) (read : Result ReplyValue ReplyFault) {now : SessionFault} → said_in function take read ≡ Err now
     → HasCause None read now
-cause_said take read is = search (rules)
+cause_said function take read is = search (rules)
 
 -- a call that says what its reply says has the cause that the link or the reply shows
-pub cause_by : {A : Type 0} (take : ReplyValue → A) (fault : Option LinkFault) (read : Result ReplyValue ReplyFault) {now : SessionFault}
-    → answer_by fault (said_in take read) ≡ Err now → HasCause fault read now
-cause_by take fault read is = search (rules, cause_said)
+pub cause_by : {A : Type 0} (function : ℕ) (take : ReplyValue → A) (fault : Option LinkFault) (read : Result ReplyValue ReplyFault) {now : SessionFault}
+    → answer_by fault (said_in function take read) ≡ Err now → HasCause fault read now
+cause_by function take fault read is = search (rules, cause_said)
 
 -- such an id is below the bound of ids
 pub bounded_id : (id : ℕ) → id ≤ 16777215 → id < id_bound

@@ -150,10 +150,10 @@ pub take_none : {A : Type 0} (xs : List A) → take 0 xs ≡ []
 take_none [] = refl
 take_none (x ∷ xs) = refl
 
-pub last_cause : {A : Type 0} (P Q : SessionFault → Type 0) (take : ReplyValue → A) (fault : Option LinkFault) (read : Result ReplyValue ReplyFault)
-    (answer : Result A SessionFault) → answer ≡ answer_by fault (said_in take read)
+pub last_cause : {A : Type 0} (function : ℕ) (P Q : SessionFault → Type 0) (take : ReplyValue → A) (fault : Option LinkFault) (read : Result ReplyValue ReplyFault)
+    (answer : Result A SessionFault) → answer ≡ answer_by fault (said_in function take read)
     → IfErr answer (λ cause. P cause ⊎ (Q cause ⊎ HasCause fault read cause))
-last_cause P Q take fault read answer is = search (rules, cause_by)
+last_cause function P Q take fault read answer is = search (rules, cause_by)
 
 module _ {L : Type 0} {talk : L → Option Talk} {since : L → L → Type 0} {fault : L → Option LinkFault} {downs : L → ℕ} {old : SessionValue L} where
   -- a stretch of puts behind another

@@ -131,7 +131,7 @@ pub seen_begin : (first : Option Talk) (handle : ℕ) {seen : List Seen} → see
 seen_begin first handle none = search (rules, seen_none)
 
 -- a number that was told
-pub count_from : (fault : Option LinkFault) (read : Result ReplyValue ReplyFault) {count : ℕ} → Ok count ≡ answer_by fault (said_in count_of read)
+pub count_from : (fault : Option LinkFault) (read : Result ReplyValue ReplyFault) {count : ℕ} → Ok count ≡ answer_by fault (said_in 0x2B count_of read)
     → (fault ≡ None) × (count ≡ entries_in read)
 count_from fault read is = grind (arith, common_steps, nat_tests)
 
@@ -204,7 +204,7 @@ module _ {L : Type 0} {talk : L → Option Talk} {since : L → L → Type 0} {f
   -- the count, and then what was read
   pub whole_asked : {A : Type 0} (since_more : (a b c : L) → since a b → since b c → since a c) {handle here count : ℕ} {now new : SessionValue L}
       {answer : Result A SessionFault}
-      → here ≡ handle → Ok count ≡ answer_by (fault now.link) (said_in count_of (reply_at 0x2B now.reply))
+      → here ≡ handle → Ok count ≡ answer_by (fault now.link) (said_in 0x2B count_of (reply_at 0x2B now.reply))
       → Asked talk since fault downs (counting handle) old now → Asks talk since fault downs (reads here count) now new answer
       → Asks talk since fault downs (slow_reads handle (entries_of (talk old.link) handle)) old new answer
   whole_asked since_more {handle} {count} {now} {new} {answer} is said asked asks =

@@ -77,7 +77,7 @@ one_seen : {device : Device} (handle place : ℕ) {base : Base} {item : Record} 
     → base_at device handle ≡ Some base → on_records base.database ≡ true → slice_get base.database.records place ≡ Some item
     → seen_in (reply_at 0x20 (acted (reading_at handle place) device).0) ≡ slow_seen item ∷ []
 one_seen {device} handle place {base} {item} proper byte half is records there =
-    (lent_seen None (reply_at 0x20 (acted (reading_at handle place) device).0)
+    (lent_seen 0x20 None (reply_at 0x20 (acted (reading_at handle place) device).0)
     (lent_at device handle place base item proper byte half is records there)).1
     ∙ ap (λ (s : Seen). s ∷ []) (lent_is_seen item)
 

@@ -30,6 +30,7 @@ fn read_at<L: Link>(alloc: Global, db: &mut OpenDb<'_, L>, index: u16) -> Result
     ensures bounded { IfOk result (λ seen. seen.id < id_bound) }
     ensures cause { IfErr result (HasCause (L.fault db.new.linked.now.link)
         (reply_at 0x20 db.new.linked.now.reply)) }
+    ensures last { IfErr result (IsByLastReply (L.talk db.new.linked.now.link)) }
 {
     match db.at(index) {
         Ok(lent) => Ok(entry_of(alloc, &lent)?),

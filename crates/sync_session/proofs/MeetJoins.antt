@@ -103,22 +103,22 @@ jobs_meet meeting heads shelves agree wishes heads_are shelves_are same asked =
 
 -- ---- the user
 
-pub user_told : (device : Device) → IsProper device → said_in user_of (reply_at 0x10 (acted reading_user device).0) ≡ Ok device.user
+pub user_told : (device : Device) → IsProper device → said_in 0x10 user_of (reply_at 0x10 (acted reading_user device).0) ≡ Ok device.user
 unfolding told tried
-user_told device proper = ap (said_in user_of) (acted_reads reading_user device proper (act_sayable reading_user.asks device user_fits refl))
+user_told device proper = ap (said_in 0x10 user_of) (acted_reads reading_user device proper (act_sayable reading_user.asks device user_fits refl))
 
 -- and so its first reply
 pub user_read : (users : List ℕ) (add : Bool) (device : Device) (told : Option Talk) (answer : Result UserInfo SessionFault) → IsProper device
-    → Tells device told → (said : Greeted users add told None answer) → said_in user_of (reply_at 0x10 said.first) ≡ Ok device.user
+    → Tells device told → (said : Greeted users add told None answer) → said_in 0x10 user_of (reply_at 0x10 said.first) ≡ Ok device.user
 user_read users add device told answer proper tells said =
     let here : IfSome (Some tells.talk) (λ talk. said.first ≡ (acted reading_user talk.device).0) = rw tells.is at (said.told refl) in
-    ap (λ b. said_in user_of (reply_at 0x10 b)) (here ∙ ap (λ d. (acted reading_user d).0) tells.same) ∙ user_told device proper
+    ap (λ b. said_in 0x10 user_of (reply_at 0x10 b)) (here ∙ ap (λ d. (acted reading_user d).0) tells.same) ∙ user_told device proper
 
 -- a greeting that was answered tells the handheld's user
 pub greeted_user : (users : List ℕ) (add : Bool) (device : Device) (told : Option Talk) (known : UserInfo) → IsProper device → Tells device told
     → Greeted users add told None (Ok known) → known ≡ device.user
 greeted_user users add device told known proper tells said =
-    let second : Result (Unit {0}) SessionFault = said_in no_more (reply_at 0x2E said.second) in
+    let second : Result (Unit {0}) SessionFault = said_in 0x2E no_more (reply_at 0x2E said.second) in
     (seated_with users device.user known (slot_for users device.user.user add) second
     (said.is ∙ ap (λ r. begun_by (user_by users add r) second) (user_read users add device told (Ok known) proper tells said))).1
 

@@ -70,8 +70,8 @@ moments_merged slots made old new desk each =
 pub later_stop : {L : Type 0} (talk : L → Option Talk) (fault : L → Option LinkFault) (meeting : Meeting) (old new : L) (cause : SessionFault)
     → IsLater (talk new) (fault new) cause → IsStopOf talk fault meeting old new (stop.Session cause)
 later_stop talk fault meeting old new session.Down later = later
-later_stop talk fault meeting old new (session.Refused code) later = later
-later_stop talk fault meeting old new (session.BadReply broken) later = later
+later_stop talk fault meeting old new (session.Refused function code) later = later
+later_stop talk fault meeting old new (session.BadReply function broken) later = later
 later_stop talk fault meeting old new session.NoMemory later = tt
 later_stop talk fault meeting old new other later = absurd later
 

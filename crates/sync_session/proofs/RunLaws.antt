@@ -93,11 +93,11 @@ seat_told : (meeting : Meeting) (told : Option Talk) → IsProper meeting.device
 seat_told meeting told proper tells slot = rw (tells.is, tells.same, user_told meeting.device proper) at slot
 
 begun_why : (talk : Option Talk) (user : UserInfo) (second : Result (Unit {0}) SessionFault) (read : Result ReplyValue ReplyFault) (cause : SessionFault)
-    → second ≡ said_in no_more read → Err cause ≡ begun_by (Ok user) second → IsByLastReply talk cause
+    → second ≡ said_in 0x2E no_more read → Err cause ≡ begun_by (Ok user) second → IsByLastReply talk cause
     → IsLater talk None cause
 begun_why talk user (Ok done) read cause same is last = absurd cc
 begun_why talk user (Err other) read cause same is last =
-    let here : ◌≡◌ {A = Result (Unit {0}) SessionFault} (Err cause) (said_in no_more read) = cc in later_said talk None no_more read cause here last
+    let here : ◌≡◌ {A = Result (Unit {0}) SessionFault} (Err cause) (said_in 0x2E no_more read) = cc in later_said 0x2E talk None no_more read cause here last
 
 module _ (meeting : Meeting) {told : Option Talk} (proper : IsProper meeting.device) (tells : Tells meeting.device told) where
   -- a greeting that was answered is of a user with a slot
@@ -112,7 +112,7 @@ module _ (meeting : Meeting) {told : Option Talk} (proper : IsProper meeting.dev
     greeted_for (Some link.Down) said = inr (inl (ap stop.Session (let same : cause ≡ session.Down = let is = said.is in cc in same)))
     greeted_for (Some link.NoMemory) said = inr (inr (ap stop.Session (let same : cause ≡ session.NoMemory = let is = said.is in cc in same)))
     greeted_for None said =
-        let second : Result (Unit {0}) SessionFault = said_in no_more (reply_at 0x2E said.second) in
+        let second : Result (Unit {0}) SessionFault = said_in 0x2E no_more (reply_at 0x2E said.second) in
         let found : ◌≡◌ {A = Result UserInfo SessionFault} (Err cause) (begun_by (Err why) second)
         = said.is ∙ ap (λ r. begun_by (user_by (users_in meeting) meeting.wishes.add_user r) second)
         (user_read (users_in meeting) meeting.wishes.add_user meeting.device told (Err cause) proper tells said)
@@ -235,7 +235,7 @@ module _ {L F : Type 0} (talk : L → Option Talk) (since : L → L → Type 0) 
     module _ {new : L} (cause : SessionFault) (alone : (why : SessionFault) → seat_of meeting ≡ Err why → fault new ≡ None
         → Does talk (reading_user ∷ []) old new) (last : IsByLastReply (talk new) cause) where
       slot_stop : (found : Slot) (second : Result (Unit {0}) SessionFault) (read : Result ReplyValue ReplyFault) → slot_in meeting ≡ found
-          → second ≡ said_in no_more read
+          → second ≡ said_in 0x2E no_more read
           → Err cause ≡ begun_by (user_with (users_in meeting) meeting.device.user found) second → fault new ≡ None
           → IsStopOf talk fault meeting old new (stop.Session cause)
       slot_stop (slot.Old place) second read found same is none =
@@ -256,9 +256,9 @@ module _ {L F : Type 0} (talk : L → Option Talk) (since : L → L → Type 0) 
           → IsStopOf talk fault meeting old new (stop.Session cause)
       greeted_stop (Some now) is said =
           later_stop talk fault meeting old new cause
-          (rw is (later_said {A = UserInfo} (talk new) (Some now) user_of (reply_at 0x10 said.first) cause said.is last))
+          (rw is (later_said {A = UserInfo} 0x10 (talk new) (Some now) user_of (reply_at 0x10 said.first) cause said.is last))
       greeted_stop None none said =
-          let second : Result (Unit {0}) SessionFault = said_in no_more (reply_at 0x2E said.second) in
+          let second : Result (Unit {0}) SessionFault = said_in 0x2E no_more (reply_at 0x2E said.second) in
           slot_stop (slot_in meeting) second (reply_at 0x2E said.second) refl refl
           (said.is ∙ ap (λ r. begun_by (user_by (users_in meeting) meeting.wishes.add_user r) second)
           (user_read (users_in meeting) meeting.wishes.add_user meeting.device (talk old) (Err cause) rests.proper tells said)) none

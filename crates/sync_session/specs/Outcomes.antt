@@ -26,8 +26,7 @@ use Rattle.desktop_session.specs.declared.fault.SessionFault.{SessionFault}
 use Rattle.desktop_session.specs.declared.fault.SessionFault.TheVariants as session
 use Rattle.desktop_session.specs.Acts.{text}
 use Rattle.desktop_session.specs.Greetings.{user_with}
-use Rattle.desktop_session.specs.Lasts.{LastSays}
-use Rattle.desktop_session.specs.Lists.{Refuses}
+use Rattle.desktop_session.specs.Lasts.{IsBroken, IsRefusal, LastSays}
 use Rattle.desktop_session.specs.Requests.{reading_user}
 use Rattle.desktop_session.specs.Stops.{Does, Stops}
 use Rattle.session_parts.specs.declared.report.DbReport.{DbReport}
@@ -189,10 +188,10 @@ pub record IsAtCommit {L : Type 0} (talk : L → Option Talk) (meeting : Meeting
 abbrev pub IsStopOf : {L : Type 0} → (L → Option Talk) → (L → Option LinkFault) → Meeting → L → L
     → Stop → Type 0
 IsStopOf talk fault meeting old new (stop.Session session.Down) = fault new ≡ Some Down
-IsStopOf talk fault meeting old new (stop.Session (session.Refused code)) =
-    (fault new ≡ None) × IfSome (talk new) (LastSays (Refuses code.0))
-IsStopOf talk fault meeting old new (stop.Session (session.BadReply broken)) =
-    (fault new ≡ None) × IfSome (talk new) (LastSays (λ read. read ≡ Err broken))
+IsStopOf talk fault meeting old new (stop.Session (session.Refused function code)) =
+    (fault new ≡ None) × IfSome (talk new) (LastSays (IsRefusal function code.0))
+IsStopOf talk fault meeting old new (stop.Session (session.BadReply function broken)) =
+    (fault new ≡ None) × IfSome (talk new) (LastSays (IsBroken function broken))
 IsStopOf talk fault meeting old new (stop.Session (session.OtherUser handheld desktop)) =
     IsOtherUser meeting handheld desktop × Does talk (reading_user ∷ []) old new
 IsStopOf talk fault meeting old new (stop.Session session.TooManyUsers) =

@@ -20,7 +20,7 @@ pub fn begin<L: Link>(linked: &mut Linked<L>) -> Result<(), SessionFault>
     ensures asked { Asked L.talk L.since L.fault L.downs
         (marking (users.begun_user linked.old.user) 0x40) linked.old linked.new }
     ensures answer { result ≡ answer_by (L.fault linked.new.link)
-        (said_in no_more (reply_at 0x11 linked.new.reply)) }
+        (said_in 0x11 no_more (reply_at 0x11 linked.new.reply)) }
 {
     let user = begun_user(linked.user());
     linked.mark(&user, 0x40)

@@ -14,7 +14,7 @@ returns-in_err-opened g c =
     let told = saying (opening c.args.name.now ∷ []) (g.L.Link.talk c.args.linked.now.link) in
     record {
       spans = rw (p.1, p.2) (span_unopened 0x17 (λ handle given. filed_under (option_copied c.args.rows_app) told handle) _
-          refl c.in_err-opened.was c.open.follows.holds-at-none);
+          refl refl c.in_err-opened.was c.open.follows.holds-at-none);
     }
 
 pub returns-in-Err : goal.returns-in-Err

@@ -1,4 +1,5 @@
 -- No block is not written.
+use Rattle.std.proofs.Common.{refl}
 use Rattle.desktop_session.specs.declared.fault.SessionFault.TheVariants as session
 use Rattle.category_mirror.proofs.FileLaws.{asks_lost, asks_none}
 use Rattle.session_parts.proofs.CauseLaws.{later_answer}
@@ -12,4 +13,4 @@ pub returns-then-bytes-gt-LIMIT-clause-asks : goal.returns-then-bytes-gt-LIMIT-c
 returns-then-bytes-gt-LIMIT-clause-asks g c = asks_lost g.met.L.Link.since_itself c.args.db.now.linked.now session.NoMemory
 
 pub returns-clause-cause : goal.returns-clause-cause
-returns-clause-cause g c = later_answer no_more c.write_app.result c.write_app.ensures.asked c.write_app.ensures.answer
+returns-clause-cause g c = later_answer no_more c.write_app.result refl c.write_app.ensures.asked c.write_app.ensures.answer

@@ -19,6 +19,6 @@ returns-in-Err g c = record {
   answer = Err c.in-Err.field-0;
   stops = c.in-Err.ensures.stops;
   does = tt;
-  cause = later_said _ _ no_more (reply_at 0x2F c.in-Err.ensures.answer.reply) _ c.in-Err.ensures.answer.is c.in-Err.ensures.last;
+  cause = later_said 0x2F _ _ no_more (reply_at 0x2F c.in-Err.ensures.answer.reply) _ c.in-Err.ensures.answer.is c.in-Err.ensures.last;
   is = c.stopped.ensures;
 }

@@ -8,7 +8,6 @@ use Rattle.conduit_rules.specs.declared.view.Seen.{Seen}
 use Rattle.slow_mirror.specs.Entries.{AreBounded}
 use Rattle.fast_mirror.specs.Shells.{AreRead, IsRead}
 use Rattle.fast_mirror.proofs.ChangedLaws.{changed_all, changed_ends, changed_none, changed_on, changed_stop, changed_whole, read_more, shown_all}
-use Rattle.desktop_session.proofs.LastLaws.{last_by}
 use Rattle.fast_mirror.proofs.changed.read_changed.Goals as goal
 
 pub loop-request-init : goal.loop-request-init
@@ -90,7 +89,7 @@ returns-clause-seen g c =
 pub returns-in_err-entry-clause-last : goal.returns-in_err-entry-clause-last
 returns-in_err-entry-clause-last g c =
     let p = err_from_is_err_and c.from_residual.result c.from_residual.ensures.1 in
-    rw (p.1, p.2) (last_by _ c.in_err-entry.ensures.asked c.in_err-entry.ensures.cause)
+    rw (p.1, p.2) c.in_err-entry.ensures.last
 
 pub returns-in_err-push-clause-last : goal.returns-in_err-push-clause-last
 returns-in_err-push-clause-last g c =

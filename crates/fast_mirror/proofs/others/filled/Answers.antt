@@ -3,8 +3,6 @@ use Rattle.std.proofs.Common.{◌≡◌, ◌∙◌, ap, sym, false, rules}
 use Rattle.std.specs.Option.{option_copied}
 use Rattle.fast_mirror.specs.Shells.{waits}
 use Rattle.fast_mirror.proofs.FillLaws.{nothing_asked, read_asks, row_asks}
-use Rattle.std.proofs.lemmas.Result.{IfErr-weaker}
-use Rattle.desktop_session.proofs.LastLaws.{last_by}
 use Rattle.fast_mirror.proofs.others.filled.Goals as goal
 
 pub returns-then-not-matches-clause-asks : goal.returns-then-not-matches-clause-asks
@@ -22,7 +20,3 @@ pub returns-in-Some-clause-asks : goal.returns-in-Some-clause-asks
 returns-in-Some-clause-asks g c =
     nothing_asked g.met.L.Link.since_itself
     (row_asks c.args.base.now c.args.db.now.handle c.args.entry (sym c.row_of.ensures ∙ ap option_copied c.in-Some.is))
-
-pub returns-clause-last : goal.returns-clause-last
-returns-clause-last g c =
-    IfErr-weaker c.read_of.result _ _ (λ cause is. last_by cause c.read_of.ensures.asked is) c.read_of.ensures.cause

@@ -1,5 +1,5 @@
 -- The number of entries, and then the ids.
-use Rattle.std.proofs.Common.{◌∷◌, [], map}
+use Rattle.std.proofs.Common.{◌∷◌, [], map, refl}
 use Rattle.std.proofs.lemmas.Result.{err_from_is_err_and}
 use Rattle.desktop_session.specs.Acts.{text}
 use Rattle.desktop_session.specs.Lists.{id_listings, id_parts}
@@ -39,7 +39,7 @@ returns-clause-ids g c =
 pub returns-in_err-count-clause-last : goal.returns-in_err-count-clause-last
 returns-in_err-count-clause-last g c =
     let p = err_from_is_err_and c.from_residual.result c.from_residual.ensures.1 in
-    rw (p.1, p.2) (last_refused count_of _ c.in_err-count.ensures.asked c.in_err-count.ensures.answer)
+    rw (p.1, p.2) (last_refused count_of _ refl c.in_err-count.ensures.asked c.in_err-count.ensures.answer)
 
 pub returns-clause-last : goal.returns-clause-last
 returns-clause-last g c =

@@ -54,7 +54,7 @@ returns-in_err-sort-clause-asks g c =
     let counted = count_told (g.L.Link.talk old.link) handle first.reply (c.in_ok-count.ensures.asked.told from.0) from.1 in
     let count = c.in_ok-count.count in
     let app_asked = rw c.in_ok-count.ensures.same_handle at c.in_ok-app.ensures.asked in
-    let app = block_said (g.L.Link.fault c.read_app.new.self.linked.now.link) (reply_at 0x1B c.read_app.new.self.linked.now.reply) _ c.in_ok-app.ensures.answer in
+    let app = block_said 0x1B (g.L.Link.fault c.read_app.new.self.linked.now.link) (reply_at 0x1B c.read_app.new.self.linked.now.reply) _ c.in_ok-app.ensures.answer in
     let sort_asked = rw (c.in_ok-app.ensures.same_handle, c.in_ok-count.ensures.same_handle) at c.in_err-sort.ensures.asked in
     rw (p.1, p.2) (counted_asks of_resources handle count (g.L.Link.talk old.link) refl counted
     (asks_behind g.met.L.Link.since_more (counting handle) (reading_app handle ∷ reading_sort handle ∷ entry_reads of_resources handle count) from.0
@@ -73,9 +73,9 @@ returns-in_err-made-clause-asks g c =
     let counted = count_told (g.L.Link.talk old.link) handle first.reply (c.in_ok-count.ensures.asked.told from.0) from.1 in
     let count = c.in_ok-count.count in
     let app_asked = rw c.in_ok-count.ensures.same_handle at c.in_ok-app.ensures.asked in
-    let app = block_said (g.L.Link.fault c.read_app.new.self.linked.now.link) (reply_at 0x1B c.read_app.new.self.linked.now.reply) _ c.in_ok-app.ensures.answer in
+    let app = block_said 0x1B (g.L.Link.fault c.read_app.new.self.linked.now.link) (reply_at 0x1B c.read_app.new.self.linked.now.reply) _ c.in_ok-app.ensures.answer in
     let sort_asked = rw (c.in_ok-app.ensures.same_handle, c.in_ok-count.ensures.same_handle) at c.in_ok-sort.ensures.asked in
-    let sort = block_said (g.L.Link.fault c.read_sort.new.self.linked.now.link) (reply_at 0x1D c.read_sort.new.self.linked.now.reply) _ c.in_ok-sort.ensures.answer in
+    let sort = block_said 0x1D (g.L.Link.fault c.read_sort.new.self.linked.now.link) (reply_at 0x1D c.read_sort.new.self.linked.now.reply) _ c.in_ok-sort.ensures.answer in
     rw (p.1, p.2) (counted_asks of_resources handle count (g.L.Link.talk old.link) refl counted
     (asks_behind g.met.L.Link.since_more (counting handle) (reading_app handle ∷ reading_sort handle ∷ entry_reads of_resources handle count) from.0
     c.in_ok-count.ensures.asked
@@ -92,9 +92,9 @@ returns-clause-asks g c =
     let counted = count_told (g.L.Link.talk old.link) handle first.reply (c.in_ok-count.ensures.asked.told from.0) from.1 in
     let count = c.in_ok-count.count in
     let app_asked = rw c.in_ok-count.ensures.same_handle at c.in_ok-app.ensures.asked in
-    let app = block_said (g.L.Link.fault c.read_app.new.self.linked.now.link) (reply_at 0x1B c.read_app.new.self.linked.now.reply) _ c.in_ok-app.ensures.answer in
+    let app = block_said 0x1B (g.L.Link.fault c.read_app.new.self.linked.now.link) (reply_at 0x1B c.read_app.new.self.linked.now.reply) _ c.in_ok-app.ensures.answer in
     let sort_asked = rw (c.in_ok-app.ensures.same_handle, c.in_ok-count.ensures.same_handle) at c.in_ok-sort.ensures.asked in
-    let sort = block_said (g.L.Link.fault c.read_sort.new.self.linked.now.link) (reply_at 0x1D c.read_sort.new.self.linked.now.reply) _ c.in_ok-sort.ensures.answer in
+    let sort = block_said 0x1D (g.L.Link.fault c.read_sort.new.self.linked.now.link) (reply_at 0x1D c.read_sort.new.self.linked.now.reply) _ c.in_ok-sort.ensures.answer in
     let asks = rw (c.in_ok-sort.ensures.same_handle, c.in_ok-app.ensures.same_handle, c.in_ok-count.ensures.same_handle, c.in_ok-made.ensures.made) at
     c.read_entries.ensures.asks in
     counted_asks of_resources handle count (g.L.Link.talk old.link) refl counted
@@ -113,9 +113,9 @@ returns-clause-told g c =
     let counted = count_told (g.L.Link.talk old.link) handle first.reply (c.in_ok-count.ensures.asked.told from.0) from.1 in
     let count = c.in_ok-count.count in
     let app_asked = rw c.in_ok-count.ensures.same_handle at c.in_ok-app.ensures.asked in
-    let app = block_said (g.L.Link.fault c.read_app.new.self.linked.now.link) (reply_at 0x1B c.read_app.new.self.linked.now.reply) _ c.in_ok-app.ensures.answer in
+    let app = block_said 0x1B (g.L.Link.fault c.read_app.new.self.linked.now.link) (reply_at 0x1B c.read_app.new.self.linked.now.reply) _ c.in_ok-app.ensures.answer in
     let sort_asked = rw (c.in_ok-app.ensures.same_handle, c.in_ok-count.ensures.same_handle) at c.in_ok-sort.ensures.asked in
-    let sort = block_said (g.L.Link.fault c.read_sort.new.self.linked.now.link) (reply_at 0x1D c.read_sort.new.self.linked.now.reply) _ c.in_ok-sort.ensures.answer in
+    let sort = block_said 0x1D (g.L.Link.fault c.read_sort.new.self.linked.now.link) (reply_at 0x1D c.read_sort.new.self.linked.now.reply) _ c.in_ok-sort.ensures.answer in
     let second = c.read_app.new.self.linked.now in
     let third = c.read_sort.new.self.linked.now in
     let told = rw (c.in_ok-sort.ensures.same_handle, c.in_ok-app.ensures.same_handle, c.in_ok-count.ensures.same_handle, c.in_ok-made.ensures.made) at
@@ -140,7 +140,7 @@ returns-clause-told g c =
 pub returns-in_err-count-clause-cause : goal.returns-in_err-count-clause-cause
 returns-in_err-count-clause-cause g c =
     let p = err_from_is_err_and c.from_residual.result c.from_residual.ensures.1 in
-    rw (p.1, p.2) (later_refused count_of _ c.in_err-count.ensures.asked c.in_err-count.ensures.answer)
+    rw (p.1, p.2) (later_refused count_of _ refl c.in_err-count.ensures.asked c.in_err-count.ensures.answer)
 
 pub returns-in_err-app-clause-cause : goal.returns-in_err-app-clause-cause
 returns-in_err-app-clause-cause g c =

@@ -9,6 +9,7 @@ use Rattle.install_backup.proofs.AskWords.{all_at, put_asked}
 use Rattle.install_backup.proofs.EachAct.{each_none, each_on, each_stop}
 use Rattle.session_parts.proofs.CauseLaws.{later_refused}
 use Rattle.desktop_session.specs.Answers.{id_of}
+use Rattle.install_backup.proofs.LimitLaws.{other_said}
 use Rattle.install_backup.proofs.entries.put_records.Goals as goal
 
 pub loop-item-init : goal.loop-item-init
@@ -41,4 +42,9 @@ returns-in_err-put-clause-asks g c =
 pub returns-in_err-put-clause-cause : goal.returns-in_err-put-clause-cause
 returns-in_err-put-clause-cause g c =
     let p = err_from_is_err_and c.from_residual.result c.from_residual.ensures.1 in
-    rw (p.1, p.2) (later_refused id_of _ c.in_err-put.ensures.puts.asked c.in_err-put.ensures.answer)
+    rw (p.1, p.2) (later_refused id_of _ refl c.in_err-put.ensures.puts.asked c.in_err-put.ensures.answer)
+
+pub returns-in_err-put-clause-others : goal.returns-in_err-put-clause-others
+returns-in_err-put-clause-others g c =
+    let p = err_from_is_err_and c.from_residual.result c.from_residual.ensures.1 in
+    rw (p.1, p.2) (other_said 0x21 _ id_of _ _ refl c.in_err-put.ensures.answer)

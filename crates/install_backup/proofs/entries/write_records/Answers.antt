@@ -1,11 +1,12 @@
 -- Records are put, and count as unchanged then.
-use Rattle.std.proofs.Common.{[], ◌∷◌, map}
+use Rattle.std.proofs.Common.{[], ◌∷◌, map, refl}
 use Rattle.std.proofs.lemmas.Result.{err_from_is_err_and}
 use Rattle.session_parts.proofs.LinkWords.{resetting}
 use Rattle.slow_mirror.proofs.AskLaws.{all_said, asked_answer, asks_part, asks_then}
 use Rattle.install_backup.specs.InstallActs.{put_record}
 use Rattle.session_parts.proofs.CauseLaws.{later_answer}
 use Rattle.desktop_session.specs.Answers.{no_more}
+use Rattle.install_backup.proofs.LimitLaws.{other_said}
 use Rattle.install_backup.proofs.entries.write_records.Goals as goal
 
 pub returns-in_err-put_records-clause-asks : goal.returns-in_err-put_records-clause-asks
@@ -26,4 +27,7 @@ returns-clause-asks g c =
     (rw c.in_ok-put_records.ensures.same_handle at c.reset_flags.ensures.asked))
 
 pub returns-clause-cause : goal.returns-clause-cause
-returns-clause-cause g c = later_answer no_more c.reset_flags.result c.reset_flags.ensures.asked c.reset_flags.ensures.answer
+returns-clause-cause g c = later_answer no_more c.reset_flags.result refl c.reset_flags.ensures.asked c.reset_flags.ensures.answer
+
+pub returns-clause-others : goal.returns-clause-others
+returns-clause-others g c = other_said 0x27 _ no_more _ c.reset_flags.result refl c.reset_flags.ensures.answer

@@ -7,6 +7,7 @@ use Rattle.install_backup.specs.InstallActs.{put_resource}
 use Rattle.install_backup.proofs.EachAct.{each_none, each_on, each_stop}
 use Rattle.session_parts.proofs.CauseLaws.{later_refused}
 use Rattle.desktop_session.specs.Answers.{no_more}
+use Rattle.install_backup.proofs.LimitLaws.{other_said}
 use Rattle.install_backup.proofs.entries.write_resources.Goals as goal
 
 pub loop-resource-init : goal.loop-resource-init
@@ -39,4 +40,9 @@ returns-in_err-put_resource-clause-asks g c =
 pub returns-in_err-put_resource-clause-cause : goal.returns-in_err-put_resource-clause-cause
 returns-in_err-put_resource-clause-cause g c =
     let p = err_from_is_err_and c.from_residual.result c.from_residual.ensures.1 in
-    rw (p.1, p.2) (later_refused no_more _ c.in_err-put_resource.ensures.asked c.in_err-put_resource.ensures.answer)
+    rw (p.1, p.2) (later_refused no_more _ refl c.in_err-put_resource.ensures.asked c.in_err-put_resource.ensures.answer)
+
+pub returns-in_err-put_resource-clause-others : goal.returns-in_err-put_resource-clause-others
+returns-in_err-put_resource-clause-others g c =
+    let p = err_from_is_err_and c.from_residual.result c.from_residual.ensures.1 in
+    rw (p.1, p.2) (other_said 0x24 _ no_more _ _ refl c.in_err-put_resource.ensures.answer)

@@ -1,10 +1,11 @@
 -- No block, or one of no bytes, is not written.
-use Rattle.std.proofs.Common.{◌∙◌, sym}
+use Rattle.std.proofs.Common.{◌∙◌, sym, refl}
 use Rattle.std.proofs.lemmas.Bool.{eqb-true}
 use Rattle.desktop_session.specs.Requests.{writing_sort}
 use Rattle.install_backup.proofs.AskWords.{asks_none, block_none}
 use Rattle.session_parts.proofs.CauseLaws.{later_answer}
 use Rattle.session_parts.proofs.LinkWords.{no_more}
+use Rattle.install_backup.proofs.LimitLaws.{other_said}
 use Rattle.install_backup.proofs.entries.write_sort.Goals as goal
 
 pub returns-in_default-clause-asks : goal.returns-in_default-clause-asks
@@ -17,4 +18,7 @@ returns-then-is_empty-clause-asks g c =
     (asks_none g.met.L.Link.since_itself c.args.db.now.linked.now tt))
 
 pub returns-clause-cause : goal.returns-clause-cause
-returns-clause-cause g c = later_answer no_more c.write_sort.result c.write_sort.ensures.asked c.write_sort.ensures.answer
+returns-clause-cause g c = later_answer no_more c.write_sort.result refl c.write_sort.ensures.asked c.write_sort.ensures.answer
+
+pub returns-clause-others : goal.returns-clause-others
+returns-clause-others g c = other_said 0x1E _ no_more _ c.write_sort.result refl c.write_sort.ensures.answer

@@ -26,3 +26,8 @@ returns-clause-spans g c =
     ap (λ (head : DbHead). is_read_only head.attributes) (sym c.head-2.ensures.head) ∙ sym c.is_read_only.ensures ∙ c.if-is_read_only.false in
     was_installed c.args.database.now writable (c.copy-name.ensures ∙ ap (λ (head : DbHead). head.name) c.head.ensures.head)
     c.in_ok-count.ensures.room c.in_ok-count.ensures.spans
+
+pub returns-in_err-count-clause-within : goal.returns-in_err-count-clause-within
+returns-in_err-count-clause-within g c =
+    let p = err_from_is_err_and c.from_residual.result c.from_residual.ensures.1 in
+    rw p.1 c.in_err-count.ensures.within

@@ -12,7 +12,7 @@ returns-in-Ok-finish-clause-went g c =
 pub returns-in-Ok-clause-went : goal.returns-in-Ok-clause-went
 returns-in-Ok-clause-went g c =
     rw (← c.deref.ensures.value) (met_unended c.in-Err-finish.field-0.link c.in-Ok.ensures.keeps c.in-Err-finish.ensures.stops
-    (later_said _ _ no_more (reply_at 0x2F c.in-Err-finish.ensures.answer.reply) _ c.in-Err-finish.ensures.answer.is c.in-Err-finish.ensures.last))
+    (later_said 0x2F _ _ no_more (reply_at 0x2F c.in-Err-finish.ensures.answer.reply) _ c.in-Err-finish.ensures.answer.is c.in-Err-finish.ensures.last))
 
 pub returns-clause-went : goal.returns-clause-went
 returns-clause-went g c = rw (← c.deref.ensures.value, c.link_of.ensures) (met_stopped c.in-Err.ensures.keeps)

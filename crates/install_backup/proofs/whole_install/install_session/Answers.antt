@@ -8,4 +8,4 @@ returns-in-Ok-clause-ends g c = λ told is rests bounded.
 
 pub returns-in-Err-clause-ends : goal.returns-in-Err-clause-ends
 returns-in-Err-clause-ends g c = λ told is rests bounded.
-    rw c.stopped.ensures (ungreeted_ends g.met.L.Link.since_more is rests bounded c.in-Err.ensures.stops c.in-Err.ensures.cause)
+    rw c.stopped.ensures (ungreeted_ends g.met.L.Link.since_more is rests bounded c.in-Err.ensures.stops c.in-Err.ensures.cause c.in-Err.ensures.others)

@@ -5,7 +5,6 @@ use Rattle.std.proofs.lemmas.Result.{err_from_is_err_and}
 use Rattle.conduit_rules.specs.ById.{id_bound}
 use Rattle.conduit_rules.specs.declared.view.Seen.{Seen}
 use Rattle.slow_mirror.proofs.ReadLaws.{read_none, read_on, read_part, read_stop, seen_begin, seen_grows}
-use Rattle.desktop_session.proofs.LastLaws.{last_by}
 use Rattle.slow_mirror.proofs.reading.read_all.Goals as goal
 
 pub loop-index-init : goal.loop-index-init
@@ -61,7 +60,7 @@ returns-in_err-push-clause-asks g c =
 pub returns-in_err-entry-clause-last : goal.returns-in_err-entry-clause-last
 returns-in_err-entry-clause-last g c =
     let p = err_from_is_err_and c.from_residual.result c.from_residual.ensures.1 in
-    rw (p.1, p.2) (last_by _ c.in_err-entry.ensures.asked c.in_err-entry.ensures.cause)
+    rw (p.1, p.2) c.in_err-entry.ensures.last
 
 pub returns-in_err-push-clause-last : goal.returns-in_err-push-clause-last
 returns-in_err-push-clause-last g c =

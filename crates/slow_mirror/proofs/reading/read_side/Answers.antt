@@ -1,4 +1,5 @@
 -- The number of entries, and then each record.
+use Rattle.std.proofs.Common.{refl}
 use Rattle.std.proofs.lemmas.Result.{err_from_is_err_and}
 use Rattle.dlp_replies.specs.ReplyReading.{reply_at}
 use Rattle.desktop_session.specs.Requests.{counting}
@@ -60,4 +61,4 @@ returns-clause-view g c =
 pub returns-in_err-count-clause-last : goal.returns-in_err-count-clause-last
 returns-in_err-count-clause-last g c =
     let p = err_from_is_err_and c.from_residual.result c.from_residual.ensures.1 in
-    rw (p.1, p.2) (last_refused count_of _ c.in_err-count.ensures.asked c.in_err-count.ensures.answer)
+    rw (p.1, p.2) (last_refused count_of _ refl c.in_err-count.ensures.asked c.in_err-count.ensures.answer)

@@ -37,7 +37,7 @@ returns-in_err-id-clause-puts g c =
     (λ given ids. ids.items ≡ given)
     _ before.handle c.new_id.ensures
     (split_at c.args.contents.now c.loop-content.content-index c.content-item.result c.loop-content-test.true c.content-item.is) before.puts
-    c.in_err-id.ensures.puts (cause_by id_of _ _ (sym c.in_err-id.ensures.answer)))
+    c.in_err-id.ensures.puts (cause_by 0x21 id_of _ _ (sym c.in_err-id.ensures.answer)))
 
 pub returns-in_err-push-clause-puts : goal.returns-in_err-push-clause-puts
 returns-in_err-push-clause-puts g c =
@@ -57,7 +57,7 @@ returns-in_err-push-clause-puts g c =
 pub returns-in_err-id-clause-last : goal.returns-in_err-id-clause-last
 returns-in_err-id-clause-last g c =
     let p = err_from_is_err_and c.from_residual.result c.from_residual.ensures.1 in
-    rw (p.1, p.2) (last_refused id_of _ c.in_err-id.ensures.puts.asked c.in_err-id.ensures.answer)
+    rw (p.1, p.2) (last_refused id_of _ refl c.in_err-id.ensures.puts.asked c.in_err-id.ensures.answer)
 
 pub returns-in_err-push-clause-last : goal.returns-in_err-push-clause-last
 returns-in_err-push-clause-last g c =

@@ -1,4 +1,5 @@
 -- The purges, and then the records with the delete bit and the flags.
+use Rattle.std.proofs.Common.{refl}
 use Rattle.std.proofs.lemmas.Result.{err_from_is_err_and}
 use Rattle.dlp_replies.specs.ReplyReading.{reply_at}
 use Rattle.desktop_session.specs.Answers.{no_more}
@@ -33,13 +34,13 @@ returns-clause-asks g c =
 pub returns-clause-cause : goal.returns-clause-cause
 returns-clause-cause g c =
     let last = c.reset_flags.new.self.linked.now in
-    last_cause (HasCause (g.L.Link.fault last.link) (reply_at 0x22 last.reply)) (HasCause (g.L.Link.fault last.link) (reply_at 0x26 last.reply)) no_more
+    last_cause 0x27 (HasCause (g.L.Link.fault last.link) (reply_at 0x22 last.reply)) (HasCause (g.L.Link.fault last.link) (reply_at 0x26 last.reply)) no_more
     (g.L.Link.fault last.link) (reply_at 0x27 last.reply) c.reset_flags.result c.reset_flags.ensures.answer
 
 pub returns-in_err-clean_up-clause-last : goal.returns-in_err-clean_up-clause-last
 returns-in_err-clean_up-clause-last g c =
     let p = err_from_is_err_and c.from_residual-in_err-clean_up.result c.from_residual-in_err-clean_up.ensures.1 in
-    rw (p.1, p.2) (last_refused no_more _ c.in_err-clean_up.ensures.asked c.in_err-clean_up.ensures.answer)
+    rw (p.1, p.2) (last_refused no_more _ refl c.in_err-clean_up.ensures.asked c.in_err-clean_up.ensures.answer)
 
 pub returns-clause-last : goal.returns-clause-last
-returns-clause-last g c = last_answered no_more c.reset_flags.result c.reset_flags.ensures.asked c.reset_flags.ensures.answer
+returns-clause-last g c = last_answered no_more c.reset_flags.result refl c.reset_flags.ensures.asked c.reset_flags.ensures.answer

@@ -35,7 +35,7 @@ returns-in_err-put-clause-puts g c =
     (λ given done. Unit {0})
     _ before.handle
     (split_at c.args.entries.now c.loop-entry.entry-index c.entry-item.result c.loop-entry-test.true c.entry-item.is) before.puts
-    c.in_err-put.ensures.puts (cause_by id_of _ _ (sym c.in_err-put.ensures.answer)))
+    c.in_err-put.ensures.puts (cause_by 0x21 id_of _ _ (sym c.in_err-put.ensures.answer)))
 
 pub returns-clause-puts : goal.returns-clause-puts
 returns-clause-puts g c =
@@ -45,4 +45,4 @@ returns-clause-puts g c =
 pub returns-in_err-put-clause-last : goal.returns-in_err-put-clause-last
 returns-in_err-put-clause-last g c =
     let p = err_from_is_err_and c.from_residual.result c.from_residual.ensures.1 in
-    rw (p.1, p.2) (last_refused id_of _ c.in_err-put.ensures.puts.asked c.in_err-put.ensures.answer)
+    rw (p.1, p.2) (last_refused id_of _ refl c.in_err-put.ensures.puts.asked c.in_err-put.ensures.answer)

@@ -1,4 +1,5 @@
 -- The mark, and then the news.
+use Rattle.std.proofs.Common.{refl}
 use Rattle.std.proofs.lemmas.Result.{err_from_is_err_and}
 use Rattle.dlp_replies.specs.ReplyReading.{reply_at}
 use Rattle.desktop_session.specs.Answers.{no_more}
@@ -12,7 +13,7 @@ returns-in_err-begin g c =
     let p = err_from_is_err_and c.from_residual.result c.from_residual.ensures.1 in
     record {
       sends = rw (p.1, p.2) (behind_none c.in_err-begin.ensures.asked
-          (later_refused no_more _ c.in_err-begin.ensures.asked c.in_err-begin.ensures.answer));
+          (later_refused no_more _ refl c.in_err-begin.ensures.asked c.in_err-begin.ensures.answer));
     }
 
 pub returns : goal.returns

@@ -1,5 +1,5 @@
 -- Two requests.
-use Rattle.std.proofs.Common.{[], ◌∷◌}
+use Rattle.std.proofs.Common.{[], ◌∷◌, refl}
 use Rattle.dlp_replies.specs.ReplyReading.{reply_at}
 use Rattle.session_parts.proofs.LinkWords.{text, no_more, said_in, ending}
 use Rattle.desktop_session.proofs.GreetLaws.{no_fault_said}
@@ -11,13 +11,13 @@ use Rattle.sync_session.proofs.marking.finish.Goals as goal
 pub returns-in-Ok-clause-stops : goal.returns-in-Ok-clause-stops
 returns-in-Ok-clause-stops g c =
     let asked = rw (c.done_user-user.ensures, c.user.ensures) at c.in-Ok.ensures.asked in
-    let none = no_fault_said _ (said_in no_more (reply_at 0x11 c.mark.new.self.reply)) c.in-Ok.field-0 c.in-Ok.ensures.answer in
+    let none = no_fault_said _ (said_in 0x11 no_more (reply_at 0x11 c.mark.new.self.reply)) c.in-Ok.field-0 c.in-Ok.ensures.answer in
     stops_then _ _ _ _ g.met.L.Link.since_more _ (text ending ∷ []) _ _ _ (asked.does none) asked.stops c.finish.ensures.stops
 
 pub returns-in-Ok-clause-does : goal.returns-in-Ok-clause-does
 returns-in-Ok-clause-does g c =
     let asked = rw (c.done_user-user.ensures, c.user.ensures) at c.in-Ok.ensures.asked in
-    let none = no_fault_said _ (said_in no_more (reply_at 0x11 c.mark.new.self.reply)) c.in-Ok.field-0 c.in-Ok.ensures.answer in
+    let none = no_fault_said _ (said_in 0x11 no_more (reply_at 0x11 c.mark.new.self.reply)) c.in-Ok.field-0 c.in-Ok.ensures.answer in
     does_before (ending ∷ []) c.finish.result (asked.does none) c.finish.ensures.does
 
 pub returns-in-Err-clause-stops : goal.returns-in-Err-clause-stops
@@ -27,8 +27,8 @@ returns-in-Err-clause-stops g c =
 
 pub returns-in-Ok-clause-cause : goal.returns-in-Ok-clause-cause
 returns-in-Ok-clause-cause g c =
-    later_ended g.L.Link.talk g.L.Link.fault (reply_at 0x2F c.finish.ensures.answer.reply) c.finish.result c.finish.ensures.answer.is c.finish.ensures.last
+    later_ended 0x2F g.L.Link.talk g.L.Link.fault (reply_at 0x2F c.finish.ensures.answer.reply) c.finish.result c.finish.ensures.answer.is c.finish.ensures.last
 
 pub returns-in-Err-clause-cause : goal.returns-in-Err-clause-cause
 returns-in-Err-clause-cause g c =
-    rw (c.halt.ensures.link, c.halt.ensures.cause) (later_refused no_more _ c.in-Err.ensures.asked c.in-Err.ensures.answer)
+    rw (c.halt.ensures.link, c.halt.ensures.cause) (later_refused no_more _ refl c.in-Err.ensures.asked c.in-Err.ensures.answer)

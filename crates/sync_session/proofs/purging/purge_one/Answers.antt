@@ -11,7 +11,7 @@ use Rattle.sync_session.proofs.purging.purge_one.Goals as goal
 pub returns-in_err-opened : goal.returns-in_err-opened
 returns-in_err-opened g c =
     let p = err_from_is_err_and c.from_residual.result c.from_residual.ensures.1 in
-    record { spans = rw (p.1, p.2) (span_unopened 0x17 _ _ refl c.in_err-opened.was c.open.follows.holds-at-none) }
+    record { spans = rw (p.1, p.2) (span_unopened 0x17 _ _ refl refl c.in_err-opened.was c.open.follows.holds-at-none) }
 
 pub returns-in-Err : goal.returns-in-Err
 returns-in-Err g c =
@@ -28,5 +28,5 @@ returns g c =
     let closed = c.close.ensures in
     record {
       spans = span_closed g.met.L.Link.since_more _ [] _ opened c.in-Ok.ensures.asks c.in-Ok.ensures.same_handle closed.asked closed.answer
-          (later_answer no_more c.close.result closed.asked closed.answer) (any_answer c.close.result) (search rules);
+          (later_answer no_more c.close.result refl closed.asked closed.answer) (any_answer c.close.result) (search rules);
     }

@@ -10,7 +10,7 @@ use Rattle.sync_session.proofs.reading.read_changed.Goals as goal
 pub returns-in_err-opened : goal.returns-in_err-opened
 returns-in_err-opened g c =
     let p = err_from_is_err_and c.from_residual.result c.from_residual.ensures.1 in
-    record { spans = rw (p.1, p.2) (span_unopened 0x17 _ _ refl c.in_err-opened.was c.open.follows.holds-at-none) }
+    record { spans = rw (p.1, p.2) (span_unopened 0x17 _ _ refl refl c.in_err-opened.was c.open.follows.holds-at-none) }
 
 pub returns-in-Err : goal.returns-in-Err
 returns-in-Err g c =

@@ -31,6 +31,6 @@ returns-in-Err-clause-stops g c =
 
 pub returns-in-Err-clause-asked : goal.returns-in-Err-clause-asked
 returns-in-Err-clause-asked g c fixed =
-    asked_failed
+    asked_failed c.requires
     (some_fault _ (g.L.Link.fault c.self.inside.link) c.in-Err.fault c.in-Err.ensures.fault c.in-Err.ensures.stays)
     (returns-in-Err-clause-stops g c) (search rules) (search rules)

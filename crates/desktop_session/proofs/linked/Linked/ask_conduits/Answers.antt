@@ -6,5 +6,5 @@ use Rattle.desktop_session.proofs.linked.Linked.ask_conduits.Goals as goal
 
 pub returns-clause-last : goal.returns-clause-last
 returns-clause-last g c =
-    last_said no_more c.done_in.result (c.in_ok-ask.ensures.asked refl) c.in_ok-ask.ensures.fault
-    (c.done_in.ensures ∙ ap (λ bytes. said_in no_more (reply_at 0x2E bytes)) c.reply.ensures)
+    last_said no_more c.done_in.result refl (c.in_ok-ask.ensures.asked refl) c.in_ok-ask.ensures.fault
+    (c.done_in.ensures ∙ ap (λ bytes. said_in 0x2E no_more (reply_at 0x2E bytes)) c.reply.ensures)

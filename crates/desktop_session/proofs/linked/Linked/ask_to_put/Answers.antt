@@ -24,4 +24,4 @@ returns-clause-puts g c =
       user = c.in_ok-ask.ensures.rest.0;
       abandoned = c.in_ok-ask.ensures.rest.1;
     })
-    (c.id_in.ensures ∙ ap (λ (bytes : List ℕ). said_in id_of (reply_at 0x21 bytes)) c.reply.ensures)
+    (c.id_in.ensures ∙ ap (λ (bytes : List ℕ). said_in 0x21 id_of (reply_at 0x21 bytes)) c.reply.ensures)

@@ -37,7 +37,7 @@ returns-clause-unseated g c =
 
 pub returns-in_err-ask_conduits-clause-stops : goal.returns-in_err-ask_conduits-clause-stops
 returns-in_err-ask_conduits-clause-stops g c =
-    let none = no_fault_said (g.L.Link.fault c.ask_user.new.self.link) (user_by c.args.users.now c.args.add (said_in user_of
+    let none = no_fault_said (g.L.Link.fault c.ask_user.new.self.link) (user_by c.args.users.now c.args.add (said_in 0x10 user_of
     (reply_at 0x10 c.ask_user.new.self.reply))) c.in_ok-user.user c.in_ok-user.ensures.answer in
     stops_then g.L.Link.talk g.L.Link.since g.L.Link.fault g.L.Link.downs g.met.L.Link.since_more (reading_user ∷ []) (text beginning ∷ [])
     c.args.self.now.link c.ask_user.new.self.link c.ask_conduits.new.self.link (c.in_ok-user.ensures.asked.does none) c.in_ok-user.ensures.asked.stops
@@ -53,7 +53,7 @@ returns-in_err-ask_conduits-clause-greeted g c =
 
 pub returns-clause-stops : goal.returns-clause-stops
 returns-clause-stops g c =
-    let none = no_fault_said (g.L.Link.fault c.ask_user.new.self.link) (user_by c.args.users.now c.args.add (said_in user_of
+    let none = no_fault_said (g.L.Link.fault c.ask_user.new.self.link) (user_by c.args.users.now c.args.add (said_in 0x10 user_of
     (reply_at 0x10 c.ask_user.new.self.reply))) c.in_ok-user.user c.in_ok-user.ensures.answer in
     stops_then g.L.Link.talk g.L.Link.since g.L.Link.fault g.L.Link.downs g.met.L.Link.since_more (reading_user ∷ []) (text beginning ∷ [])
     c.args.self.now.link c.ask_user.new.self.link c.ask_conduits.new.self.link (c.in_ok-user.ensures.asked.does none) c.in_ok-user.ensures.asked.stops
@@ -61,9 +61,9 @@ returns-clause-stops g c =
 
 pub returns-clause-does : goal.returns-clause-does
 returns-clause-does g c =
-    let none = no_fault_said (g.L.Link.fault c.ask_user.new.self.link) (user_by c.args.users.now c.args.add (said_in user_of
+    let none = no_fault_said (g.L.Link.fault c.ask_user.new.self.link) (user_by c.args.users.now c.args.add (said_in 0x10 user_of
     (reply_at 0x10 c.ask_user.new.self.reply))) c.in_ok-user.user c.in_ok-user.ensures.answer in
-    let clear = no_fault_said (g.L.Link.fault c.ask_conduits.new.self.link) (said_in no_more
+    let clear = no_fault_said (g.L.Link.fault c.ask_conduits.new.self.link) (said_in 0x2E no_more
     (reply_at 0x2E c.ask_conduits.new.self.reply)) tt c.in_ok-ask_conduits.ensures.answer in
     does_then g.L.Link.talk (reading_user ∷ []) (beginning ∷ []) c.args.self.now.link c.ask_user.new.self.link c.ask_conduits.new.self.link
     (c.in_ok-user.ensures.asked.does none) (c.in_ok-ask_conduits.ensures.asked.does clear)

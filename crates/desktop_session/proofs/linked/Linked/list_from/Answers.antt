@@ -9,3 +9,4 @@ pub returns-clause-last : goal.returns-clause-last
 returns-clause-last g c =
     last_caused c.add_heads.result (c.in_ok-ask.ensures.asked refl) c.in_ok-ask.ensures.fault
     (subst (λ bytes. IfErr c.add_heads.result (HasCause None (reply_at 0x16 bytes))) c.reply.ensures c.add_heads.ensures.cause)
+    c.add_heads.ensures.function (λ may. c.add_heads.ensures.others)
