@@ -1,14 +1,15 @@
 -- An archive, entry by entry.
-use Rattle.std.proofs.Common.{◌≡◌, ◌∙◌, ◌<◌, ◌+◌, ap, refl, sym, ℕ, Bool, true, false, List, [], ◌∷◌, ◌++◌, map, take, length, get_or, append_assoc}
+use Rattle.std.proofs.Common.{◌≡◌, ◌∙◌, ◌<◌, ◌+◌, ap, refl, sym, subst, ℕ, Bool, true, false, List, [], ◌∷◌, ◌++◌, map, take, length, get_or, append_assoc}
 use Rattle.std.proofs.lemmas.List.{append-nil, map-append}
-use Rattle.std.specs.Prelude.{◌||◌, ◌&&◌, ◌==◌, if◌then◌else◌}
-use Rattle.std.specs.List.{list_any}
+use Rattle.std.specs.Prelude.{◌||◌, ◌&&◌, ◌==◌, if◌then◌else◌, cond, not}
+use Rattle.std.specs.HashSet.{HashSet, contains}
 use Rattle.pdb_values.specs.Contents.{ContentValue}
 use Rattle.pdb_values.specs.declared.record.Record.{Record}
 use Rattle.conduit_rules.specs.Contents.{same_content}
 use Rattle.record_merge.specs.Merging.{is_archived, one_copy_behind, settled_record}
 use Rattle.slow_mirror.proofs.NewsLaws.{split_at}
-use Rattle.session_plan.specs.Archives.{archive_records, entries_of, with_entries, with_entry}
+use Rattle.session_plan.specs.Archives.{Notes, archive_records, entries_of, entry_at, same_entry, with_entries, with_entry}
+use Rattle.session_plan.specs.declared.archive.EntryKey.{EntryKey}
 
 or_later : (a b c : Bool) → (a || (b || c)) ≡ (b || (a || c))
 or_later true true c = refl
@@ -16,16 +17,56 @@ or_later true false c = refl
 or_later false true c = refl
 or_later false false c = refl
 
-pub stands_among : (id : ℕ) (content : ContentValue) (archive : List Record)
-    → list_any (λ (entry : Record). (entry.id == id) && same_content entry.content content) archive ≡ is_archived (id, content) (entries_of archive)
-stands_among id content [] = refl
-stands_among id content (r ∷ archive) = ap (λ b. ((r.id == id) && same_content r.content content) || b) (stands_among id content archive)
-
 -- what was put last stands there too
 is_archived-push : (e x : ℕ × ContentValue) (es : List (ℕ × ContentValue)) → is_archived e (es ++ x ∷ []) ≡ is_archived e (x ∷ es)
 is_archived-push e x [] = refl
 is_archived-push e x (y ∷ es) = ap (λ b. ((y.0 == e.0) && same_content y.1 e.1) || b) (is_archived-push e x es)
     ∙ or_later ((y.0 == e.0) && same_content y.1 e.1) ((x.0 == e.0) && same_content x.1 e.1) (is_archived e es)
+
+flipped : {A : Type 0} (b : Bool) (x y : A) → (if not b then x else y) ≡ (if b then y else x)
+flipped true x y = refl
+flipped false x y = refl
+
+or-cond : (b c : Bool) → cond b true c ≡ (b || c)
+or-cond true c = refl
+or-cond false c = refl
+
+-- a set that got an entry's key has the keys of one entry more
+noted_behind : {S : Type 0} (seen new : HashSet EntryKey S) (key : EntryKey) (kept : List Record) → Notes seen kept
+    → ((q : EntryKey) → contains same_entry new q ≡ cond (same_entry key q) true (contains same_entry seen q))
+    → Notes new (kept ++ settled_record (entry_at key) ∷ [])
+noted_behind seen new key kept notes more q =
+    more q ∙ or-cond (same_entry key q) (contains same_entry seen q) ∙ ap (λ b. same_entry key q || b) (notes q)
+    ∙ sym (is_archived-push (entry_at q) (entry_at key) (entries_of kept))
+    ∙ ap (is_archived (entry_at q)) (sym (map-append (λ (r : Record). (r.id, r.content)) kept (settled_record (entry_at key) ∷ [])))
+
+-- and so where the record is told
+pub noted_more : {S : Type 0} (seen new : HashSet EntryKey S) (key : EntryKey) (e : ℕ × ContentValue) (kept longer : List Record) (r : Record)
+    → entry_at key ≡ e → r ≡ settled_record e → longer ≡ kept ++ r ∷ [] → Notes seen kept
+    → ((q : EntryKey) → contains same_entry new q ≡ cond (same_entry key q) true (contains same_entry seen q))
+    → Notes new longer
+noted_more seen new key e kept longer r at is pushed notes more =
+    subst (Notes new) (sym (pushed ∙ ap (λ x. kept ++ x ∷ []) (is ∙ ap settled_record (sym at)))) (noted_behind seen new key kept notes more)
+
+-- whether an entry is put, by whether its key is new
+by_key : (e : ℕ × ContentValue) (kept : List Record) (new : Bool) → new ≡ not (is_archived e (entries_of kept))
+    → (if new then kept ++ settled_record e ∷ [] else kept) ≡ with_entry e kept
+by_key e kept new is = rw is (flipped (is_archived e (entries_of kept)) (kept ++ settled_record e ∷ []) kept)
+
+-- an entry whose key is new stands there not yet
+pub put_new_entry : {S : Type 0} (seen : HashSet EntryKey S) (key : EntryKey) (e : ℕ × ContentValue) (kept longer : List Record) (r : Record) (new : Bool)
+    → entry_at key ≡ e → r ≡ settled_record e → longer ≡ kept ++ r ∷ [] → Notes seen kept
+    → new ≡ not (contains same_entry seen key) → new ≡ true → longer ≡ with_entry e kept
+put_new_entry seen key e kept longer r new at is pushed notes told is_new =
+    pushed ∙ ap (λ x. kept ++ x ∷ []) is ∙ ap (λ b. if b then kept ++ settled_record e ∷ [] else kept) (sym is_new)
+    ∙ by_key e kept new (told ∙ ap not (notes key ∙ ap (λ x. is_archived x (entries_of kept)) at))
+
+-- one whose key is not new stands there
+pub put_known_entry : {S : Type 0} (seen : HashSet EntryKey S) (key : EntryKey) (e : ℕ × ContentValue) (kept : List Record) (new : Bool)
+    → entry_at key ≡ e → Notes seen kept → new ≡ not (contains same_entry seen key) → new ≡ false → kept ≡ with_entry e kept
+put_known_entry seen key e kept new at notes told is_old =
+    ap (λ b. if b then kept ++ settled_record e ∷ [] else kept) (sym is_old)
+    ∙ by_key e kept new (told ∙ ap not (notes key ∙ ap (λ x. is_archived x (entries_of kept)) at))
 
 entries-records : (es : List (ℕ × ContentValue)) → entries_of (archive_records es) ≡ es
 entries-records [] = refl

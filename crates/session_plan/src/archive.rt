@@ -1,13 +1,12 @@
 // The archive of a database.
-ghost use Rattle.std.specs.Prelude.{◌≡◌, ◌==◌, ◌&&◌, ◌++◌, [], IfOk, OnOk};
-ghost use Rattle.std.specs.List.{list_any};
-ghost use Rattle.pdb_values.specs.declared.record.Record.{Record as Entry};
-ghost use Rattle.record_merge.specs.Merging.{is_archived as stands_in, one_copy_behind, settled_record};
+ghost use Rattle.std.specs.Prelude.{◌≡◌, ◌++◌, [], IfOk, OnOk};
+ghost use Rattle.record_merge.specs.Merging.{one_copy_behind, settled_record};
 ghost use Rattle.conduit_rules.specs.Contents.{same_content};
 ghost use Rattle.session_plan.specs.Archives as archives;
 
 use pdb_values::{Content, Record, RecordId};
 use std::alloc::{AllocError, Global};
+use std::collections::HashSet;
 
 // Whether two contents are equal.
 #[tactic(auto, unfolding(conduit_rules::specs::Contents::same_content))]
@@ -19,26 +18,25 @@ pub(crate) fn is_same(one: &Content, other: &Content) -> bool
         && one.bytes() == other.bytes()
 }
 
-// Whether an entry has this id and this content.
-fn is_entry(entry: &Record, id: RecordId, content: &Content) -> bool
-    ensures { result ≡ ((entry.now.id == id) && same_content entry.now.content content.now) }
-{
-    entry.id == id && is_same(&entry.content, content)
+// What tells the entries of an archive apart.
+#[derive(Clone, Copy, PartialEq, Eq, Hash, Drop)]
+struct EntryKey<'e> {
+    id: u32,
+    category: u8,
+    secret: bool,
+    bytes: &'e [u8],
 }
 
-// Whether an entry stands among these.
-fn stands_among(archive: &[Record], id: RecordId, content: &Content) -> bool
-    ensures { result ≡ list_any (λ (entry : Entry). (entry.id == id)
-        && same_content entry.content content.now) archive.now }
+// The key of an entry.
+fn key_of<'e>(id: RecordId, content: &'e Content) -> EntryKey<'e>
+    ensures { archives.entry_at result ≡ (id, content.now) }
 {
-    archive.iter().any(|entry| is_entry(entry, id, content))
-}
-
-// Whether an entry stands in an archive.
-fn is_archived(archive: &[Record], id: RecordId, content: &Content) -> bool
-    ensures { result ≡ stands_in (id, content.now) (archives.entries_of archive.now) }
-{
-    stands_among(archive, id, content)
+    EntryKey {
+        id: id.number(),
+        category: content.category().number(),
+        secret: content.secret(),
+        bytes: content.bytes(),
+    }
 }
 
 /// A live and clean record of an id and a content.
@@ -55,44 +53,55 @@ pub fn settled(alloc: Global, id: RecordId, content: &Content) -> Result<Record,
 }
 
 // Puts an entry behind the others, unless it is there.
-fn put_entry(
+fn put_entry<'e>(
     alloc: Global,
     archive: &mut Vec<Record>,
+    seen: &mut HashSet<EntryKey<'e>>,
     id: RecordId,
-    content: &Content,
+    content: &'e Content,
 ) -> Result<(), AllocError>
-    ensures { OnOk result (archive.new.items
+    requires { archives.Notes seen.old archive.old.items }
+    ensures notes { OnOk result (archives.Notes seen.new archive.new.items) }
+    ensures entry { OnOk result (archive.new.items
         ≡ archives.with_entry (id, content.now) archive.old.items) }
 {
-    if is_archived(archive, id, content) {
-        return Ok(());
+    if seen.insert(key_of(id, content))? {
+        archive.push(settled(alloc, id, content)?)?;
     }
-    archive.push(settled(alloc, id, content)?)?;
     Ok(())
 }
 
 // Puts the entries of an archive behind others.
-fn put_old(alloc: Global, archive: &mut Vec<Record>, old: &[Record]) -> Result<(), AllocError>
-    ensures { OnOk result (archive.new.items
+fn put_old<'e>(
+    alloc: Global,
+    archive: &mut Vec<Record>,
+    seen: &mut HashSet<EntryKey<'e>>,
+    old: &'e [Record],
+) -> Result<(), AllocError>
+    requires { archives.Notes seen.old archive.old.items }
+    ensures notes { OnOk result (archives.Notes seen.new archive.new.items) }
+    ensures entries { OnOk result (archive.new.items
         ≡ archives.with_entries (archives.entries_of old.now) archive.old.items) }
 {
     for entry in old {
-        put_entry(alloc, archive, entry.id, &entry.content)?;
+        put_entry(alloc, archive, seen, entry.id, &entry.content)?;
     }
     Ok(())
 }
 
 // Puts new entries behind others.
-fn put_new(
+fn put_new<'e>(
     alloc: Global,
     archive: &mut Vec<Record>,
-    new: &[(RecordId, Content)],
+    seen: &mut HashSet<EntryKey<'e>>,
+    new: &'e [(RecordId, Content)],
 ) -> Result<(), AllocError>
+    requires { archives.Notes seen.old archive.old.items }
     ensures { OnOk result (archive.new.items
         ≡ archives.with_entries new.now archive.old.items) }
 {
     for entry in new {
-        put_entry(alloc, archive, entry.0, &entry.1)?;
+        put_entry(alloc, archive, seen, entry.0, &entry.1)?;
     }
     Ok(())
 }
@@ -108,7 +117,8 @@ pub fn merged_archive(
         (one_copy_behind [] (archives.entries_of old.now ++ new.now))) }
 {
     let mut archive = Vec::new(alloc);
-    put_old(alloc, &mut archive, old)?;
-    put_new(alloc, &mut archive, new)?;
+    let mut seen = HashSet::new(alloc);
+    put_old(alloc, &mut archive, &mut seen, old)?;
+    put_new(alloc, &mut archive, &mut seen, new)?;
     Ok(archive)
 }
