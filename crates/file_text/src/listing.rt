@@ -1,10 +1,10 @@
 // All lines of a database.
 ghost use Rattle.std.specs.Prelude.{◌≡◌, ◌++◌, IfOk, OnOk, string_bytes};
 ghost use Rattle.file_text.specs.Heads.{head_lines as lines_of_head};
-ghost use Rattle.file_text.specs.Entries.{entry_lines};
-ghost use Rattle.file_text.specs.Listings.{show_text};
+ghost use Rattle.file_text.specs.Entries.{entry_lines, full_entry_lines};
+ghost use Rattle.file_text.specs.Listings.{full_text as text_in_full, show_text};
 
-use crate::entries::{push_records, push_resources};
+use crate::entries::{push_full_records, push_full_resources, push_records, push_resources};
 use crate::head::{name_line, push_blocks_line, push_dates_line, push_type_line};
 use pdb_values::{Database, DbHead};
 use std::alloc::{AllocError, Global};
@@ -16,6 +16,16 @@ pub fn show_text(alloc: Global, database: &Database) -> Result<String, AllocErro
     let mut text = head_lines(alloc, database.head())?;
     push_blocks_line(&mut text, database)?;
     push_entries(alloc, &mut text, database)?;
+    Ok(text)
+}
+
+/// The same lines, those of its entries with their bytes.
+pub fn full_text(alloc: Global, database: &Database) -> Result<String, AllocError>
+    ensures { IfOk result (λ text. string_bytes text ≡ text_in_full database.now) }
+{
+    let mut text = head_lines(alloc, database.head())?;
+    push_blocks_line(&mut text, database)?;
+    push_full_entries(alloc, &mut text, database)?;
     Ok(text)
 }
 
@@ -38,5 +48,21 @@ fn push_entries(alloc: Global, text: &mut String, database: &Database) -> Result
         push_resources(alloc, text, database.resources())
     } else {
         push_records(alloc, text, database.records())
+    }
+}
+
+// Appends the lines of the entries with their bytes.
+fn push_full_entries(
+    alloc: Global,
+    text: &mut String,
+    database: &Database,
+) -> Result<(), AllocError>
+    ensures { OnOk result (
+        string_bytes text.new ≡ string_bytes text.old ++ full_entry_lines database.now) }
+{
+    if database.head().holds_resources() {
+        push_full_resources(alloc, text, database.resources())
+    } else {
+        push_full_records(alloc, text, database.records())
     }
 }

@@ -18,7 +18,7 @@ use Rattle.trace_check.proofs.RuleLaws.{one-verdict}
 use Rattle.trace_check.proofs.TraceLaws.{one_reading}
 use Rattle.run_words.specs.declared.look.ImportForm.{ImportForm}
 use Rattle.run_words.specs.declared.look.Look.{Look}
-use Rattle.run_words.specs.declared.look.Look.TheVariants.{Check, Show, Export as Exported, Import, Verify, Picture}
+use Rattle.run_words.specs.declared.look.Look.TheVariants.{Check, Show, Records, Export as Exported, Import, Verify, Picture}
 use Rattle.pdb_files.specs.BadKinds.{bad_file}
 use Rattle.pdb_files.specs.Faults.{Refuses as FileRefuses, file_fault}
 use Rattle.pdb_files.specs.declared.fault.FileFault.{FileFault}
@@ -158,6 +158,7 @@ one_reading_cause bytes a b x y = absurd x
 text_not_refused : (look : Look) (bytes text : List ℕ) (cause : Cause) → IsTextOf look bytes text → IsCauseOf look bytes cause → ⊥
 text_not_refused Check bytes text cause is refused = database_not_refused Check bytes text cause is refused
 text_not_refused Show bytes text cause is refused = database_not_refused Show bytes text cause is refused
+text_not_refused Records bytes text cause is refused = database_not_refused Records bytes text cause is refused
 text_not_refused (Exported export) bytes text cause is refused = database_not_refused (Exported export) bytes text cause is refused
 text_not_refused (Import form) bytes text cause is refused = import_not_refused bytes text cause is refused
 text_not_refused Verify bytes text cause is refused = trace_not_refused bytes text cause is refused
@@ -167,6 +168,7 @@ text_not_refused Picture bytes text cause is refused = page_not_refused bytes te
 one_cause : (look : Look) (bytes : List ℕ) (a b : Cause) → IsCauseOf look bytes a → IsCauseOf look bytes b → a ≡ b
 one_cause Check bytes a b x y = one_database_cause Check bytes a b x y
 one_cause Show bytes a b x y = one_database_cause Show bytes a b x y
+one_cause Records bytes a b x y = one_database_cause Records bytes a b x y
 one_cause (Exported export) bytes a b x y = one_database_cause (Exported export) bytes a b x y
 one_cause (Import form) bytes a b x y = one_import_cause bytes a b x y
 one_cause Verify bytes a b x y = one_trace_cause bytes a b x y

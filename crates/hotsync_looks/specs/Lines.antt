@@ -8,6 +8,8 @@ use Rattle.hex.specs.Hex.{encode_lower}
 use Rattle.pdb_values.specs.Stems.{stem_of}
 use Rattle.pdb_files.specs.BadKinds.{word_of}
 use Rattle.pdb_files.specs.declared.bad_kind.BadKind.{BadKind}
+use Rattle.run_words.specs.declared.fault.FaultKind.{FaultKind}
+use Rattle.run_words.specs.declared.fault.FaultKind.TheVariants as fault
 use Rattle.run_words.specs.declared.look.ExportForm.{ExportForm}
 use Rattle.run_words.specs.declared.look.ExportForm.TheVariants.{Text, Cards, Table, Calendar}
 use Rattle.hotsync_looks.specs.PrintedNames.{printed_name}
@@ -16,7 +18,7 @@ use Rattle.hotsync_looks.specs.declared.status.FileSide.TheVariants.{Handheld, D
 use Rattle.hotsync_looks.specs.declared.status.Surplus.{Surplus}
 use Rattle.hotsync_looks.specs.declared.status.Surplus.TheVariants as surplus
 use Rattle.hotsync_looks.specs.declared.status.Status.{Status}
-use Rattle.hotsync_looks.specs.declared.status.Status.TheVariants.{Done, Usage, BadScript, TooLong, BadFile, TooMany, HandheldFolder, DesktopFolder, SourceRead}
+use Rattle.hotsync_looks.specs.declared.status.Status.TheVariants.{Done, Usage, BadWord, BadScript, TooLong, BadFile, TooMany, HandheldFolder, DesktopFolder, SourceRead}
 use Rattle.hotsync_looks.specs.declared.status.Status.TheVariants.{TraceWrite, OutWrite, NoMemory, LineDown, Unplugged, Aborted, Undetected, OtherUser}
 use Rattle.hotsync_looks.specs.declared.status.Status.TheVariants.{TooManyUsers, Limit, NewHandheld, WrongSide, InUse, CannotExport, BadRecord, BadText, Overfull, BadTrace, NotProper, CannotInstall, NotBackupFolder, SameDatabase}
 use Rattle.hotsync_looks.specs.declared.status.Status.TheVariants.{StreamEnded, StreamAborted, BadHello, Refused, BadReply}
@@ -40,6 +42,24 @@ line_feed = 10 ∷ []
 -- how the program is called
 abbrev pub usage_line : List ℕ
 usage_line = codes "usage: hotsync run HANDHELD DESKTOP --date=D [--script=F] [--trace=F] [--slow] [--actions=L] [--add-user]" ++ line_feed
+
+-- what is wrong with the word that stands behind it
+abbrev pub fault_words : FaultKind → List ℕ
+fault_words fault.UnknownCommand = codes "unknown command "
+fault_words fault.UnknownOption = codes "unknown option "
+fault_words fault.NoValue = codes "missing value "
+fault_words fault.ExtraValue = codes "unexpected value "
+fault_words fault.Twice = codes "twice --"
+fault_words fault.Extra = codes "unexpected word "
+fault_words fault.Missing = codes "missing --"
+fault_words fault.TooFew = codes "too few words behind "
+fault_words fault.BadOption = codes "bad --"
+fault_words fault.BadWord = codes "bad word "
+
+-- the usage line, and then the word at fault
+unfoldable pub fault_lines : FaultKind → List ℕ → List ℕ
+fault_lines kind word =
+    usage_line ++ (fault_words kind ++ (printed_name word ++ line_feed))
 
 abbrev pub no_memory_line : List ℕ
 no_memory_line = codes "no memory" ++ line_feed
@@ -142,6 +162,7 @@ rule_word rule.G = codes "g"
 abbrev pub refusal_line : Status → List ℕ
 refusal_line Done = ended_line
 refusal_line Usage = usage_line
+refusal_line (BadWord kind word) = fault_lines kind (string_bytes {Z = Global} word)
 refusal_line (BadScript line) = number_line (codes "bad script line ") line
 refusal_line TooLong = codes "source too long" ++ line_feed
 refusal_line (BadFile side name kind place) =

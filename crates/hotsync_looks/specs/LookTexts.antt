@@ -5,7 +5,7 @@ use Rattle.std.specs.declared.alloc.Global.{Global}
 use Rattle.pdb_values.specs.Databases.{DatabaseValue}
 use Rattle.pdb_files.specs.declared.bad_kind.BadKind.{BadKind}
 use Rattle.file_text.specs.Counts.{check_text}
-use Rattle.file_text.specs.Listings.{show_text}
+use Rattle.file_text.specs.Listings.{full_text, show_text}
 use Rattle.pdb_files.specs.Files.{IsFileText, canonical}
 use Rattle.export_choice.specs.declared.fault.ExportFault.{ExportFault}
 use Rattle.export_choice.specs.declared.fault.ExportFault.TheVariants as export
@@ -19,7 +19,7 @@ use Rattle.trace_page.specs.Pages.{page_text}
 use Rattle.trace_check.specs.declared.rule.Rule.{Rule}
 use Rattle.trace_check.specs.declared.rule.Verdict.TheVariants.{Proper, Not}
 use Rattle.run_words.specs.declared.look.Look.{Look}
-use Rattle.run_words.specs.declared.look.Look.TheVariants.{Check, Show, Export as Exported, Import, Verify, Picture}
+use Rattle.run_words.specs.declared.look.Look.TheVariants.{Check, Show, Records, Export as Exported, Import, Verify, Picture}
 use Rattle.run_words.specs.declared.look.ExportForm.{ExportForm}
 use Rattle.hotsync_looks.specs.BadFiles.{BreaksRule}
 use Rattle.hotsync_looks.specs.ExportTexts.{NoText, Absent, OutOfForm, form_export}
@@ -27,7 +27,7 @@ use Rattle.hotsync_looks.specs.Lines.{line_feed}
 use Rattle.hotsync_looks.specs.declared.status.FileSide.TheVariants.{Source}
 use Rattle.hotsync_looks.specs.declared.status.Status.{Status}
 use Rattle.hotsync_looks.specs.declared.status.Status.TheVariants.{BadFile, BadRecord, BadText, BadTrace, CannotExport, NoMemory, NotProper, Overfull}
-use Rattle.hotsync_looks.specs.declared.status.Surplus.TheVariants.{Categories, Records}
+use Rattle.hotsync_looks.specs.declared.status.Surplus.TheVariants.{Categories, Records as TooManyOf}
 
 -- the most bytes that a source may have
 abbrev pub source_limit : ℕ
@@ -39,6 +39,7 @@ source_limit = 67108864
 abbrev pub look_text : Look → DatabaseValue → Result (List ℕ) NoText
 look_text Check database = Ok (check_text database)
 look_text Show database = Ok (show_text database)
+look_text Records database = Ok (full_text database)
 look_text (Exported export) database = form_export export export.form database
 look_text _ database = Err Absent
 
@@ -133,6 +134,7 @@ pub record IsPageText (bytes text : List ℕ) : Type 0 where
 abbrev pub IsTextOf : Look → List ℕ → List ℕ → Type 0
 IsTextOf Check bytes text = IsDatabaseText Check bytes text
 IsTextOf Show bytes text = IsDatabaseText Show bytes text
+IsTextOf Records bytes text = IsDatabaseText Records bytes text
 IsTextOf (Exported export) bytes text = IsDatabaseText (Exported export) bytes text
 IsTextOf (Import form) bytes text = IsImported bytes text
 IsTextOf Verify bytes text = IsProperText bytes text
@@ -175,6 +177,7 @@ IsTraceCause bytes cause = IsReadingCause bytes cause
 abbrev pub IsCauseOf : Look → List ℕ → Cause → Type 0
 IsCauseOf Check bytes cause = IsDatabaseCause Check bytes cause
 IsCauseOf Show bytes cause = IsDatabaseCause Show bytes cause
+IsCauseOf Records bytes cause = IsDatabaseCause Records bytes cause
 IsCauseOf (Exported export) bytes cause = IsDatabaseCause (Exported export) bytes cause
 IsCauseOf (Import form) bytes cause = IsImportCause bytes cause
 IsCauseOf Verify bytes cause = IsTraceCause bytes cause
@@ -184,7 +187,7 @@ IsCauseOf Picture bytes cause = IsReadingCause bytes cause
 abbrev pub SaysMisfit : ImportFault → Status → Type 0
 SaysMisfit (imports.BadText line) (BadText found) = found ≡ line
 SaysMisfit imports.TooManyCategories (Overfull what) = what ≡ Categories
-SaysMisfit imports.TooManyRecords (Overfull what) = what ≡ Records
+SaysMisfit imports.TooManyRecords (Overfull what) = what ≡ TooManyOf
 SaysMisfit _ _ = ⊥
 
 -- a status that says so, where the file bears this name

@@ -15,7 +15,7 @@ use crate::source::read_source;
 use crate::status::{FileSide, Status};
 use crate::traced::{picture_text, verdict_text};
 use export_choice::ExportFault;
-use file_text::{check_text, show_text};
+use file_text::{check_text, full_text, show_text};
 use hs_folders::{Sink, Source};
 use pdb_files::read_database;
 use pdb_values::{Database, DbName};
@@ -84,7 +84,7 @@ fn bytes_text(alloc: Global, look: Look, file: &str, bytes: &[u8]) -> Result<Vec
         Look::Verify => Ok(verdict_text(alloc, bytes)?.into_bytes()),
         Look::Picture => Ok(picture_text(alloc, bytes)?.into_bytes()),
         Look::Import(ImportForm::Text) => imported_file(alloc, bytes),
-        Look::Check | Look::Show | Look::Export(_) => {
+        Look::Check | Look::Show | Look::Records | Look::Export(_) => {
             Ok(read_text(alloc, look, file, bytes)?.into_bytes())
         }
     }
@@ -115,6 +115,7 @@ fn database_text(alloc: Global, look: Look, database: &Database) -> Result<Strin
     let text = match look {
         Look::Check => check_text(alloc, database)?,
         Look::Show => show_text(alloc, database)?,
+        Look::Records => full_text(alloc, database)?,
         Look::Export(export) => form_text(alloc, export, database)?,
         Look::Import(_) | Look::Verify | Look::Picture => unreachable!(),
     };

@@ -5,6 +5,7 @@ ghost use Rattle.hotsync_looks.specs.Lines.{bad_file_line as line_of_bad_file, c
 ghost use Rattle.hotsync_looks.specs.Printed.{IsPrinted, IsPrintedStatus, IsRefusal};
 ghost use Rattle.hs_folders.specs.Appends.{AppendsPrefix};
 
+use crate::misuse::fault_lines;
 use crate::printed_name::push_name;
 use crate::status::{FileSide, Status, Surplus};
 use dlp_replies::ErrorCode;
@@ -19,7 +20,7 @@ use trace_check::Rule;
 use trace_text::End;
 
 /// How the program is called.
-const USAGE: &str =
+pub(crate) const USAGE: &str =
     "usage: hotsync run HANDHELD DESKTOP --date=D [--script=F] [--trace=F] [--slow] [--actions=L] [--add-user]\n";
 
 const NO_MEMORY: &[u8] = b"no memory\n";
@@ -260,6 +261,7 @@ fn refusal_line(alloc: Global, refusal: &Status) -> Result<String, AllocError>
     match refusal {
         Status::Done => String::from_str(alloc, "ended\n"),
         Status::Usage => String::from_str(alloc, USAGE),
+        Status::BadWord { kind, word } => fault_lines(alloc, *kind, word.as_str()),
         Status::BadScript(line) => number_line(alloc, "bad script line ", u64::from(*line)),
         Status::TooLong => String::from_str(alloc, "source too long\n"),
         Status::BadFile {

@@ -9,7 +9,7 @@ use dlp_replies::ErrorCode;
 use handheld_store::OpenFault;
 use pdb_files::BadKind;
 use pdb_values::DbName;
-use run_words::ExportForm;
+use run_words::{ExportForm, FaultKind};
 use std::alloc::AllocError;
 use trace_check::Rule;
 use trace_text::End;
@@ -36,6 +36,11 @@ pub enum Status {
     Done,
     /// The words ask for nothing that this program does.
     Usage,
+    /// The same, and this word is at fault: what is wrong with it, and the word.
+    BadWord {
+        kind: FaultKind,
+        word: String,
+    },
     /// The first line of the script that is out of its form, from 1 on.
     BadScript(u32),
     /// The source has more than 67,108,864 bytes, or the script more than 100,000 lines.
@@ -228,7 +233,7 @@ impl Status {
         match self {
             Status::Done => 0,
             Status::NotProper(_) => 1,
-            Status::Usage => 2,
+            Status::Usage | Status::BadWord { .. } => 2,
             Status::BadScript(_)
             | Status::TooLong
             | Status::BadFile { .. }

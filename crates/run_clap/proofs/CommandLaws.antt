@@ -8,14 +8,14 @@ use Rattle.clap.specs.Walk.{rows_of}
 use Rattle.clap.specs.declared.parser.matches.Found.{Found}
 use Rattle.run_words.specs.Betweens.{Between, between_form, between_in, between_of}
 use Rattle.run_words.specs.Captures.{capture_form, capture_in, capture_of}
-use Rattle.run_words.specs.Commands.{Task, Sync, LookAt, Scan, Make, Install, Backup, Restore, Emulate, Categories, export_form, export_of, export_task_in, file_form, file_of, hex_bytes, import_form, import_of, import_task_in, install_between, install_of, make_form, make_in, make_of, packet_form, packet_of, task_of}
+use Rattle.run_words.specs.Commands.{Task, Sync, DryRun, LookAt, Scan, Make, Install, Backup, Restore, Emulate, Categories, Help, deed_of, export_form, export_of, export_task_in, file_form, file_of, hex_bytes, import_form, import_of, import_task_in, install_between, install_of, make_form, make_in, make_of, packet_form, packet_of, sync_by, sync_in, sync_of, plain_form, show_form, show_look, show_of}
 use Rattle.run_words.specs.Exports.{export_in, import_in}
-use Rattle.run_words.specs.Forms.{is_of_form, plain_at}
-use Rattle.run_words.specs.Runs.{are_actions_right, run_form, run_in, run_of}
+use Rattle.run_words.specs.Forms.{has_flag, is_of_form, plain_at}
+use Rattle.run_words.specs.Runs.{Run, are_actions_right, run_form, run_in, run_of}
 use Rattle.run_words.specs.declared.look.Export.{Export as ExportWords}
 use Rattle.run_words.specs.declared.look.ImportForm.{ImportForm}
 use Rattle.run_words.specs.declared.look.Look.{Look}
-use Rattle.run_words.specs.declared.look.Look.TheVariants.{Check, Show, Export, Import, Verify, Picture}
+use Rattle.run_words.specs.declared.look.Look.TheVariants.{Check, Show, Records, Export, Import, Verify, Picture}
 use Rattle.run_clap.specs.Apps.{form_app}
 use Rattle.run_clap.specs.Reads.{Asks, HoldsTask, look_form, task_form}
 use Rattle.run_clap.proofs.EndLaws.{form_holds, form_is_simple, form_takes}
@@ -38,13 +38,23 @@ mapped f None e = cc
 mapped f (Some a) e = (a, refl, cc)
 
 module _ (now : Option ℕ) (first : List ℕ) (rest : List (List ℕ)) {task : Task} where
-  run_asked : option_map Sync (run_of now rest) ≡ Some task → IsAsked now (first ∷ rest) task
+  run_asked : sync_of now rest ≡ Some task → IsAsked now (first ∷ rest) task
   unfolding run_of
   run_asked e =
-      let run = mapped Sync (run_of now rest) e in
+      let run = mapped (sync_by rest) (run_of now rest) e in
       let right = kept (is_of_form run_form rest && are_actions_right rest) (run_in now rest) run.1 in
       let parts = and_parts (is_of_form run_form rest) (are_actions_right rest) right.0 in
-      subst (IsAsked now (first ∷ rest)) run.2 (record { first = first; rest = rest; are = refl; right = parts.0; asks = right.1 })
+      let asks : sync_in now rest ≡ Some (sync_by rest run.0) = ap (option_map (sync_by rest)) right.1 in
+      subst (IsAsked now (first ∷ rest)) run.2 (by_flag run.0 (has_flag (codes "dry-run") rest) refl parts.0 asks)
+    where
+      by_flag : (run : Run) (b : Bool) → has_flag (codes "dry-run") rest ≡ b → is_of_form run_form rest ≡ true
+          → sync_in now rest ≡ Some (sync_by rest run) → IsAsked now (first ∷ rest) (sync_by rest run)
+      by_flag run true is right asks =
+          let dry : sync_by rest run ≡ DryRun run = ap (λ b. cond b (DryRun run) (Sync run)) is in
+          subst (IsAsked now (first ∷ rest)) (sym dry) (record { first = first; rest = rest; are = refl; right = right; asks = asks ∙ ap Some dry })
+      by_flag run false is right asks =
+          let wet : sync_by rest run ≡ Sync run = ap (λ b. cond b (DryRun run) (Sync run)) is in
+          subst (IsAsked now (first ∷ rest)) (sym wet) (record { first = first; rest = rest; are = refl; right = right; asks = asks ∙ ap Some wet })
 
   check_asked : option_map (LookAt Check) (file_of rest) ≡ Some task → IsAsked now (first ∷ rest) task
   unfolding file_of
@@ -53,12 +63,21 @@ module _ (now : Option ℕ) (first : List ℕ) (rest : List (List ℕ)) {task : 
       let right = kept (is_of_form file_form rest) (plain_at 0 rest) file.1 in
       subst (IsAsked now (first ∷ rest)) file.2 (record { first = first; rest = rest; are = refl; right = right.0; asks = (right.1, tt) })
 
-  show_asked : option_map (LookAt Show) (file_of rest) ≡ Some task → IsAsked now (first ∷ rest) task
-  unfolding file_of
+  show_in_asked : (b : Bool) → has_flag (codes "records") rest ≡ b → is_of_form show_form rest ≡ true → (file : List ℕ) → plain_at 0 rest ≡ Some file
+      → LookAt (cond b Records Show) file ≡ task → IsAsked now (first ∷ rest) task
+  show_in_asked true is right file at e =
+      subst (IsAsked now (first ∷ rest)) e
+      (record { first = first; rest = rest; are = refl; right = right; asks = (at, ap (λ b. cond b Records Show) is) })
+  show_in_asked false is right file at e =
+      subst (IsAsked now (first ∷ rest)) e
+      (record { first = first; rest = rest; are = refl; right = right; asks = (at, ap (λ b. cond b Records Show) is) })
+
+  show_asked : show_of rest ≡ Some task → IsAsked now (first ∷ rest) task
+  unfolding show_of
   show_asked e =
-      let file = mapped (LookAt Show) (file_of rest) e in
-      let right = kept (is_of_form file_form rest) (plain_at 0 rest) file.1 in
-      subst (IsAsked now (first ∷ rest)) file.2 (record { first = first; rest = rest; are = refl; right = right.0; asks = (right.1, tt) })
+      let right = kept (is_of_form show_form rest) (option_map (LookAt (show_look rest)) (plain_at 0 rest)) e in
+      let file = mapped (LookAt (show_look rest)) (plain_at 0 rest) right.1 in
+      show_in_asked (has_flag (codes "records") rest) refl right.0 file.0 file.1 file.2
 
   export_in_asked : (file : Option (List ℕ)) (export : Option ExportWords) → is_of_form export_form rest ≡ true → plain_at 0 rest ≡ file → export_in now rest ≡ export
       → option_and_then (λ f. option_map (λ x. LookAt (Export x) f) export) file ≡ Some task → IsAsked now (first ∷ rest) task
@@ -175,9 +194,9 @@ module _ (now : Option ℕ) (first : List ℕ) (rest : List (List ℕ)) {task : 
       subst (IsAsked now (first ∷ rest)) between.2 (record { first = first; rest = rest; are = refl; right = right.0; asks = right.1 })
 
   chosen : (a b c d i v p m n s k r w g : Bool)
-      → cond a (option_map Sync (run_of now rest))
+      → cond a (sync_of now rest)
       (cond b (option_map (LookAt Check) (file_of rest))
-      (cond c (option_map (LookAt Show) (file_of rest))
+      (cond c (show_of rest)
       (cond d (export_of now rest)
       (cond i (import_of rest)
       (cond v (option_map (LookAt Verify) (file_of rest))
@@ -206,8 +225,8 @@ module _ (now : Option ℕ) (first : List ℕ) (rest : List (List ℕ)) {task : 
   chosen false false false false false false false false false false false false false true e = categories_asked e
   chosen false false false false false false false false false false false false false false e = cc
 
-words_ask : (now : Option ℕ) (words : List (List ℕ)) {task : Task} → task_of now words ≡ Some task → IsAsked now words task
-unfolding task_of
+words_ask : (now : Option ℕ) (words : List (List ℕ)) {task : Task} → deed_of now words ≡ Some task → IsAsked now words task
+unfolding deed_of
 words_ask now [] e = cc
 words_ask now (first ∷ rest) e =
     chosen now first rest (bytes_eq first (codes "run")) (bytes_eq first (codes "check")) (bytes_eq first (codes "show")) (bytes_eq first (codes "export"))
@@ -231,6 +250,32 @@ run_proper = record {
 
 file_proper : Proper file_form
 file_proper = record {
+  few = omega arith;
+  plain = refl;
+  options = refl;
+  flags = refl;
+  plain_options = refl;
+  plain_flags = refl;
+  options_flags = refl;
+  option_names = refl;
+  flag_names = refl;
+}
+
+show_proper : Proper show_form
+show_proper = record {
+  few = omega arith;
+  plain = refl;
+  options = refl;
+  flags = refl;
+  plain_options = refl;
+  plain_flags = refl;
+  options_flags = refl;
+  option_names = refl;
+  flag_names = refl;
+}
+
+none_proper : Proper (plain_form [])
+none_proper = record {
   few = omega arith;
   plain = refl;
   options = refl;
@@ -322,7 +367,8 @@ capture_proper = record {
 
 look_proper : (look : Look) → Proper (look_form look)
 look_proper Check = file_proper
-look_proper Show = file_proper
+look_proper Show = show_proper
+look_proper Records = show_proper
 look_proper (Export export) = export_proper
 look_proper (Import form) = import_proper
 look_proper Verify = file_proper
@@ -330,6 +376,7 @@ look_proper Picture = file_proper
 
 task_proper : (task : Task) → Proper (task_form task)
 task_proper (Sync run) = run_proper
+task_proper (DryRun run) = run_proper
 task_proper (LookAt look file) = look_proper look
 task_proper (Scan bytes) = packet_proper
 task_proper (Make seed count) = make_proper
@@ -338,15 +385,16 @@ task_proper (Backup between) = between_proper
 task_proper (Restore between) = between_proper
 task_proper (Emulate capture) = capture_proper
 task_proper (Categories between) = between_proper
+task_proper (Help topic) = none_proper
 
 -- ---- words in the form are taken by the command of their form, and its matches hold what they ask for
 
-pub task_takes : (now : Option ℕ) (words : List (List ℕ)) (task : Task) → task_of now words ≡ Some task → takes (form_app (task_form task)) words ≡ true
+pub task_takes : (now : Option ℕ) (words : List (List ℕ)) (task : Task) → deed_of now words ≡ Some task → takes (form_app (task_form task)) words ≡ true
 task_takes now words task e =
     let asked = words_ask now words e in
     ap (takes (form_app (task_form task))) asked.are ∙ form_takes (task_form task) (task_proper task) asked.first asked.rest asked.right
 
-pub task_holds : (now : Option ℕ) (words : List (List ℕ)) (task : Task) (found : Found) → task_of now words ≡ Some task
+pub task_holds : (now : Option ℕ) (words : List (List ℕ)) (task : Task) (found : Found) → deed_of now words ≡ Some task
     → rows_of found ≡ matches_of (form_app (task_form task)) words → HoldsTask now found task
 task_holds now words task found e rows =
     let asked = words_ask now words e in

@@ -12,5 +12,5 @@ mod values;
 pub use read::{WordsFault, read_command};
 pub use run_words::{
     BetweenWords, CaptureWords, Command, Export, ExportForm, ImportForm, Look, LookWords,
-    MakeWords, PacketWords, RunWords,
+    MakeWords, PacketWords, RunWords, Topic,
 };

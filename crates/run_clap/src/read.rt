@@ -2,16 +2,16 @@
 ghost use Rattle.std.specs.Prelude.{◌≡◌, ◌↔◌, ℕ, List, IfErr, IfOk, IsErrOf, None, Some, map, option_map, string_bytes};
 ghost use Rattle.clap.specs.Words.{app_of, found_of, kind_of};
 ghost use Rattle.run_clap.specs.Reads.{AsksLook, HoldsTask, HoldsWords, look_form, task_form};
-ghost use Rattle.run_words.specs.Commands.{task_of};
+ghost use Rattle.run_words.specs.Commands.{deed_of as deed_of_words, task_of};
 ghost use Rattle.run_words.specs.Views.{form_view, task_view};
 
 use crate::form::form_command;
-use crate::values::{between_in, capture_in, export_in, import_in, make_in, run_in};
+use crate::values::{between_in, capture_in, export_in, import_in, make_in, show_in, sync_in};
 use clap::error::ErrorKind;
 use clap::{ArgMatches, Error};
 use run_words::{
     BETWEEN, CAPTURE, Command, EXPORT, FILE, IMPORT, Look, LookWords, MAKE, PACKET, PacketWords,
-    RUN, WordForm, command_of,
+    RUN, SHOW, WordForm, deed_of, help_of,
 };
 use std::alloc::Global;
 
@@ -24,15 +24,24 @@ pub enum WordsFault {
     NoMemory,
 }
 
+// Help has no form that `clap` is told.
+const NO_FORM: WordForm<'static> = WordForm {
+    plain: &[],
+    options: &[],
+    flags: &[],
+};
+
 // The form of the words of a command.
 fn form_of(command: &Command<'_>) -> WordForm<'static>
     ensures { form_view result ≡ task_form (task_view command.now) }
 {
     match command {
         Command::Run(_) => RUN,
+        Command::DryRun(_) => RUN,
         Command::Look(words) => match words.look {
             Look::Check => FILE,
-            Look::Show => FILE,
+            Look::Show => SHOW,
+            Look::Records => SHOW,
             Look::Export(_) => EXPORT,
             Look::Import(_) => IMPORT,
             Look::Verify => FILE,
@@ -45,6 +54,7 @@ fn form_of(command: &Command<'_>) -> WordForm<'static>
         Command::Restore(_) => BETWEEN,
         Command::Device(_) => CAPTURE,
         Command::Categories(_) => BETWEEN,
+        Command::Help(_) => NO_FORM,
     }
 }
 
@@ -55,7 +65,7 @@ fn matches_of<'a>(
     command: &Command<'a>,
     words: &'a [String],
 ) -> Result<ArgMatches<'a>, Error>
-    requires { task_of now (map string_bytes words.now) ≡ Some (task_view command.now) }
+    requires { deed_of_words now (map string_bytes words.now) ≡ Some (task_view command.now) }
     ensures taken { IfErr result (λ error. kind_of error ≡ ErrorKind.OutOfMemory) }
     ensures read { IfOk result (λ matches.
         HoldsTask now (found_of matches) (task_view command.now)) }
@@ -71,7 +81,7 @@ fn look_in<'a>(now: Option<u32>, look: Look, matches: &ArgMatches<'a>) -> Option
 {
     match look {
         Look::Check => Some(Look::Check),
-        Look::Show => Some(Look::Show),
+        Look::Show | Look::Records => Some(show_in(matches)),
         Look::Verify => Some(Look::Verify),
         Look::Picture => Some(Look::Picture),
         Look::Export(_) => {
@@ -95,10 +105,8 @@ fn command_in<'a>(
         → option_map task_view result ≡ Some (task_view command.now) }
 {
     match command {
-        Command::Run(_) => match run_in(now, matches) {
-            Some(run) => Some(Command::Run(run)),
-            None => None,
-        },
+        Command::Run(_) => sync_in(now, matches),
+        Command::DryRun(_) => sync_in(now, matches),
         Command::Look(words) => {
             let file = matches.get_str("file")?;
             let look = look_in(now, words.look, matches)?;
@@ -132,10 +140,32 @@ fn command_in<'a>(
             Some(words) => Some(Command::Categories(words)),
             None => None,
         },
+        Command::Help(topic) => Some(Command::Help(*topic)),
     }
 }
 
-/// What these words ask for, read by `clap`. `now` is the date now in seconds, if it can be told.
+// What words ask for beside help, read by `clap`.
+fn read_deed<'a>(
+    alloc: Global,
+    now: Option<u32>,
+    command: &Command<'a>,
+    words: &'a [String],
+) -> Result<Command<'a>, WordsFault>
+    requires { deed_of_words now (map string_bytes words.now) ≡ Some (task_view command.now) }
+    ensures command { IfOk result (λ read. task_view read ≡ task_view command.now) }
+    ensures refused { IfErr result (λ fault. fault ≡ WordsFault.NoMemory) }
+{
+    let Ok(matches) = matches_of(alloc, now, command, words) else {
+        return Err(WordsFault::NoMemory);
+    };
+    match command_in(now, command, &matches) {
+        Some(read) => Ok(read),
+        None => unreachable!(),
+    }
+}
+
+/// What these words ask for, read by `clap`, or the help that they ask for. `now` is the date now in seconds, if it can be told.
+#[tactic(auto, unfolding(run_words::specs::Commands::task_of))]
 pub fn read_command<'a>(
     alloc: Global,
     now: Option<u32>,
@@ -146,14 +176,11 @@ pub fn read_command<'a>(
     ensures usage { IsErrOf result WordsFault.Usage
         ↔ (task_of now (map string_bytes words.entry.now) ≡ None) }
 {
-    let Some(form) = command_of(now, words) else {
-        return Err(WordsFault::Usage);
-    };
-    let Ok(matches) = matches_of(alloc, now, &form, words) else {
-        return Err(WordsFault::NoMemory);
-    };
-    match command_in(now, &form, &matches) {
-        Some(command) => Ok(command),
-        None => unreachable!(),
+    match deed_of(now, words) {
+        Some(command) => read_deed(alloc, now, &command, words),
+        None => match help_of(words) {
+            Some(topic) => Ok(Command::Help(topic)),
+            None => Err(WordsFault::Usage),
+        },
     }
 }

@@ -4,19 +4,31 @@ ghost use Rattle.clap.specs.Words.{found_of};
 ghost use Rattle.run_clap.specs.Reads.{HoldsWords};
 ghost use Rattle.run_words.specs.Betweens.{between_form, between_in as between_of_words};
 ghost use Rattle.run_words.specs.Captures.{capture_form, capture_in as capture_of_words};
-ghost use Rattle.run_words.specs.Commands.{Make, export_form, import_form, make_form, make_in as make_of_words};
+ghost use Rattle.run_words.specs.Commands.{Make, export_form, import_form, make_form, make_in as make_of_words, show_form, show_look, sync_in as sync_of_words};
 ghost use Rattle.run_words.specs.Exports.{export_in as export_of_words, import_in as import_of_words};
 ghost use Rattle.run_words.specs.Runs.{run_form, run_in as run_of_words};
-ghost use Rattle.run_words.specs.Views.{between_view, capture_view, run_view};
+ghost use Rattle.run_words.specs.Views.{between_view, capture_view, run_view, task_view};
 
 use clap::ArgMatches;
 use run_words::{
-    BetweenWords, CaptureWords, Export, ImportForm, MakeWords, RunWords, count_in, date_in,
-    export_form_in, import_form_in, number_in,
+    BetweenWords, CaptureWords, Command, Export, ImportForm, Look, MakeWords, RunWords, count_in,
+    date_in, export_form_in, import_form_in, number_in,
 };
 
+// The run that matches hold, at the date now: a dry one where they hold that flag.
+pub fn sync_in<'a>(now: Option<u32>, matches: &ArgMatches<'a>) -> Option<Command<'a>>
+    ensures { (words : List (List ℕ)) → HoldsWords run_form words (found_of matches.now)
+        → option_map task_view result ≡ sync_of_words now words }
+{
+    match run_in(now, matches) {
+        Some(run) if matches.get_flag("dry-run") => Some(Command::DryRun(run)),
+        Some(run) => Some(Command::Run(run)),
+        None => None,
+    }
+}
+
 // The run that matches hold, at the date now.
-pub fn run_in<'a>(now: Option<u32>, matches: &ArgMatches<'a>) -> Option<RunWords<'a>>
+fn run_in<'a>(now: Option<u32>, matches: &ArgMatches<'a>) -> Option<RunWords<'a>>
     ensures { (words : List (List ℕ)) → HoldsWords run_form words (found_of matches.now)
         → option_map run_view result ≡ run_of_words now words }
 {
@@ -33,6 +45,18 @@ pub fn run_in<'a>(now: Option<u32>, matches: &ArgMatches<'a>) -> Option<RunWords
         slow: matches.get_flag("slow"),
         add_user: matches.get_flag("add-user"),
     })
+}
+
+// What the words that matches hold want shown of a file.
+pub fn show_in(matches: &ArgMatches<'_>) -> Look
+    ensures { (words : List (List ℕ)) → HoldsWords show_form words (found_of matches.now)
+        → result ≡ show_look words }
+{
+    if matches.get_flag("records") {
+        Look::Records
+    } else {
+        Look::Show
+    }
 }
 
 // How the words that matches hold want a database exported.

@@ -1,3 +1,4 @@
+pub mod DeedLaws
 pub mod ActionLaws
 pub mod ItemLaws
 pub mod NumberLaws

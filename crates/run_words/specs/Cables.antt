@@ -1,5 +1,5 @@
 -- Which words ask for a session over a cable, and what they give.
-use Rattle.std.specs.Prelude.{◌&&◌, ℕ, Bool, false, true, List, [], ◌∷◌, ◌++◌, map, Option, Some, None, codes, bytes_eq, is_none, is_some}
+use Rattle.std.specs.Prelude.{◌&&◌, ℕ, Bool, false, not, true, List, [], ◌∷◌, ◌++◌, map, Option, Some, None, codes, bytes_eq, is_none, is_some}
 use Rattle.std.specs.Prelude.{option_map, option_and_then, if◌then◌else◌}
 use Rattle.std.specs.List.{filter_map, list_all, list_any}
 use Rattle.std.specs.Option.{option_map_or, option_or}
@@ -74,10 +74,11 @@ cable_of now words =
     if is_of_form cable_form words && (are_actions_right words && is_only_right words)
     then cable_in now words else None
 
--- the first word asks for a session over a cable
+-- the first word asks for a session over a cable, and none behind it for help
 abbrev pub begins_sync : List (List ℕ) → Bool
 begins_sync [] = false
-begins_sync (command ∷ words) = bytes_eq command (codes "sync")
+begins_sync (command ∷ words) =
+    bytes_eq command (codes "sync") && not (has_flag (codes "help") words)
 
 -- the session over a cable that these words ask for, at the date now
 unfoldable pub sync_of : Option ℕ → List (List ℕ) → Option Cable

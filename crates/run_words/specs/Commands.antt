@@ -1,20 +1,24 @@
 -- What words ask for, by the first of them.
 use Rattle.std.specs.Prelude.{ℕ, false, true, List, [], ◌∷◌, Option, Some, None, codes, bytes_eq, is_some, option_map, option_and_then, if◌then◌else◌}
+use Rattle.std.specs.Option.{option_or}
 use Rattle.run_words.specs.Betweens.{Between, between_of}
 use Rattle.run_words.specs.Captures.{Capture, capture_of}
 use Rattle.run_words.specs.declared.look.Look.{Look}
-use Rattle.run_words.specs.declared.look.Look.TheVariants.{Check, Show, Export, Import, Verify, Picture}
+use Rattle.run_words.specs.declared.look.Look.TheVariants.{Check, Show, Records, Export, Import, Verify, Picture}
 use Rattle.run_words.specs.Exports.{export_in, import_in}
-use Rattle.run_words.specs.Forms.{Form, NamedOption, is_of_form, plain_at}
+use Rattle.run_words.specs.Forms.{Form, NamedOption, has_flag, is_of_form, plain_at}
+use Rattle.run_words.specs.Helps.{help_of}
 use Rattle.run_words.specs.Numbers.{number_of, count_of}
-use Rattle.run_words.specs.Runs.{Run, run_of}
+use Rattle.run_words.specs.Runs.{Run, run_in, run_of}
 use Rattle.run_words.specs.Words.{is_hex, bytes_of}
+use Rattle.run_words.specs.declared.topic.Topic.{Topic}
 
--- a run, a look at a file, the packets in some bytes, a run over folders made of a seed and a
--- count, an install of a file, a backup into a folder, a restore of one, a handheld over captured
--- bytes, or categories that are brought together
+-- a run, a dry one, a look at a file, the packets in some bytes, a run over made folders, an
+-- install of a file, a backup into a folder, a restore of one, a handheld over captured
+-- bytes, categories that are brought together, or help
 pub data Task : Type 0 where
   Sync : Run → Task
+  DryRun : Run → Task
   LookAt : Look → List ℕ → Task
   Scan : List ℕ → Task
   Make : ℕ → ℕ → Task
@@ -23,14 +27,19 @@ pub data Task : Type 0 where
   Restore : Between → Task
   Emulate : Capture → Task
   Categories : Between → Task
+  Help : Topic → Task
 
 -- plain words alone, of these names
 abbrev pub plain_form : List (List ℕ) → Form
 plain_form names = record { plain = names; options = []; flags = [] }
 
--- `FILE`, behind `check`, `show`, `verify` and `picture`
+-- `FILE`, behind `check`, `verify` and `picture`
 abbrev pub file_form : Form
 file_form = plain_form (codes "file" ∷ [])
+
+-- `FILE [--records]`, behind `show`
+abbrev pub show_form : Form
+show_form = record { plain = codes "file" ∷ []; options = []; flags = codes "records" ∷ [] }
 
 -- `--as=FORM`
 abbrev pub form_option : NamedOption
@@ -56,9 +65,19 @@ packet_form = plain_form (codes "hex" ∷ [])
 abbrev pub make_form : Form
 make_form = plain_form (codes "seed" ∷ codes "count" ∷ [])
 
--- the file that the words behind `check`, `show`, `verify` or `picture` name
+-- the file that the words behind `check`, `verify` or `picture` name
 unfoldable pub file_of : List (List ℕ) → Option (List ℕ)
 file_of words = if is_of_form file_form words then plain_at 0 words else None
+
+-- what is shown of a file, as words of that form say
+abbrev pub show_look : List (List ℕ) → Look
+show_look words = if has_flag (codes "records") words then Records else Show
+
+-- the file behind `show`, and what is shown of it
+unfoldable pub show_of : List (List ℕ) → Option Task
+show_of words =
+    if is_of_form show_form words then option_map (LookAt (show_look words)) (plain_at 0 words)
+    else None
 
 -- the bytes of a word of hexadecimal
 abbrev pub hex_bytes : List ℕ → Option (List ℕ)
@@ -108,12 +127,24 @@ install_between between = if is_some between.script then None else Some (Install
 unfoldable pub install_of : List (List ℕ) → Option Task
 install_of words = option_and_then install_between (between_of words)
 
+-- the run of these words: a dry one where they say so
+abbrev pub sync_by : List (List ℕ) → Run → Task
+sync_by words run = if has_flag (codes "dry-run") words then DryRun run else Sync run
+
+-- the run, or the dry one, that words of its form give, at the date now
+abbrev pub sync_in : Option ℕ → List (List ℕ) → Option Task
+sync_in now words = option_map (sync_by words) (run_in now words)
+
+-- the run, or the dry one, that the words behind `run` ask for
+abbrev pub sync_of : Option ℕ → List (List ℕ) → Option Task
+sync_of now words = option_map (sync_by words) (run_of now words)
+
 -- what the words behind a command ask for, at the date now
 abbrev pub task_behind : Option ℕ → List ℕ → List (List ℕ) → Option Task
 task_behind now command words =
-    if bytes_eq command (codes "run") then option_map Sync (run_of now words)
+    if bytes_eq command (codes "run") then sync_of now words
     else (if bytes_eq command (codes "check") then option_map (LookAt Check) (file_of words)
-    else (if bytes_eq command (codes "show") then option_map (LookAt Show) (file_of words)
+    else (if bytes_eq command (codes "show") then show_of words
     else (if bytes_eq command (codes "export") then export_of now words
     else (if bytes_eq command (codes "import") then import_of words
     else (if bytes_eq command (codes "verify") then option_map (LookAt Verify) (file_of words)
@@ -127,7 +158,12 @@ task_behind now command words =
     else (if bytes_eq command (codes "categories") then option_map Categories (between_of words)
     else None)))))))))))))
 
--- what these words ask for, where the date now is this, if it can be told
+-- what these words ask for beside help, at the date now
+unfoldable pub deed_of : Option ℕ → List (List ℕ) → Option Task
+deed_of now [] = None
+deed_of now (command ∷ words) = task_behind now command words
+
+-- what these words ask for, where the date now is this, if it can be told: words that ask for
+-- nothing else may ask for help
 unfoldable pub task_of : Option ℕ → List (List ℕ) → Option Task
-task_of now [] = None
-task_of now (command ∷ words) = task_behind now command words
+task_of now words = option_or (deed_of now words) (option_map Help (help_of words))

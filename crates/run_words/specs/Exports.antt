@@ -1,6 +1,6 @@
 -- Which words ask for the text of what a database file holds, or for the database of a text, and
 -- what they give.
-use Rattle.std.specs.Prelude.{ℕ, List, Option, Some, None, codes, bytes_eq, option_map, option_and_then, if◌then◌else◌}
+use Rattle.std.specs.Prelude.{ℕ, Bool, false, true, List, Option, Some, None, codes, bytes_eq, option_map, option_and_then, if◌then◌else◌}
 use Rattle.run_words.specs.Forms.{has_flag, value_of}
 use Rattle.run_words.specs.Runs.{date_at}
 use Rattle.run_words.specs.declared.look.Export.{Export}
@@ -26,6 +26,14 @@ dated_form now word date =
 abbrev pub export_form_of : Option ℕ → List ℕ → Option (List ℕ) → Option ExportForm
 export_form_of now word None = plain_form word
 export_form_of now word (Some date) = dated_form now word date
+
+-- a word that names the form of a text
+abbrev pub is_form_word : List ℕ → Bool
+is_form_word word =
+    if bytes_eq word (codes "txt") then true
+    else (if bytes_eq word (codes "vcf") then true
+    else (if bytes_eq word (codes "csv") then true
+    else (if bytes_eq word (codes "ics") then true else false)))
 
 -- how words of that form want a database exported
 abbrev pub export_with : List (List ℕ) → ExportForm → Export

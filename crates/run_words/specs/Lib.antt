@@ -4,7 +4,9 @@ pub mod Cables
 pub mod Captures
 pub mod Commands
 pub mod Exports
+pub mod Faults
 pub mod Forms
+pub mod Helps
 pub mod Numbers
 pub mod Runs
 pub mod StemNames

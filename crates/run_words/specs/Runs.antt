@@ -10,7 +10,8 @@ use Rattle.run_words.specs.Forms.{Form, has_flag, is_of_form, plain_at, value_of
 abbrev pub date_at : Option ℕ → List ℕ → Option ℕ
 date_at now word = if bytes_eq word (codes "now") then if_later now else read_text word
 
--- `HANDHELD DESKTOP --date=D [--script=F] [--trace=F] [--actions=L] [--slow] [--add-user]`
+-- `HANDHELD DESKTOP --date=D [--script=F] [--trace=F] [--actions=L] [--slow] [--add-user]
+-- [--dry-run]`
 abbrev pub run_form : Form
 run_form = record {
   plain = codes "handheld" ∷ codes "desktop" ∷ [];
@@ -20,7 +21,7 @@ run_form = record {
   }
       ∷ record { name = codes "trace"; is_required = false }
       ∷ record { name = codes "actions"; is_required = false } ∷ [];
-  flags = codes "slow" ∷ codes "add-user" ∷ [];
+  flags = codes "slow" ∷ codes "add-user" ∷ codes "dry-run" ∷ [];
 }
 
 -- a run: two folders and a date in seconds, and what may stand beside them

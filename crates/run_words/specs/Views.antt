@@ -3,7 +3,8 @@ use Rattle.std.specs.Prelude.{map, option_copied}
 use Rattle.run_words.specs.Betweens.{Between}
 use Rattle.run_words.specs.Cables.{Cable}
 use Rattle.run_words.specs.Captures.{Capture}
-use Rattle.run_words.specs.Commands.{Task, Sync, LookAt, Scan, Make, Install, Backup, Restore, Emulate, Categories}
+use Rattle.run_words.specs.Commands.{Task, Sync, DryRun, LookAt, Scan, Make, Install, Backup, Restore, Emulate, Categories, Help}
+use Rattle.run_words.specs.Faults.{Fault}
 use Rattle.run_words.specs.Forms.{Form, NamedOption}
 use Rattle.run_words.specs.Runs.{Run}
 use Rattle.run_words.specs.Words.{bytes_of}
@@ -12,6 +13,7 @@ use Rattle.run_words.specs.declared.cable.CableWords.{CableWords}
 use Rattle.run_words.specs.declared.capture.CaptureWords.{CaptureWords}
 use Rattle.run_words.specs.declared.command.Command.{Command}
 use Rattle.run_words.specs.declared.command.Command.TheVariants as commands
+use Rattle.run_words.specs.declared.fault.WordFault.{WordFault}
 use Rattle.run_words.specs.declared.form.ValueOption.{ValueOption}
 use Rattle.run_words.specs.declared.form.WordForm.{WordForm}
 use Rattle.run_words.specs.declared.run.RunWords.{RunWords}
@@ -74,6 +76,7 @@ capture_view words = record {
 -- what the words ask for
 abbrev pub task_view : Command → Task
 task_view (commands.Run run) = Sync (run_view run)
+task_view (commands.DryRun run) = DryRun (run_view run)
 task_view (commands.Look look) = LookAt look.look look.file.now
 task_view (commands.Packet packet) = Scan (bytes_of packet.hex.now)
 task_view (commands.Make make) = Make make.seed make.count
@@ -82,3 +85,8 @@ task_view (commands.Backup words) = Backup (between_view words)
 task_view (commands.Restore words) = Restore (between_view words)
 task_view (commands.Device words) = Emulate (capture_view words)
 task_view (commands.Categories words) = Categories (between_view words)
+task_view (commands.Help topic) = Help topic
+
+-- the word at fault
+abbrev pub fault_view : WordFault → Fault
+fault_view fault = record { kind = fault.kind; word = fault.word.now }

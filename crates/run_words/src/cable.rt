@@ -95,12 +95,12 @@ fn cable_words<'a>(now: Option<u32>, words: &'a [String]) -> Option<CableWords<'
     }
 }
 
-/// Whether the first word asks for a session over a cable.
+/// Whether the first word asks for a session over a cable, and none behind it for help.
 pub fn is_sync(words: &[String]) -> bool
     ensures { result ≡ begins_sync (map string_bytes words.now) }
 {
     match words {
-        [command, ..] => command.as_str() == "sync",
+        [command, words @ ..] => command.as_str() == "sync" && !has_flag(words, "help"),
         [] => false,
     }
 }

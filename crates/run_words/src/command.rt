@@ -2,9 +2,9 @@
 ghost use Rattle.std.specs.Prelude.{◌≡◌, map, string_bytes, option_map};
 ghost use Rattle.run_words.specs.Betweens.{between_of};
 ghost use Rattle.run_words.specs.Captures.{capture_of};
-ghost use Rattle.run_words.specs.Commands.{Backup, Categories, Emulate, LookAt, Restore, Scan, Sync, export_of, file_of, import_of, install_of, make_of, packet_of, task_of};
+ghost use Rattle.run_words.specs.Commands.{Backup, Categories, Emulate, Help, LookAt, Restore, Scan, deed_of as deed_of_words, export_of, file_of, import_of, install_of, make_of, packet_of, show_look, show_of, sync_of, task_of};
 ghost use Rattle.run_words.specs.Exports.{export_in as export_of_words, import_in as import_of_words};
-ghost use Rattle.run_words.specs.Runs.{run_of};
+ghost use Rattle.run_words.specs.Helps.{help_of as help_of_words};
 ghost use Rattle.run_words.specs.Views.{task_view};
 
 use crate::between::{BetweenWords, between_words};
@@ -14,12 +14,20 @@ use crate::hexadecimal::is_hex;
 use crate::look::{Export, ImportForm, Look, LookWords, export_form_in, import_form_in};
 use crate::number::{count_in, number_in};
 use crate::run::{RunWords, run_words};
+use crate::topic::{Topic, help_of};
 
-/// The form of the words behind `check`, `show`, `verify` and `picture`.
+/// The form of the words behind `check`, `verify` and `picture`.
 pub const FILE: WordForm<'static> = WordForm {
     plain: &["file"],
     options: &[],
     flags: &[],
+};
+
+/// The form of the words behind `show`.
+pub const SHOW: WordForm<'static> = WordForm {
+    plain: &["file"],
+    options: &[],
+    flags: &["records"],
 };
 
 /// The form of the words behind `export`.
@@ -83,6 +91,8 @@ pub struct MakeWords {
 pub enum Command<'a> {
     /// `run`.
     Run(RunWords<'a>),
+    /// `run` with `--dry-run`.
+    DryRun(RunWords<'a>),
     /// `check`, `show`, `export`, `import`, `verify` or `picture`.
     Look(LookWords<'a>),
     /// `packet`.
@@ -99,13 +109,37 @@ pub enum Command<'a> {
     Device(CaptureWords<'a>),
     /// `categories`.
     Categories(BetweenWords<'a>),
+    /// Help, or the version.
+    Help(Topic),
 }
 
-/// What these words ask for, by the first of them, or `None` exactly where they are not in the form. `now` is the
-/// date now in seconds, if it can be told.
+/// What these words ask for, or `None` exactly where they are not in the form. `now` is the date now in seconds, if it can be
+/// told.
 #[tactic(auto, unfolding(crate::specs::Commands::task_of))]
 pub fn command_of<'a>(now: Option<u32>, words: &'a [String]) -> Option<Command<'a>>
     ensures { option_map task_view result ≡ task_of now (map string_bytes words.entry.now) }
+{
+    match deed_of(now, words) {
+        Some(command) => Some(command),
+        None => help_command(words),
+    }
+}
+
+// The help that words ask for.
+fn help_command<'a>(words: &'a [String]) -> Option<Command<'a>>
+    ensures { option_map task_view result
+        ≡ option_map Help (help_of_words (map string_bytes words.entry.now)) }
+{
+    match help_of(words) {
+        Some(topic) => Some(Command::Help(topic)),
+        None => None,
+    }
+}
+
+/// What words ask for beside help, by the first of them.
+#[tactic(auto, unfolding(crate::specs::Commands::deed_of))]
+pub fn deed_of<'a>(now: Option<u32>, words: &'a [String]) -> Option<Command<'a>>
+    ensures { option_map task_view result ≡ deed_of_words now (map string_bytes words.entry.now) }
 {
     let [command, words @ ..] = words else {
         return None;
@@ -113,7 +147,7 @@ pub fn command_of<'a>(now: Option<u32>, words: &'a [String]) -> Option<Command<'
     match command.as_str() {
         "run" => run_command(now, words),
         "check" => look_command(Look::Check, words),
-        "show" => look_command(Look::Show, words),
+        "show" => show_command(words),
         "export" => export_command(now, words),
         "import" => import_command(words),
         "verify" => look_command(Look::Verify, words),
@@ -129,18 +163,18 @@ pub fn command_of<'a>(now: Option<u32>, words: &'a [String]) -> Option<Command<'
     }
 }
 
-// The run that the words behind `run` ask for.
+// The run that the words behind `run` ask for, a dry one where they say so.
 fn run_command<'a>(now: Option<u32>, words: &'a [String]) -> Option<Command<'a>>
-    ensures { option_map task_view result
-        ≡ option_map Sync (run_of now (map string_bytes words.entry.now)) }
+    ensures { option_map task_view result ≡ sync_of now (map string_bytes words.entry.now) }
 {
     match run_words(now, words) {
+        Some(run) if has_flag(words, "dry-run") => Some(Command::DryRun(run)),
         Some(run) => Some(Command::Run(run)),
         None => None,
     }
 }
 
-// The look at the file that stands behind `check`, `show`, `verify` or `picture`.
+// The look at the file that stands behind `check`, `verify` or `picture`.
 #[tactic(auto, unfolding(crate::specs::Commands::file_of))]
 fn look_command<'a>(look: Look, words: &'a [String]) -> Option<Command<'a>>
     ensures { option_map task_view result
@@ -150,6 +184,30 @@ fn look_command<'a>(look: Look, words: &'a [String]) -> Option<Command<'a>>
         return None;
     }
     let file = plain_at(words, 0)?;
+    Some(Command::Look(LookWords { look, file }))
+}
+
+// What is shown of a file, as words of that form say.
+fn show_in(words: &[String]) -> Look
+    ensures { result ≡ show_look (map string_bytes words.now) }
+{
+    if has_flag(words, "records") {
+        Look::Records
+    } else {
+        Look::Show
+    }
+}
+
+// The look at the file that stands behind `show`.
+#[tactic(auto, unfolding(crate::specs::Commands::show_of))]
+fn show_command<'a>(words: &'a [String]) -> Option<Command<'a>>
+    ensures { option_map task_view result ≡ show_of (map string_bytes words.entry.now) }
+{
+    if !is_of_form(&SHOW, words) {
+        return None;
+    }
+    let file = plain_at(words, 0)?;
+    let look = show_in(words);
     Some(Command::Look(LookWords { look, file }))
 }
 

@@ -43,7 +43,7 @@ fn is_flag_of(flags: &[&str], word: &str) -> bool
 }
 
 // A plain word, or an option of the form with a value that isn't empty, or a flag of it.
-fn is_word(form: &WordForm<'_>, word: &str) -> bool
+pub(crate) fn is_word(form: &WordForm<'_>, word: &str) -> bool
     ensures { result ≡ spec.is_word (form_view form.now) word.now }
 {
     is_plain(word.as_bytes()) || is_option_of(form.options, word) || is_flag_of(form.flags, word)
@@ -58,7 +58,7 @@ fn are_words(form: &WordForm<'_>, words: &[String]) -> bool
 }
 
 // How many of the words are plain.
-fn plain_count(words: &[String]) -> usize
+pub(crate) fn plain_count(words: &[String]) -> usize
     ensures { result ≡ length (spec.plain_words (map string_bytes words.now)) }
 {
     words
@@ -68,7 +68,7 @@ fn plain_count(words: &[String]) -> usize
 }
 
 // How many of the words begin with `--NAME=`.
-fn option_count(words: &[String], name: &str) -> usize
+pub(crate) fn option_count(words: &[String], name: &str) -> usize
     ensures { result ≡ spec.option_count name.now (map string_bytes words.now) }
 {
     words
@@ -78,7 +78,7 @@ fn option_count(words: &[String], name: &str) -> usize
 }
 
 // How many of the words are `--NAME`.
-fn flag_count(words: &[String], name: &str) -> usize
+pub(crate) fn flag_count(words: &[String], name: &str) -> usize
     ensures { result ≡ spec.flag_count name.now (map string_bytes words.now) }
 {
     words

@@ -1,13 +1,15 @@
-//! The words of a command line: which are in the form, and what they ask for.
+//! The words of a command line: which are in the form, what they ask for, and which of them is at fault where they ask for
+//! nothing.
 //!
-//! The first word is the command: `run HANDHELD DESKTOP --date=D [--script=F] [--trace=F] [--slow] [--actions=L] [--add-user]`,
-//! `check FILE`, `show FILE`, `export FILE --as=FORM [--date=D] [--without-private] [--keep-broken]`, `import FILE --as=txt`,
-//! `verify FILE`, `picture FILE`, `packet HEX`, `make SEED N`, `install HANDHELD FILE [--trace=F]`, `backup` or
-//! `restore HANDHELD FOLDER [--script=F] [--trace=F]`, `device HANDHELD --in=F --out=F` or
-//! `categories HANDHELD DESKTOP [--script=F] [--trace=F]`; and `sync PORT DESKTOP --date=D [--only=L] [--trace=F] [--slow]
-//! [--actions=L] [--add-user]`, which has a call of its own. The form of the words behind it is a table, and they stand in
-//! any order. A plain word is not empty and does not begin with `-`. A date is written, or it is `now`, the date that the
-//! caller hands over. No call takes memory but for the list of actions.
+//! The first word is the command: `run HANDHELD DESKTOP --date=D [--script=F] [--trace=F] [--slow] [--actions=L] [--add-user]
+//! [--dry-run]`, `check FILE`, `show FILE [--records]`, `export FILE --as=FORM [--date=D] [--without-private] [--keep-broken]`,
+//! `import FILE --as=txt`, `verify FILE`, `picture FILE`, `packet HEX`, `make SEED N`,
+//! `install HANDHELD FILE [--trace=F]`, `backup` or `restore HANDHELD FOLDER [--script=F] [--trace=F]`,
+//! `device HANDHELD --in=F --out=F` or `categories HANDHELD DESKTOP [--script=F] [--trace=F]`; and `sync PORT DESKTOP
+//! --date=D [--only=L] [--trace=F] [--slow] [--actions=L] [--add-user]`, which has a call of its own. `help [COMMAND]`,
+//! `--help`, `COMMAND .. --help` and `--version` ask for help. The form of the words behind a command is a table, and they
+//! stand in any order. A plain word is not empty and does not begin with `-`. A date is written, or it is `now`, the date
+//! that the caller hands over. No call takes memory but for the list of actions.
 #![tactic(auto)]
 
 mod action;
@@ -16,6 +18,7 @@ mod between;
 mod cable;
 mod capture;
 mod command;
+mod fault;
 mod form;
 mod hexadecimal;
 mod look;
@@ -23,6 +26,7 @@ mod number;
 mod only;
 mod run;
 mod stem;
+mod topic;
 mod word;
 
 pub use action::{ActionWord, NamedAction, Target, action_of};
@@ -31,10 +35,12 @@ pub use between::{BETWEEN, BetweenWords};
 pub use cable::{CABLE, CableWords, is_sync, sync_words};
 pub use capture::{CAPTURE, CaptureWords};
 pub use command::{
-    Command, EXPORT, FILE, IMPORT, MAKE, MakeWords, PACKET, PacketWords, command_of,
+    Command, EXPORT, FILE, IMPORT, MAKE, MakeWords, PACKET, PacketWords, SHOW, command_of, deed_of,
 };
+pub use fault::{FaultKind, INSTALL, WordFault, fault_of};
 pub use form::{ValueOption, WordForm};
 pub use look::{Export, ExportForm, ImportForm, Look, LookWords, export_form_in, import_form_in};
 pub use number::{count_in, number_in};
 pub use only::{cable_actions, only_these_are_touched};
 pub use run::{RUN, RunWords, date_in};
+pub use topic::{CommandWord, Topic, command_word, help_of};

@@ -1,6 +1,6 @@
 // Looks at a file.
 ghost use Rattle.std.specs.Prelude.{◌≡◌, option_copied};
-ghost use Rattle.run_words.specs.Exports.{dated_form, export_form_of, import_form_of, plain_form};
+ghost use Rattle.run_words.specs.Exports.{dated_form, export_form_of, import_form_of, is_form_word as is_word_of_form, plain_form};
 
 use crate::run::date_in;
 
@@ -42,6 +42,8 @@ pub enum Look {
     Check,
     /// All that it holds, in lines.
     Show,
+    /// The same, and in the line of each entry its bytes as text.
+    Records,
     /// The text of what its records say.
     Export(Export),
     /// The database of what the text in it says.
@@ -92,6 +94,19 @@ pub fn export_form_in(now: Option<u32>, word: &str, date: Option<&str>) -> Optio
     match date {
         Some(date) => dated_form(now, word, date),
         None => plain_form(word),
+    }
+}
+
+/// Whether a word is one of those that name the form of a text.
+pub(crate) fn is_form_word(word: &str) -> bool
+    ensures { result ≡ is_word_of_form word.now }
+{
+    match word {
+        "txt" => true,
+        "vcf" => true,
+        "csv" => true,
+        "ics" => true,
+        _ => false,
     }
 }
 

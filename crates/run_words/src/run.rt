@@ -29,7 +29,7 @@ pub const RUN: WordForm<'static> = WordForm {
             is_required: false,
         },
     ],
-    flags: &["slow", "add-user"],
+    flags: &["slow", "add-user", "dry-run"],
 };
 
 /// A run, as the words ask for it.

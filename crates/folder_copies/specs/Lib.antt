@@ -1,0 +1,2 @@
+pub mod CopiedFolders
+pub mod Copies

@@ -1,0 +1,109 @@
+-- The text of help.
+use Rattle.std.specs.Prelude.{ℕ, List, [], ◌∷◌, ◌++◌, codes}
+use Rattle.std.specs.List.{flat_map}
+use Rattle.run_words.specs.declared.topic.CommandWord.{CommandWord}
+use Rattle.run_words.specs.declared.topic.CommandWord.TheVariants.{Run, Check, Show, Export, Import, Verify, Picture, Packet, Install, Backup, Restore, Device, Categories, Sync, Make}
+use Rattle.run_words.specs.declared.topic.Topic.{Topic}
+use Rattle.run_words.specs.declared.topic.Topic.TheVariants.{Program, Version, Of}
+use Rattle.hotsync_looks.specs.Lines.{line_feed}
+use Rattle.hotsync_looks.specs.declared.help_text.OptionLine.{OptionLine}
+use Rattle.hotsync_looks.specs.declared.help_text.OptionLine.TheVariants.{Date, DateNow, Script, Trace, Input, Output, Slow, Actions, Only, AddUser, DryRun, AsText, AsCards, AsTable, AsCalendar, WithoutPrivate, KeepBroken, Records}
+
+-- the commands, in the order in which help tells them
+abbrev pub commands : List CommandWord
+commands =
+    Run ∷ Check ∷ Show ∷ Export ∷ Import ∷ Verify ∷ Picture ∷ Packet
+    ∷ Install ∷ Backup ∷ Restore ∷ Device ∷ Categories ∷ Sync ∷ Make ∷ []
+
+-- how a command is called
+abbrev pub synopsis : CommandWord → List ℕ
+synopsis Run =
+    codes "hotsync run HANDHELD DESKTOP --date=D [--script=F] [--trace=F] [--slow] [--actions=L] [--add-user] [--dry-run]"
+synopsis Check = codes "hotsync check FILE"
+synopsis Show = codes "hotsync show FILE [--records]"
+synopsis Export =
+    codes "hotsync export FILE --as=FORM [--date=D] [--without-private] [--keep-broken]"
+synopsis Import = codes "hotsync import FILE --as=txt"
+synopsis Verify = codes "hotsync verify FILE"
+synopsis Picture = codes "hotsync picture FILE"
+synopsis Packet = codes "hotsync packet HEX"
+synopsis Install = codes "hotsync install HANDHELD FILE [--trace=F]"
+synopsis Backup = codes "hotsync backup HANDHELD FOLDER [--script=F] [--trace=F]"
+synopsis Restore = codes "hotsync restore HANDHELD FOLDER [--script=F] [--trace=F]"
+synopsis Device = codes "hotsync device HANDHELD --in=F --out=F"
+synopsis Categories = codes "hotsync categories HANDHELD DESKTOP [--script=F] [--trace=F]"
+synopsis Sync =
+    codes "hotsync sync PORT DESKTOP --date=D [--only=L] [--trace=F] [--slow] [--actions=L] [--add-user]"
+synopsis Make = codes "hotsync make SEED N"
+
+-- the options of a command
+abbrev pub options : CommandWord → List OptionLine
+options Run =
+    Date ∷ DateNow ∷ Script ∷ Trace ∷ Slow ∷ Actions ∷ AddUser ∷ DryRun ∷ []
+options Check = []
+options Show = Records ∷ []
+options Export = AsText ∷ AsCards ∷ AsTable ∷ AsCalendar ∷ WithoutPrivate ∷ KeepBroken ∷ []
+options Import = AsText ∷ []
+options Verify = []
+options Picture = []
+options Packet = []
+options Install = Trace ∷ []
+options Backup = Script ∷ Trace ∷ []
+options Restore = Script ∷ Trace ∷ []
+options Device = Input ∷ Output ∷ []
+options Categories = Script ∷ Trace ∷ []
+options Sync = Date ∷ DateNow ∷ Only ∷ Trace ∷ Slow ∷ Actions ∷ AddUser ∷ []
+options Make = []
+
+-- what is said of an option
+abbrev pub option_words : OptionLine → List ℕ
+option_words Date = codes "--date=D           the date of the session, from 1904 to 2040"
+option_words DateNow = codes "--date=now         the date of the system's clock in UTC"
+option_words Script = codes "--script=F         what the line does to each frame"
+option_words Trace = codes "--trace=F          writes each frame that went over the line"
+option_words Input = codes "--in=F             the bytes that a handheld hears"
+option_words Output = codes "--out=F            the file F for the bytes that it says"
+option_words Slow = codes "--slow             reads every record of the handheld"
+option_words Actions = codes "--actions=L        what is done with single databases"
+option_words Only = codes "--only=L           the databases that sync touches"
+option_words AddUser =
+    codes "--add-user         where the handheld's user is unknown to the desktop, a place of its own is made"
+option_words DryRun =
+    codes "--dry-run          prints what the run would print, and changes nothing in either folder"
+option_words AsText = codes "--as=txt           the memos as text in UTF-8"
+option_words AsCards = codes "--as=vcf           addresses as vCards"
+option_words AsTable = codes "--as=csv           addresses or tasks as a table"
+option_words AsCalendar = codes "--as=ics --date=D  tasks or dates as an iCalendar object"
+option_words WithoutPrivate = codes "--without-private  without the records that are private"
+option_words KeepBroken =
+    codes "--keep-broken      a record that is out of its form stands in the text with its bytes"
+option_words Records = codes "--records          the bytes of each entry as text, behind its line"
+
+-- a line behind two spaces
+abbrev pub indented : List ℕ → List ℕ
+indented line = codes "  " ++ line ++ line_feed
+
+-- the line of a command, where help tells all of them
+abbrev pub command_line : CommandWord → List ℕ
+command_line command = indented (synopsis command)
+
+-- the line of an option
+abbrev pub option_line : OptionLine → List ℕ
+option_line option = indented (option_words option)
+
+-- how the program is called
+unfoldable pub program_help : List ℕ
+program_help =
+    codes "usage:\n" ++ flat_map command_line commands
+    ++ codes "  hotsync help [COMMAND]\n" ++ codes "  hotsync --version\n"
+
+-- how a command is called, and its options
+unfoldable pub command_help : CommandWord → List ℕ
+command_help command =
+    codes "usage: " ++ synopsis command ++ line_feed ++ flat_map option_line (options command)
+
+-- the text of a topic
+abbrev pub help_text : Topic → List ℕ
+help_text Program = program_help
+help_text Version = codes "hotsync 0.9.0\n"
+help_text (Of command) = command_help command

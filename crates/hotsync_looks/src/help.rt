@@ -1,0 +1,22 @@
+// Help.
+ghost use Rattle.hotsync_looks.specs.Helped.{IsHelped};
+
+use crate::help_text::help_text;
+use crate::printing::{print_no_memory, print_text};
+use crate::status::Status;
+use hs_folders::Sink;
+use run_words::Topic;
+use std::alloc::{AllocError, Global};
+
+/// Prints the text of a topic.
+pub fn print_help<O: Sink>(alloc: Global, topic: Topic, out: &mut O) -> Status
+    ensures { IsHelped topic
+        (record { taken = O.taken out.old; paths = O.paths out.old; faults = O.faults out.old })
+        (record { taken = O.taken out.new; paths = O.paths out.new; faults = O.faults out.new })
+        result }
+{
+    match help_text(alloc, topic) {
+        Ok(text) => print_text(text.as_bytes(), out),
+        Err(AllocError) => print_no_memory(out),
+    }
+}

@@ -1,0 +1,251 @@
+// The text of help, as tables.
+ghost use Rattle.std.specs.Prelude.{◌≡◌, IfOk, string_bytes};
+ghost use Rattle.std.specs.List.{flat_map};
+ghost use Rattle.hotsync_looks.specs.HelpTexts as spec;
+
+use run_words::{CommandWord, Topic};
+use std::alloc::{AllocError, Global};
+
+/// The program and its version.
+const VERSION: &str = "hotsync 0.9.0\n";
+
+/// The commands, in the order in which help tells them.
+const COMMANDS: &[CommandWord] = &[
+    CommandWord::Run,
+    CommandWord::Check,
+    CommandWord::Show,
+    CommandWord::Export,
+    CommandWord::Import,
+    CommandWord::Verify,
+    CommandWord::Picture,
+    CommandWord::Packet,
+    CommandWord::Install,
+    CommandWord::Backup,
+    CommandWord::Restore,
+    CommandWord::Device,
+    CommandWord::Categories,
+    CommandWord::Sync,
+    CommandWord::Make,
+];
+
+/// An option in the text of help.
+#[derive(Clone, Copy)]
+pub enum OptionLine {
+    /// `--date=D`.
+    Date,
+    /// `--date=now`.
+    DateNow,
+    /// `--script=F`.
+    Script,
+    /// `--trace=F`.
+    Trace,
+    /// `--in=F`.
+    Input,
+    /// `--out=F`.
+    Output,
+    /// `--slow`.
+    Slow,
+    /// `--actions=L`.
+    Actions,
+    /// `--only=L`.
+    Only,
+    /// `--add-user`.
+    AddUser,
+    /// `--dry-run`.
+    DryRun,
+    /// `--as=txt`.
+    AsText,
+    /// `--as=vcf`.
+    AsCards,
+    /// `--as=csv`.
+    AsTable,
+    /// `--as=ics --date=D`.
+    AsCalendar,
+    /// `--without-private`.
+    WithoutPrivate,
+    /// `--keep-broken`.
+    KeepBroken,
+    /// `--records`.
+    Records,
+}
+
+// How a command is called.
+fn synopsis(command: CommandWord) -> &'static str
+    ensures { result.now ≡ spec.synopsis command }
+{
+    match command {
+        CommandWord::Run => {
+            "hotsync run HANDHELD DESKTOP --date=D [--script=F] [--trace=F] [--slow] [--actions=L] [--add-user] [--dry-run]"
+        }
+        CommandWord::Check => "hotsync check FILE",
+        CommandWord::Show => "hotsync show FILE [--records]",
+        CommandWord::Export => {
+            "hotsync export FILE --as=FORM [--date=D] [--without-private] [--keep-broken]"
+        }
+        CommandWord::Import => "hotsync import FILE --as=txt",
+        CommandWord::Verify => "hotsync verify FILE",
+        CommandWord::Picture => "hotsync picture FILE",
+        CommandWord::Packet => "hotsync packet HEX",
+        CommandWord::Install => "hotsync install HANDHELD FILE [--trace=F]",
+        CommandWord::Backup => "hotsync backup HANDHELD FOLDER [--script=F] [--trace=F]",
+        CommandWord::Restore => "hotsync restore HANDHELD FOLDER [--script=F] [--trace=F]",
+        CommandWord::Device => "hotsync device HANDHELD --in=F --out=F",
+        CommandWord::Categories => "hotsync categories HANDHELD DESKTOP [--script=F] [--trace=F]",
+        CommandWord::Sync => {
+            "hotsync sync PORT DESKTOP --date=D [--only=L] [--trace=F] [--slow] [--actions=L] [--add-user]"
+        }
+        CommandWord::Make => "hotsync make SEED N",
+    }
+}
+
+// The options of a command.
+fn options(command: CommandWord) -> &'static [OptionLine]
+    ensures { result.now ≡ spec.options command }
+{
+    match command {
+        CommandWord::Run => &[
+            OptionLine::Date,
+            OptionLine::DateNow,
+            OptionLine::Script,
+            OptionLine::Trace,
+            OptionLine::Slow,
+            OptionLine::Actions,
+            OptionLine::AddUser,
+            OptionLine::DryRun,
+        ],
+        CommandWord::Check => &[],
+        CommandWord::Show => &[OptionLine::Records],
+        CommandWord::Export => &[
+            OptionLine::AsText,
+            OptionLine::AsCards,
+            OptionLine::AsTable,
+            OptionLine::AsCalendar,
+            OptionLine::WithoutPrivate,
+            OptionLine::KeepBroken,
+        ],
+        CommandWord::Import => &[OptionLine::AsText],
+        CommandWord::Verify => &[],
+        CommandWord::Picture => &[],
+        CommandWord::Packet => &[],
+        CommandWord::Install => &[OptionLine::Trace],
+        CommandWord::Backup => &[OptionLine::Script, OptionLine::Trace],
+        CommandWord::Restore => &[OptionLine::Script, OptionLine::Trace],
+        CommandWord::Device => &[OptionLine::Input, OptionLine::Output],
+        CommandWord::Categories => &[OptionLine::Script, OptionLine::Trace],
+        CommandWord::Sync => &[
+            OptionLine::Date,
+            OptionLine::DateNow,
+            OptionLine::Only,
+            OptionLine::Trace,
+            OptionLine::Slow,
+            OptionLine::Actions,
+            OptionLine::AddUser,
+        ],
+        CommandWord::Make => &[],
+    }
+}
+
+// What is said of an option.
+fn option_words(option: OptionLine) -> &'static str
+    ensures { result.now ≡ spec.option_words option }
+{
+    match option {
+        OptionLine::Date => "--date=D           the date of the session, from 1904 to 2040",
+        OptionLine::DateNow => "--date=now         the date of the system's clock in UTC",
+        OptionLine::Script => "--script=F         what the line does to each frame",
+        OptionLine::Trace => "--trace=F          writes each frame that went over the line",
+        OptionLine::Input => "--in=F             the bytes that a handheld hears",
+        OptionLine::Output => "--out=F            the file F for the bytes that it says",
+        OptionLine::Slow => "--slow             reads every record of the handheld",
+        OptionLine::Actions => "--actions=L        what is done with single databases",
+        OptionLine::Only => "--only=L           the databases that sync touches",
+        OptionLine::AddUser => {
+            "--add-user         where the handheld's user is unknown to the desktop, a place of its own is made"
+        }
+        OptionLine::DryRun =>
+            "--dry-run          prints what the run would print, and changes nothing in either folder",
+        OptionLine::AsText => "--as=txt           the memos as text in UTF-8",
+        OptionLine::AsCards => "--as=vcf           addresses as vCards",
+        OptionLine::AsTable => "--as=csv           addresses or tasks as a table",
+        OptionLine::AsCalendar => "--as=ics --date=D  tasks or dates as an iCalendar object",
+        OptionLine::WithoutPrivate => "--without-private  without the records that are private",
+        OptionLine::KeepBroken => {
+            "--keep-broken      a record that is out of its form stands in the text with its bytes"
+        }
+        OptionLine::Records => {
+            "--records          the bytes of each entry as text, behind its line"
+        }
+    }
+}
+
+// A line behind two spaces.
+fn indented(alloc: Global, line: &str) -> Result<String, AllocError>
+    ensures { IfOk result (λ text. string_bytes text ≡ spec.indented line.now) }
+{
+    let mut text = String::from_str(alloc, "  ")?;
+    text.push_str(line)?;
+    text.push_str("\n")?;
+    Ok(text)
+}
+
+// A line for each of these commands.
+fn commands_text(alloc: Global, commands: &[CommandWord]) -> Result<String, AllocError>
+    ensures { IfOk result (λ text. string_bytes text
+        ≡ flat_map spec.command_line commands.now) }
+{
+    let mut text = String::new(alloc);
+    for command in commands {
+        let line = indented(alloc, synopsis(*command))?;
+        text.push_str(line.as_str())?;
+    }
+    Ok(text)
+}
+
+// A line for each of these options.
+fn options_text(alloc: Global, options: &[OptionLine]) -> Result<String, AllocError>
+    ensures { IfOk result (λ text. string_bytes text ≡ flat_map spec.option_line options.now) }
+{
+    let mut text = String::new(alloc);
+    for option in options {
+        let line = indented(alloc, option_words(*option))?;
+        text.push_str(line.as_str())?;
+    }
+    Ok(text)
+}
+
+// How the program is called.
+#[tactic(auto, unfolding(crate::specs::HelpTexts::program_help))]
+fn program_text(alloc: Global) -> Result<String, AllocError>
+    ensures { IfOk result (λ text. string_bytes text ≡ spec.program_help) }
+{
+    let mut text = String::from_str(alloc, "usage:\n")?;
+    let commands = commands_text(alloc, COMMANDS)?;
+    text.push_str(commands.as_str())?;
+    text.push_str("  hotsync help [COMMAND]\n")?;
+    text.push_str("  hotsync --version\n")?;
+    Ok(text)
+}
+
+// How a command is called.
+#[tactic(auto, unfolding(crate::specs::HelpTexts::command_help))]
+fn command_text(alloc: Global, command: CommandWord) -> Result<String, AllocError>
+    ensures { IfOk result (λ text. string_bytes text ≡ spec.command_help command) }
+{
+    let mut text = String::from_str(alloc, "usage: ")?;
+    text.push_str(synopsis(command))?;
+    text.push_str("\n")?;
+    let options = options_text(alloc, options(command))?;
+    text.push_str(options.as_str())?;
+    Ok(text)
+}
+
+/// The text of a topic.
+pub fn help_text(alloc: Global, topic: Topic) -> Result<String, AllocError>
+    ensures { IfOk result (λ text. string_bytes text ≡ spec.help_text topic) }
+{
+    match topic {
+        Topic::Program => program_text(alloc),
+        Topic::Version => String::from_str(alloc, VERSION),
+        Topic::Of(command) => command_text(alloc, command),
+    }
+}

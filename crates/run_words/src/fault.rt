@@ -1,0 +1,454 @@
+// The word at fault, where words ask for nothing.
+ghost use Rattle.std.specs.Prelude.{◌≡◌, map, option_copied, option_map, string_bytes};
+ghost use Rattle.std.specs.List.{find};
+ghost use Rattle.run_words.specs.Faults as spec;
+ghost use Rattle.run_words.specs.Views.{fault_view, form_view, option_view};
+
+use crate::action_list::is_actions;
+use crate::between::BETWEEN;
+use crate::cable::CABLE;
+use crate::capture::CAPTURE;
+use crate::command::{EXPORT, FILE, IMPORT, MAKE, PACKET, SHOW};
+use crate::form::{
+    ValueOption, WordForm, flag_count, is_word, option_count, plain_at, plain_count, value_of,
+};
+use crate::hexadecimal::is_hex;
+use crate::look::is_form_word;
+use crate::number::{count_in, number_in};
+use crate::only::are_stems;
+use crate::run::{RUN, date_in};
+use crate::topic::{CommandWord, command_word};
+use crate::word::{is_flag, is_option, is_plain};
+
+/// What is wrong with a word.
+#[derive(Clone, Copy, PartialEq, Eq)]
+pub enum FaultKind {
+    /// It names no command.
+    UnknownCommand,
+    /// It is no option of its command.
+    UnknownOption,
+    /// It is an option without the value that it wants.
+    NoValue,
+    /// It is a flag with a value.
+    ExtraValue,
+    /// The option or the flag of this name stands more than once.
+    Twice,
+    /// It is one word too many.
+    Extra,
+    /// The option of this name doesn't stand.
+    Missing,
+    /// The words behind this command are too few.
+    TooFew,
+    /// The value of the option of this name means nothing.
+    BadOption,
+    /// It means nothing in its place.
+    BadWord,
+}
+
+/// The word at fault.
+#[derive(Clone, Copy)]
+pub struct WordFault<'a> {
+    /// What is wrong with it.
+    pub kind: FaultKind,
+    /// The word, or the name of an option or a flag.
+    pub word: &'a str,
+}
+
+/// The form of the words behind `install`, whose line loses nothing.
+pub const INSTALL: WordForm<'static> = WordForm {
+    plain: &["handheld", "file"],
+    options: &[ValueOption {
+        name: "trace",
+        is_required: false,
+    }],
+    flags: &[],
+};
+
+// The form of the words behind a command.
+fn form_behind(command: CommandWord) -> WordForm<'static>
+    ensures { form_view result ≡ spec.form_behind command }
+{
+    match command {
+        CommandWord::Run => RUN,
+        CommandWord::Check => FILE,
+        CommandWord::Show => SHOW,
+        CommandWord::Export => EXPORT,
+        CommandWord::Import => IMPORT,
+        CommandWord::Verify => FILE,
+        CommandWord::Picture => FILE,
+        CommandWord::Packet => PACKET,
+        CommandWord::Install => INSTALL,
+        CommandWord::Backup => BETWEEN,
+        CommandWord::Restore => BETWEEN,
+        CommandWord::Device => CAPTURE,
+        CommandWord::Categories => BETWEEN,
+        CommandWord::Sync => CABLE,
+        CommandWord::Make => MAKE,
+    }
+}
+
+// ---- words that are none of the form
+
+// Whether a word is this option without a value.
+fn lacks_this(option: &ValueOption<'_>, word: &str) -> bool
+    ensures { result ≡ spec.lacks_this word.now (option_view option.now) }
+{
+    is_flag(word, option.name) || is_option(word, option.name)
+}
+
+// Whether a word is an option of the form without a value.
+fn lacks_value(form: &WordForm<'_>, word: &str) -> bool
+    ensures { result ≡ spec.lacks_value (form_view form.now) word.now }
+{
+    form.options.iter().any(|option| lacks_this(option, word))
+}
+
+// Whether a word is a flag of the form with a value.
+fn gives_value(form: &WordForm<'_>, word: &str) -> bool
+    ensures { result ≡ spec.gives_value (form_view form.now) word.now }
+{
+    form.flags.iter().any(|flag| is_option(word, *flag))
+}
+
+// What is wrong with a word that is none of the form.
+fn kind_of(form: &WordForm<'_>, word: &str) -> FaultKind
+    ensures { result ≡ spec.strange_kind (form_view form.now) word.now }
+{
+    if lacks_value(form, word) {
+        FaultKind::NoValue
+    } else if gives_value(form, word) {
+        FaultKind::ExtraValue
+    } else {
+        FaultKind::UnknownOption
+    }
+}
+
+// Whether a word is none of the form, and not empty.
+fn is_strange(form: &WordForm<'_>, word: &str) -> bool
+    ensures { result ≡ spec.is_strange (form_view form.now) word.now }
+{
+    !is_word(form, word) && !word.is_empty()
+}
+
+// The first word that is none of the form, and not empty.
+fn strange_in<'a>(form: &WordForm<'_>, words: &'a [String]) -> Option<&'a String>
+    ensures { option_map string_bytes (option_copied result)
+        ≡ find (spec.is_strange (form_view form.now)) (map string_bytes words.entry.now) }
+{
+    words.iter().find(|word| is_strange(form, word.as_str()))
+}
+
+// What is wrong with that word.
+fn strange_word<'a>(form: &WordForm<'_>, words: &'a [String]) -> Option<WordFault<'a>>
+    ensures { option_map fault_view result
+        ≡ spec.strange_word (form_view form.now) (map string_bytes words.entry.now) }
+{
+    let word = strange_in(form, words)?.as_str();
+    Some(WordFault {
+        kind: kind_of(form, word),
+        word,
+    })
+}
+
+// ---- options and flags that don't stand as they have to
+
+// Whether an option stands more than once.
+fn is_twice(option: &ValueOption<'_>, words: &[String]) -> bool
+    ensures { result ≡ spec.is_twice (map string_bytes words.now) (option_view option.now) }
+{
+    option_count(words, option.name) > 1
+}
+
+// Whether an option has to stand and doesn't.
+fn is_missing(option: &ValueOption<'_>, words: &[String]) -> bool
+    ensures { result ≡ spec.is_missing (map string_bytes words.now) (option_view option.now) }
+{
+    option.is_required && option_count(words, option.name) == 0
+}
+
+// The first option that stands more than once.
+fn option_twice<'a>(form: &WordForm<'a>, words: &[String]) -> Option<&'a ValueOption<'a>>
+    ensures { option_map option_view (option_copied result)
+        ≡ find (spec.is_twice (map string_bytes words.now)) (form_view form.now).options }
+{
+    form.options.iter().find(|option| is_twice(option, words))
+}
+
+// The first option that has to stand and doesn't.
+fn option_missing<'a>(form: &WordForm<'a>, words: &[String]) -> Option<&'a ValueOption<'a>>
+    ensures { option_map option_view (option_copied result)
+        ≡ find (spec.is_missing (map string_bytes words.now)) (form_view form.now).options }
+{
+    form.options.iter().find(|option| is_missing(option, words))
+}
+
+// The first flag that stands more than once.
+fn flag_twice<'a>(form: &WordForm<'a>, words: &[String]) -> Option<&'a &'a str>
+    ensures { option_map (λ flag. flag.now) (option_copied result)
+        ≡ find (spec.is_flag_twice (map string_bytes words.now)) (form_view form.now).flags }
+{
+    form.flags.iter().find(|flag| flag_count(words, **flag) > 1)
+}
+
+// What stands more than once.
+fn twice_fault<'a>(form: &WordForm<'a>, words: &[String]) -> Option<WordFault<'a>>
+    ensures { option_map fault_view result
+        ≡ spec.twice_fault (form_view form.now) (map string_bytes words.now) }
+{
+    match option_twice(form, words) {
+        Some(option) => Some(WordFault {
+            kind: FaultKind::Twice,
+            word: option.name,
+        }),
+        None => {
+            let word = *flag_twice(form, words)?;
+            Some(WordFault {
+                kind: FaultKind::Twice,
+                word,
+            })
+        }
+    }
+}
+
+// The option that has to stand and doesn't.
+fn missing_fault<'a>(form: &WordForm<'a>, words: &[String]) -> Option<WordFault<'a>>
+    ensures { option_map fault_view result
+        ≡ spec.missing_fault (form_view form.now) (map string_bytes words.now) }
+{
+    let option = option_missing(form, words)?;
+    Some(WordFault {
+        kind: FaultKind::Missing,
+        word: option.name,
+    })
+}
+
+// ---- plain words
+
+// The first plain word behind those of the form.
+fn extra_word<'a>(form: &WordForm<'_>, words: &'a [String]) -> Option<WordFault<'a>>
+    ensures { option_map fault_view result
+        ≡ spec.extra_word (form_view form.now) (map string_bytes words.entry.now) }
+{
+    let word = plain_at(words, form.plain.len())?;
+    Some(WordFault {
+        kind: FaultKind::Extra,
+        word,
+    })
+}
+
+// The command, where fewer plain words stand behind it than its form has.
+fn few_words<'a>(form: &WordForm<'_>, command: &'a str, words: &[String]) -> Option<WordFault<'a>>
+    ensures { option_map fault_view result
+        ≡ spec.few_words (form_view form.now) command.entry.now (map string_bytes words.now) }
+{
+    if plain_count(words) >= form.plain.len() {
+        return None;
+    }
+    Some(WordFault {
+        kind: FaultKind::TooFew,
+        word: command,
+    })
+}
+
+// ---- values
+
+// Whether the value of an option means nothing.
+fn is_bad_value(now: Option<u32>, name: &str, value: &str) -> bool
+    ensures { result ≡ spec.is_bad_value now name.now value.now }
+{
+    match name {
+        "date" => date_in(now, value).is_none(),
+        "actions" => !is_actions(value),
+        "only" => !are_stems(value),
+        "as" => !is_form_word(value),
+        _ => false,
+    }
+}
+
+// Whether the value that the words give an option means nothing.
+fn is_wrong(now: Option<u32>, words: &[String], option: &ValueOption<'_>) -> bool
+    ensures { result ≡ spec.is_wrong now (map string_bytes words.now) (option_view option.now) }
+{
+    match value_of(words, option.name) {
+        Some(value) => is_bad_value(now, option.name, value),
+        None => false,
+    }
+}
+
+// The first option whose value means nothing.
+fn option_wrong<'a>(
+    now: Option<u32>,
+    form: &WordForm<'a>,
+    words: &[String],
+) -> Option<&'a ValueOption<'a>>
+    ensures { option_map option_view (option_copied result)
+        ≡ find (spec.is_wrong now (map string_bytes words.now)) (form_view form.now).options }
+{
+    form.options
+        .iter()
+        .find(|option| is_wrong(now, words, option))
+}
+
+// The option whose value means nothing.
+fn value_fault<'a>(now: Option<u32>, form: &WordForm<'a>, words: &[String]) -> Option<WordFault<'a>>
+    ensures { option_map fault_view result
+        ≡ spec.value_fault now (form_view form.now) (map string_bytes words.now) }
+{
+    let option = option_wrong(now, form, words)?;
+    Some(WordFault {
+        kind: FaultKind::BadOption,
+        word: option.name,
+    })
+}
+
+// Whether the plain word at a place behind a command means nothing.
+fn is_bad_word(command: CommandWord, place: usize, word: &str) -> bool
+    ensures { result ≡ spec.is_bad_word command place word.now }
+{
+    match command {
+        CommandWord::Packet => !is_hex(word.as_bytes()),
+        CommandWord::Make if place == 0 => number_in(word).is_none(),
+        CommandWord::Make => count_in(word).is_none(),
+        _ => false,
+    }
+}
+
+// The plain word at a place, where it means nothing.
+fn bad_word_at<'a>(command: CommandWord, place: usize, words: &'a [String]) -> Option<WordFault<'a>>
+    ensures { option_map fault_view result
+        ≡ spec.bad_word_at command place (map string_bytes words.entry.now) }
+{
+    let word = plain_at(words, place)?;
+    if !is_bad_word(command, place, word) {
+        return None;
+    }
+    Some(WordFault {
+        kind: FaultKind::BadWord,
+        word,
+    })
+}
+
+// The first of two plain words that means nothing.
+fn bad_word<'a>(command: CommandWord, words: &'a [String]) -> Option<WordFault<'a>>
+    ensures { option_map fault_view result
+        ≡ spec.bad_word command (map string_bytes words.entry.now) }
+{
+    match bad_word_at(command, 0, words) {
+        Some(fault) => Some(fault),
+        None => bad_word_at(command, 1, words),
+    }
+}
+
+// ---- the first fault
+
+// How words are not of the form of their command.
+fn form_fault<'a>(
+    form: &WordForm<'a>,
+    command: &'a str,
+    words: &'a [String],
+) -> Option<WordFault<'a>>
+    ensures { option_map fault_view result ≡ spec.form_fault (form_view form.now)
+        command.entry.now (map string_bytes words.entry.now) }
+{
+    if let Some(fault) = strange_word(form, words) {
+        return Some(fault);
+    }
+    if let Some(fault) = twice_fault(form, words) {
+        return Some(fault);
+    }
+    if let Some(fault) = extra_word(form, words) {
+        return Some(fault);
+    }
+    match missing_fault(form, words) {
+        Some(fault) => Some(fault),
+        None => few_words(form, command, words),
+    }
+}
+
+// The word at fault behind a command.
+fn command_fault<'a>(
+    now: Option<u32>,
+    known: CommandWord,
+    command: &'a str,
+    words: &'a [String],
+) -> Option<WordFault<'a>>
+    ensures { option_map fault_view result ≡ spec.command_fault now known command.entry.now
+        (map string_bytes words.entry.now) }
+{
+    let form = form_behind(known);
+    if let Some(fault) = form_fault(&form, command, words) {
+        return Some(fault);
+    }
+    match value_fault(now, &form, words) {
+        Some(fault) => Some(fault),
+        None => bad_word(known, words),
+    }
+}
+
+// The first word where none is to stand.
+fn word_too_many<'a>(words: &'a [String]) -> Option<WordFault<'a>>
+    ensures { option_map fault_view result
+        ≡ spec.word_too_many (map string_bytes words.entry.now) }
+{
+    let word = words.first()?.as_str();
+    Some(WordFault {
+        kind: FaultKind::Extra,
+        word,
+    })
+}
+
+// A word that names no command.
+fn unknown_word<'a>(word: &'a str) -> Option<WordFault<'a>>
+    ensures { option_map fault_view result ≡ spec.unknown_word word.entry.now }
+{
+    if word.is_empty() {
+        return None;
+    }
+    let kind = if is_plain(word.as_bytes()) {
+        FaultKind::UnknownCommand
+    } else {
+        FaultKind::UnknownOption
+    };
+    Some(WordFault { kind, word })
+}
+
+// The word at fault behind `help`.
+fn help_fault<'a>(words: &'a [String]) -> Option<WordFault<'a>>
+    ensures { option_map fault_view result ≡ spec.help_fault (map string_bytes words.entry.now) }
+{
+    let [word, words @ ..] = words else {
+        return None;
+    };
+    if command_word(word.as_str()).is_some() || word.as_str() == "--help" {
+        word_too_many(words)
+    } else {
+        unknown_word(word.as_str())
+    }
+}
+
+// The word at fault behind a first word that names no command.
+fn first_fault<'a>(word: &'a str, words: &'a [String]) -> Option<WordFault<'a>>
+    ensures { option_map fault_view result
+        ≡ spec.first_fault word.entry.now (map string_bytes words.entry.now) }
+{
+    match word {
+        "help" => help_fault(words),
+        "--help" => word_too_many(words),
+        "--version" => word_too_many(words),
+        _ => unknown_word(word),
+    }
+}
+
+/// The word at fault in words that ask for nothing, where it can be named. `now` is the date now in seconds, if it can be told.
+#[tactic(auto, unfolding(crate::specs::Faults::fault_of))]
+pub fn fault_of<'a>(now: Option<u32>, words: &'a [String]) -> Option<WordFault<'a>>
+    ensures { option_map fault_view result ≡ spec.fault_of now (map string_bytes words.entry.now) }
+{
+    let [first, words @ ..] = words else {
+        return None;
+    };
+    match command_word(first.as_str()) {
+        Some(known) => command_fault(now, known, first.as_str(), words),
+        None => first_fault(first.as_str(), words),
+    }
+}
