@@ -3,14 +3,14 @@ _hotsync() {
     local word=${COMP_WORDS[COMP_CWD]}
     COMPREPLY=()
     if [ "$COMP_CWD" -eq 1 ]; then
-        COMPREPLY=($(compgen -W 'run check show export import verify picture packet install backup restore device categories sync make' -- "$word"))
+        COMPREPLY=($(compgen -W 'run check show export import verify picture packet install backup restore device categories sync make help --help --version' -- "$word"))
         return
     fi
     case ${COMP_WORDS[1]} in
     run)
         case $word in
         -*)
-            COMPREPLY=($(compgen -W '--date=now --date= --script= --trace= --slow --actions= --actions=*: --add-user' -- "$word"))
+            COMPREPLY=($(compgen -W '--date=now --date= --script= --trace= --slow --actions= --actions=*: --add-user --dry-run' -- "$word"))
             if [ "${#COMPREPLY[@]}" -eq 1 ] && [ "${COMPREPLY[0]%[=:]}" != "${COMPREPLY[0]}" ]; then
                 compopt -o nospace
             fi
@@ -74,7 +74,14 @@ _hotsync() {
         *) COMPREPLY=($(compgen -f -- "$word")) ;;
         esac
         ;;
-    check | show | verify | picture) COMPREPLY=($(compgen -f -- "$word")) ;;
+    show)
+        case $word in
+        -*) COMPREPLY=($(compgen -W '--records' -- "$word")) ;;
+        *) COMPREPLY=($(compgen -f -- "$word")) ;;
+        esac
+        ;;
+    help) COMPREPLY=($(compgen -W 'run check show export import verify picture packet install backup restore device categories sync make' -- "$word")) ;;
+    check | verify | picture) COMPREPLY=($(compgen -f -- "$word")) ;;
     esac
 }
 complete -o filenames -F _hotsync hotsync

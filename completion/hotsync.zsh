@@ -18,6 +18,9 @@ _hotsync() {
         'device:answer captured bytes as a handheld does'
         'sync:synchronise a folder with a handheld behind a serial port'
         'make:print what a run over made folders does'
+        'help:print how the program or a command is called'
+        '--help:print how the program is called'
+        '--version:print the version'
     )
     if ((CURRENT == 2)); then
         _describe command commands
@@ -31,7 +34,8 @@ _hotsync() {
             '--date=[the date of the session]:date:(now)' '--script=[the line script]:file:_files' \
             '--trace=[the file for the trace]:file:_files' '--slow[read all records]' \
             '--actions=[what is done with each database]:actions:' \
-            '--add-user[give the handheld a user of its own on the desktop]'
+            '--add-user[give the handheld a user of its own on the desktop]' \
+            '--dry-run[print what the run would do, and change neither folder]'
         ;;
     export)
         _arguments '1:file:_files' '--as=[the form]:form:(txt vcf csv ics)' \
@@ -56,7 +60,9 @@ _hotsync() {
             '--actions=[what is done with each database]:actions:' \
             '--add-user[give the handheld a user of its own on the desktop]'
         ;;
-    check | show | verify | picture) _arguments '1:file:_files' ;;
+    show) _arguments '1:file:_files' '--records[show the bytes of each entry]' ;;
+    help) _describe command commands ;;
+    check | verify | picture) _arguments '1:file:_files' ;;
     packet) _arguments '1:bytes in hexadecimal digits:' ;;
     make) _arguments '1:seed:' '2:how many records:' ;;
     esac

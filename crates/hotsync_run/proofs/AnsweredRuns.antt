@@ -40,7 +40,7 @@ module _ {rules : List RuleValue} {before after : FolderTold} {report : Report} 
       → AreAnswered report
   run_by line prefix answered = grind (arith, performed-begins line prefix, length ((log_in report).replies))
 
-  session_answered : {meeting : Meeting} {desk desk_after : FolderTold} → LineRan rules meeting.device before after report
+  pub session_answered : {meeting : Meeting} {desk desk_after : FolderTold} → LineRan rules meeting.device before after report
       → SessionLeft meeting after desk desk_after report → AreAnswered report
   session_answered {meeting} line left = by (first_over meeting) refl
     where

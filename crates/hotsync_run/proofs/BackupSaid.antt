@@ -147,8 +147,8 @@ module _ {F : Type 0} (fault : WorldValue F → Option LinkFault) (device : Devi
   stop_said (stop.Session session_fault.Down) stops unkept answered = absurd (never_down cause answered)
   stop_said (stop.Session (session_fault.OtherUser handheld desktop)) stops unkept answered = absurd stops
   stop_said (stop.Session session_fault.TooManyUsers) stops unkept answered = absurd stops
-  stop_said (stop.Session (session_fault.Refused code)) stops unkept answered = absurd answered
-  stop_said (stop.Session (session_fault.BadReply broken)) stops unkept answered = absurd answered
+  stop_said (stop.Session (session_fault.Refused function code)) stops unkept answered = absurd answered
+  stop_said (stop.Session (session_fault.BadReply function broken)) stops unkept answered = absurd answered
   stop_said (stop.Session session_fault.NoMemory) stops unkept answered = absurd answered
   stop_said (stop.Limit name) stops unkept answered = absurd stops
   stop_said (stop.NewHandheld name) stops unkept answered = absurd stops
@@ -186,8 +186,8 @@ module _ {F : Type 0} (fault : WorldValue F → Option LinkFault) (new : WorldVa
   stop_shows (stop.Session session_fault.Down) stops = down_shows cause
   stop_shows (stop.Session (session_fault.OtherUser handheld desktop)) stops = absurd stops
   stop_shows (stop.Session session_fault.TooManyUsers) stops = absurd stops
-  stop_shows (stop.Session (session_fault.Refused code)) stops = tt
-  stop_shows (stop.Session (session_fault.BadReply broken)) stops = tt
+  stop_shows (stop.Session (session_fault.Refused function code)) stops = tt
+  stop_shows (stop.Session (session_fault.BadReply function broken)) stops = tt
   stop_shows (stop.Session session_fault.NoMemory) stops = tt
   stop_shows (stop.Limit name) stops = absurd stops
   stop_shows (stop.NewHandheld name) stops = absurd stops

@@ -47,6 +47,10 @@ use Rattle.hotsync_run.proofs.WholeLaws.{SaidShort}
 use Rattle.hotsync_run.specs.declared.report.Report.{Report}
 use Rattle.hotsync_run.specs.declared.report.SessionEnd.TheVariants.{Ended}
 use Rattle.hotsync_looks.specs.declared.status.Status.{Status}
+use Rattle.install_backup.proofs.BackupOrder.{backup-order, backup_session_plain}
+use Rattle.front_laws.specs.Answered.{IsAnsweredExchange}
+use Rattle.hotsync_run.proofs.LineLaws.{line_ran}
+use Rattle.hotsync_run.proofs.NeverLaws.{IsUnrefusedEnd, all-answered, all-talked, backup_never, run-says}
 
 prefix-on : {xs ys zs : List (List ℕ)} → IsPrefix xs ys → IsPrefix ys zs → IsPrefix xs zs
 prefix-on {xs} first second = record {
@@ -144,8 +148,16 @@ module _ {F D : Type 0} {contents : F → Option FileMap} {moments : F → Momen
   abbrev desk_after : FolderTold
   desk_after = folder_told desk_contents desk_moments desk_paths desk_faults outcome.folder
 
+  never : IsUnrefusedEnd answer
+  never =
+      let line = line_ran silent stands since closes.tells in
+      let issued : IsPrefix (log_in report).issued asked = subst (λ (l : LogValue). IsPrefix l.issued asked) (sym closes.tells.said) begins in
+      backup_never fault new (all-talked IsAnsweredExchange new closes.tells (run-says IsAnsweredExchange line issued (λ count replies last run.
+      all-answered (backup_acts device) count replies last (backup_session_plain device rests) rests.proper (backup-order device count rests) run)))
+      answer told_backup.cause
+
   spoken : Spoke (record { rules = old.script; device = device; asked = asked }) palm palm_after status report
-  spoken = spoke asked stands silent since closes
+  spoken = spoke asked stands silent since never closes
       (backup_said fault device ends.kept ends.later old new new.cause answer told_backup closes.left.status begins)
 
   files_are : map (λ (d : DatabaseValue). file_of (read_of device d)) ends.kept ≡ map backup_file ends.kept

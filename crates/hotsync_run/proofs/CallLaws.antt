@@ -2,10 +2,11 @@
 use Rattle.std.proofs.lemmas.Grind.{common_steps}
 use Rattle.std.proofs.Common.{arith, ◌≡◌, ◌⊎◌, inl, inr, refl, subst, sym}
 use Rattle.std.specs.Prelude.{None, Option, Some, length}
-use Rattle.run_words.specs.Commands.{Backup, Emulate, Categories, Install, LookAt, Make, Restore, Scan, Sync, Task}
+use Rattle.run_words.specs.Commands.{Backup, DryRun, Emulate, Categories, Help, Install, LookAt, Make, Restore, Scan, Sync, Task}
 use Rattle.hotsync_run.specs.Calls.{IsCall}
 use Rattle.hotsync_run.specs.Causes.{ByEnd, HasBegun}
 use Rattle.hotsync_looks.proofs.PrintedLaws.{printed_weaken}
+use Rattle.hotsync_looks.specs.HelpTexts.{help_text}
 use Rattle.hotsync_looks.specs.Lines.{done_lines}
 use Rattle.hotsync_looks.specs.Printed.{IsPrinted}
 use Rattle.hotsync_looks.specs.Told.{SinkTold}
@@ -18,6 +19,7 @@ use Rattle.hotsync_run.specs.Installs.{install_command}
 use Rattle.hotsync_run.specs.Restores.{restore_command}
 use Rattle.hotsync_run.specs.Runs.{run_command}
 use Rattle.hotsync_run.specs.SessionCalls.{IsSessionCall, SentNothing, SessionCommand}
+use Rattle.hotsync_run.proofs.DryLaws.{dry_untouched}
 use Rattle.hotsync_run.proofs.EmulationLaws.{unread_emulation}
 use Rattle.hotsync_run.proofs.RefusedRuns.{stands_same, stays_same}
 use Rattle.hotsync_run.specs.declared.report.Report.{Report}
@@ -73,6 +75,8 @@ pub unread_call : (task : Option Task) (before : CallTold) {out out_after : Sink
     → IsPrinted (λ text. ⊥) out out_after NoMemory → IsCall task before before out out_after NoMemory report
 unread_call (Some (Sync run)) before is printed =
     unread_session (run_command run) before (record { stands = stands_same refl; unread = λ unread. stays_same refl }) is printed
+unread_call (Some (DryRun run)) before is printed = dry_untouched
+    (unread_session (run_command run) before (record { stands = stands_same refl; unread = λ unread. stays_same refl }) is printed)
 unread_call (Some (Install words)) before is printed = unread_session (install_command words) before refl is printed
 unread_call (Some (Backup words)) before is printed = unread_session (backup_command words) before (stays_same refl) is printed
 unread_call (Some (Restore words)) before is printed = unread_session (restore_command words) before (stays_same refl) is printed
@@ -83,6 +87,11 @@ unread_call (Some (Emulate capture)) before {report = report} is printed = recor
 }
 unread_call (Some (Categories words)) before is printed =
     unread_session (categories_command words) before (record { stands = stands_same refl; unread = λ unread. stays_same refl }) is printed
+unread_call (Some (Help topic)) before is printed = record {
+  ended = inr (inr refl);
+  printed = printed_weaken (λ text. text ≡ help_text topic) (λ text no. absurd no) printed;
+  complete = λ calm. inr refl;
+}
 unread_call None before is printed = grind (arith, common_steps)
 unread_call (Some (LookAt look file)) before is printed = grind (arith, common_steps)
 unread_call (Some (Scan bytes)) before is printed = grind (arith, common_steps)

@@ -65,8 +65,8 @@ module _ {F : Type 0} (fault : WorldValue F → Option LinkFault) (filing : Fili
       let some = two-first filing in
       record { acts = reading_user ∷ []; does = stops.1; some = omega arith; short = omega (arith, more, some) }
   stop_said (stop.Session session_fault.TooManyUsers) stops answered = absurd stops
-  stop_said (stop.Session (session_fault.Refused code)) stops answered = absurd answered
-  stop_said (stop.Session (session_fault.BadReply broken)) stops answered = absurd answered
+  stop_said (stop.Session (session_fault.Refused function code)) stops answered = absurd answered
+  stop_said (stop.Session (session_fault.BadReply function broken)) stops answered = absurd answered
   stop_said (stop.Session session_fault.NoMemory) stops answered = absurd answered
   stop_said (stop.Limit name) stops answered = absurd stops
   stop_said (stop.NewHandheld name) stops answered = absurd stops
@@ -132,8 +132,8 @@ module _ (filing : Filing) {palm_after : FolderTold} {report : Report} (cause : 
   stop_shows fault (stop.Session session_fault.Down) tells is = down_shows filing report cause
   stop_shows fault (stop.Session (session_fault.OtherUser handheld desktop)) tells is = (is.0, said_all tells is.1)
   stop_shows fault (stop.Session session_fault.TooManyUsers) tells is = absurd is
-  stop_shows fault (stop.Session (session_fault.Refused code)) tells is = tt
-  stop_shows fault (stop.Session (session_fault.BadReply broken)) tells is = tt
+  stop_shows fault (stop.Session (session_fault.Refused function code)) tells is = tt
+  stop_shows fault (stop.Session (session_fault.BadReply function broken)) tells is = tt
   stop_shows fault (stop.Session session_fault.NoMemory) tells is = tt
   stop_shows fault (stop.Limit name) tells is = absurd is
   stop_shows fault (stop.NewHandheld name) tells is = absurd is

@@ -46,6 +46,10 @@ use Rattle.hotsync_run.proofs.SpokeLaws.{by_left, left_desk, palm_blamed, spoke}
 use Rattle.hotsync_run.specs.declared.report.Report.{Report}
 use Rattle.hotsync_run.specs.declared.report.SessionEnd.TheVariants.{Ended, Stopped}
 use Rattle.hotsync_looks.specs.declared.status.Status.{Status}
+use Rattle.category_mirror.specs.Sides.{filing_acts}
+use Rattle.install_backup.proofs.BackupOrder.{order-take}
+use Rattle.front_laws.specs.Answered.{IsAnsweredExchange}
+use Rattle.hotsync_run.proofs.NeverLaws.{IsUnrefusedEnd, all-answered, all-talked, filing_never, plain_said, run-says}
 
 -- ---- the end writes nothing
 
@@ -137,8 +141,17 @@ module _ {F D : Type 0} {contents : F → Option FileMap} {moments : F → Momen
   begins : IsPrefix new.log.issued asked
   begins = begins_by outcome.end ends.ended ends.stopped
 
+  never : IsUnrefusedEnd outcome.end
+  never =
+      let line = line_ran silent stands since closes.tells in
+      let goes = session_goes filing rests in
+      let issued : IsPrefix (log_in report).issued asked = subst (λ (l : LogValue). IsPrefix l.issued asked) (sym same_log) begins in
+      filing_never fault new (all-talked IsAnsweredExchange new closes.tells (run-says IsAnsweredExchange line issued (λ count replies last run.
+      all-answered (filing_acts filing) count replies last (plain_said (filing_acts filing) old.server.device goes.sayable goes.fixed) rests.proper
+      (order-take count (filing_acts filing) old.server.device goes.order) run))) filing old outcome.end ends.cause
+
   spoken : Spoke (record { rules = old.script; device = old.server.device; asked = asked }) palm palm_after status report
-  spoken = spoke asked stands silent since closes
+  spoken = spoke asked stands silent since never closes
       (filing_said fault filing old new new.cause outcome.end (desk_contents outcome.folder) ends.ended ends.cause closes.left.status begins)
 
   sides : Tells old new palm_after report

@@ -34,6 +34,7 @@ use Rattle.hotsync_run.proofs.EndLaws.{logged_all}
 use Rattle.hotsync_run.proofs.InstallActLaws.{full-shorter, some-acts}
 use Rattle.hotsync_run.proofs.LeftLaws.{Tells}
 use Rattle.hotsync_run.proofs.WholeLaws.{SaidOf, SaidShort, SaidWhole}
+use Rattle.hotsync_run.proofs.NeverLaws.{IsUnrefusedEnd, IsUnrefusedStop}
 use Rattle.hotsync_run.specs.declared.report.Report.{Report}
 use Rattle.hotsync_looks.specs.declared.status.Status.{Status}
 use Rattle.hotsync_looks.specs.declared.status.Status.TheVariants.{Limit, NoMemory}
@@ -116,7 +117,7 @@ module _ {F : Type 0} (since : WorldValue F → WorldValue F → Type 0) (fault 
   }
   told_ends (Ok moved) (Err why) ends told = record {
     ended = tt;
-    cause = subst (IsInstallStop (λ (world : WorldValue F). Some (world_talk world)) fault (database ∷ []) device old new) (sym told) tt;
+    cause = subst (IsInstallStop (λ (world : WorldValue F). Some (world_talk world)) fault (database ∷ []) device old new) (sym told) (tt, tt);
     full = λ full. absurd (ends.limit database.head.name (is_first full));
   }
   told_ends (Err cause) (Ok reports) ends told = absurd told
@@ -152,10 +153,10 @@ module _ {F : Type 0} (fault : WorldValue F → Option LinkFault) (database : Da
   stop_said : (why : Stop) → IsInstallStop (λ (world : WorldValue F). Some (world_talk world)) fault (database ∷ []) device old new why
       → StopsAnswered (stop_status cause why) → SaidShort (map text (install_acts (database ∷ []))) old new
   stop_said (stop.Session session_fault.Down) stops answered = absurd (never_down cause answered)
-  stop_said (stop.Session (session_fault.OtherUser handheld desktop)) stops answered = absurd stops
-  stop_said (stop.Session session_fault.TooManyUsers) stops answered = absurd stops
-  stop_said (stop.Session (session_fault.Refused code)) stops answered = absurd answered
-  stop_said (stop.Session (session_fault.BadReply broken)) stops answered = absurd answered
+  stop_said (stop.Session (session_fault.OtherUser handheld desktop)) stops answered = absurd stops.0
+  stop_said (stop.Session session_fault.TooManyUsers) stops answered = absurd stops.0
+  stop_said (stop.Session (session_fault.Refused function code)) stops answered = absurd answered
+  stop_said (stop.Session (session_fault.BadReply function broken)) stops answered = absurd answered
   stop_said (stop.Session session_fault.NoMemory) stops answered = absurd answered
   stop_said (stop.Limit name) stops answered =
       record { acts = acts_until_full database; does = until_full stops; some = omega arith; short = full-shorter database is }
@@ -201,10 +202,10 @@ module _ {F : Type 0} (fault : WorldValue F → Option LinkFault) (database : Da
   stop_shows : (why : Stop) → IsInstallStop (λ (world : WorldValue F). Some (world_talk world)) fault (database ∷ []) device old new why
       → InstallShows device database report (stop_status cause why)
   stop_shows (stop.Session session_fault.Down) stops = down_shows device database report cause
-  stop_shows (stop.Session (session_fault.OtherUser handheld desktop)) stops = absurd stops
-  stop_shows (stop.Session session_fault.TooManyUsers) stops = absurd stops
-  stop_shows (stop.Session (session_fault.Refused code)) stops = tt
-  stop_shows (stop.Session (session_fault.BadReply broken)) stops = tt
+  stop_shows (stop.Session (session_fault.OtherUser handheld desktop)) stops = absurd stops.0
+  stop_shows (stop.Session session_fault.TooManyUsers) stops = absurd stops.0
+  stop_shows (stop.Session (session_fault.Refused function code)) stops = tt
+  stop_shows (stop.Session (session_fault.BadReply function broken)) stops = tt
   stop_shows (stop.Session session_fault.NoMemory) stops = tt
   stop_shows (stop.Limit name) stops =
       let full = full_of (is_installable database) (has_room database.head.name device.databases) database.head.name name stops.first in
@@ -218,26 +219,26 @@ module _ {F : Type 0} (fault : WorldValue F → Option LinkFault) (database : Da
   shows (Ok made) ends (inl left) = subst (InstallShows device database report) (sym left) tt
   shows (Err why) ends (inl left) = subst (InstallShows device database report) (sym left) (stop_shows why ends.cause)
 
-  cut : (why : Stop) → IsInstallStop (λ (world : WorldValue F). Some (world_talk world)) fault (database ∷ []) device old new why
+  cut : (why : Stop) → IsUnrefusedStop why → IsInstallStop (λ (world : WorldValue F). Some (world_talk world)) fault (database ∷ []) device old new why
       → StopsAtFull database.head.name (Err why) → (stop_status cause why ≡ Limit database.head.name) ⊎ IsCutShort (stop_status cause why)
-  cut (stop.Session session_fault.Down) stops at = inr (down_cut cause)
-  cut (stop.Session (session_fault.OtherUser handheld desktop)) stops at = absurd stops
-  cut (stop.Session session_fault.TooManyUsers) stops at = absurd stops
-  cut (stop.Session (session_fault.Refused code)) stops at = inr tt
-  cut (stop.Session (session_fault.BadReply broken)) stops at = inr tt
-  cut (stop.Session session_fault.NoMemory) stops at = inr tt
-  cut (stop.Limit name) stops at = inl (ap Limit at)
-  cut (stop.NewHandheld name) stops at = absurd at
-  cut stop.DeskFault stops at = absurd at
+  cut (stop.Session session_fault.Down) never stops at = inr (down_cut cause)
+  cut (stop.Session (session_fault.OtherUser handheld desktop)) never stops at = absurd stops.0
+  cut (stop.Session session_fault.TooManyUsers) never stops at = absurd stops.0
+  cut (stop.Session (session_fault.Refused function code)) never stops at = absurd never
+  cut (stop.Session (session_fault.BadReply function broken)) never stops at = absurd never
+  cut (stop.Session session_fault.NoMemory) never stops at = inr tt
+  cut (stop.Limit name) never stops at = inl (ap Limit at)
+  cut (stop.NewHandheld name) never stops at = absurd at
+  cut stop.DeskFault never stops at = absurd at
 
-  full_told : (answer : Result (Vec DbReport) Stop) {status : Status} → ToldEnds fault database device old new answer
+  full_told : (answer : Result (Vec DbReport) Stop) {status : Status} → IsUnrefusedEnd answer → ToldEnds fault database device old new answer
       → (status ≡ left_status cause answer) ⊎ (status ≡ NoMemory) → has_room database.head.name device.databases ≡ false
       → (status ≡ Limit database.head.name) ⊎ IsCutShort status
-  full_told answer ends (inr memory) full = inr (subst IsCutShort (sym memory) tt)
-  full_told (Ok made) ends (inl left) full = absurd (ends.full full)
-  full_told (Err why) ends (inl left) full =
-      subst (λ (s : Status). (s ≡ Limit database.head.name) ⊎ IsCutShort s) (sym left) (cut why ends.cause (ends.full full))
+  full_told answer never ends (inr memory) full = inr (subst IsCutShort (sym memory) tt)
+  full_told (Ok made) never ends (inl left) full = absurd (ends.full full)
+  full_told (Err why) never ends (inl left) full =
+      subst (λ (s : Status). (s ≡ Limit database.head.name) ⊎ IsCutShort s) (sym left) (cut why never ends.cause (ends.full full))
 
-  pub install_shows : (answer : Result (Vec DbReport) Stop) {status : Status} → ToldEnds fault database device old new answer
+  pub install_shows : (answer : Result (Vec DbReport) Stop) {status : Status} → IsUnrefusedEnd answer → ToldEnds fault database device old new answer
       → (status ≡ left_status cause answer) ⊎ (status ≡ NoMemory) → ShowsInstall device database status report
-  install_shows answer ends left = record { status_is = shows answer ends left; full = full_told answer ends left }
+  install_shows answer never ends left = record { status_is = shows answer ends left; full = full_told answer never ends left }

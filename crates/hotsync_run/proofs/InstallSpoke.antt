@@ -1,5 +1,5 @@
 -- What is known of the session of an install, by what its calls answered, and whatever is written of it.
-use Rattle.std.proofs.Common.{◌≡◌, ◌∙◌, ap, inl, inr, refl, subst, sym, ℕ, List, [], ◌∷◌}
+use Rattle.std.proofs.Common.{◌≡◌, ◌∙◌, ap, inl, inr, refl, subst, sym, ℕ, List, [], ◌∷◌, ◌++◌}
 use Rattle.std.specs.Prelude.{IfErr, IfOk, IsErrOf, Option, None, Some, Result, Ok, Err, false, true, map}
 use Rattle.std.specs.Global.{Vec}
 use Rattle.hs_folders.specs.FileMaps.{FileMap}
@@ -42,6 +42,10 @@ use Rattle.hotsync_run.proofs.SpokeLaws.{by_left, left_desk, palm_blamed, spoke}
 use Rattle.hotsync_run.specs.declared.report.Report.{Report}
 use Rattle.hotsync_run.specs.declared.report.SessionEnd.TheVariants.{Ended}
 use Rattle.hotsync_looks.specs.declared.status.Status.{Status}
+use Rattle.session_parts.specs.Meets.{greeting}
+use Rattle.install_backup.specs.InstallEnds.{until_full}
+use Rattle.hotsync_run.specs.LineRuns.{log_in}
+use Rattle.hotsync_run.proofs.NeverLaws.{IsAnsweredOrFull, all-talked, install-said, install_never}
 
 -- ---- what it left
 
@@ -108,7 +112,13 @@ install_spoke {F} {contents} {moments} {paths} {faults} fault downs {database} {
     let asked : List (List ℕ) = map text (install_acts (database ∷ [])) in
     let begins : IsPrefix new.log.issued asked = issued_begins old new asked silent tells.log ends.stops.only in
     let of = install_said fault database old.server.device old new is new.cause answer told closes.left.status begins in
-    let spoken = spoke asked stands silent since closes of in
+    let reported : (requests : List (List ℕ)) → IsPrefix new.log.issued requests → IsPrefix (log_in report).issued requests =
+    λ requests prefix. subst (λ (l : LogValue). IsPrefix l.issued requests) (sym tells.said) prefix in
+    let until = greeting ++ until_full (database ∷ []) old.server.device.databases in
+    let never = install_never fault (database ∷ []) old.server.device old new (all-talked IsAnsweredOrFull new tells
+    (install-said line (database ∷ []) rests (bounded, tt) (reported asked begins)
+    (λ name full. reported (map text until) (issued_begins old new (map text until) silent tells.log (ends.until name full).only)))) answer told.cause in
+    let spoken = spoke asked stands silent since never closes of in
     let left : InstallLeft old.server.device database palm palm_after report = record {
       ended = λ ended. ended_install rests bounded writable is sides (told_by answer report told.ended closes.left.databases closes.left.end ended);
       beside = stands_beside rests (bounded, tt) palm_after.contents (record {
@@ -125,7 +135,7 @@ install_spoke {F} {contents} {moments} {paths} {faults} fault downs {database} {
     record {
       spoke = rw no_script at spoken;
       left = left;
-      shows = install_shows fault database old.server.device sides new.cause answer told closes.left.status;
+      shows = install_shows fault database old.server.device sides new.cause answer never told closes.left.status;
     } in
     record {
       shown = by_left answer (KeptSilent before after status report) closes.left.end had;

@@ -11,6 +11,7 @@ pub mod BesideLaws
 pub mod CallLaws
 pub mod CallPrinted
 pub mod CleanLaws
+pub mod DryLaws
 pub mod EmulationLaws
 pub mod EmulationPromises
 pub mod EndLaws
@@ -48,6 +49,7 @@ pub mod MakeLines
 pub mod MakeScripts
 pub mod MakeWords
 pub mod MeetingSaid
+pub mod NeverLaws
 pub mod OneLaws
 pub mod OverLaws
 pub mod PathLaws

@@ -37,7 +37,7 @@ use Rattle.hotsync_run.specs.Talks.{IsRunTalk, Talked, TalkedFor}
 use Rattle.hotsync_run.specs.Told.{FolderTold, SidesTold}
 use Rattle.hotsync_run.specs.declared.report.Report.{Report}
 use Rattle.hotsync_looks.specs.declared.status.Status.{Status}
-use Rattle.hotsync_looks.specs.declared.status.Status.TheVariants.{Done, Usage, BadScript, TooLong, BadFile, TooMany, HandheldFolder, DesktopFolder, SourceRead}
+use Rattle.hotsync_looks.specs.declared.status.Status.TheVariants.{Done, Usage, BadWord, BadScript, TooLong, BadFile, TooMany, HandheldFolder, DesktopFolder, SourceRead}
 use Rattle.hotsync_looks.specs.declared.status.Status.TheVariants.{TraceWrite, OutWrite, NoMemory, LineDown, Unplugged, Aborted, Undetected, OtherUser}
 use Rattle.hotsync_looks.specs.declared.status.Status.TheVariants.{TooManyUsers, Limit, NewHandheld, WrongSide, InUse, CannotExport, BadRecord, BadText, Overfull, BadTrace, NotProper, CannotInstall, NotBackupFolder, SameDatabase}
 use Rattle.hotsync_looks.specs.declared.status.Status.TheVariants.{StreamEnded, StreamAborted, BadHello, Refused, BadReply}
@@ -139,6 +139,7 @@ module _ {items : List Item} (after : SidesTold) (report : Report) (are : AreIte
   by_status Done asks ends unsaid up caused numbered shows palm desk = inl refl
   by_status NoMemory asks ends unsaid up caused numbered shows palm desk = inr refl
   by_status Usage asks ends unsaid up caused numbered shows palm desk = absurd ends
+  by_status (BadWord kind word) asks ends unsaid up caused numbered shows palm desk = absurd ends
   by_status (BadScript line) asks ends unsaid up caused numbered shows palm desk = absurd ends
   by_status TooLong asks ends unsaid up caused numbered shows palm desk = absurd ends
   by_status (BadFile side name kind place) asks ends unsaid up caused numbered shows palm desk = absurd ends

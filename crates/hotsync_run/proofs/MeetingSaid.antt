@@ -61,8 +61,8 @@ module _ (meeting : Meeting) (cause : Option Down) where
   stop_said fault old new (stop.Session (session_fault.OtherUser handheld desktop)) stops is =
       grind (arith, [], two-first meeting, more-requests meeting)
   stop_said fault old new (stop.Session session_fault.TooManyUsers) stops is = grind (arith, [], two-first meeting, more-requests meeting)
-  stop_said fault old new (stop.Session (session_fault.Refused code)) stops is = absurd is
-  stop_said fault old new (stop.Session (session_fault.BadReply broken)) stops is = absurd is
+  stop_said fault old new (stop.Session (session_fault.Refused function code)) stops is = absurd is
+  stop_said fault old new (stop.Session (session_fault.BadReply function broken)) stops is = absurd is
   stop_said fault old new (stop.Session session_fault.NoMemory) stops is = absurd is
   stop_said fault old new (stop.Limit name) stops is = grind (arith, two-first meeting, more-requests meeting)
   stop_said fault old new (stop.NewHandheld name) stops is = grind (arith, two-first meeting, more-requests meeting)

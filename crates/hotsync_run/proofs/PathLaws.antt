@@ -3,7 +3,7 @@ use Rattle.std.proofs.Common.{◌≡◌, Bor, refl, subst, List, ℕ}
 use Rattle.std.specs.Prelude.{None, Option, Some, option_copied}
 use Rattle.run_words.specs.Betweens.{Between}
 use Rattle.run_words.specs.Captures.{Capture}
-use Rattle.run_words.specs.Commands.{Backup, Emulate, Categories, Install, LookAt, Restore, Sync, Task}
+use Rattle.run_words.specs.Commands.{Backup, DryRun, Emulate, Categories, Install, LookAt, Restore, Sync, Task}
 use Rattle.run_words.specs.Runs.{Run}
 use Rattle.run_words.specs.declared.look.Look.{Look}
 use Rattle.hotsync_run.specs.Calls.{paths_of}
@@ -30,6 +30,20 @@ module _ {task : Option Task} {run : Run} (is : task ≡ Some (Sync run)) where
 
   pub run_trace : (paths_of task).trace ≡ None → run.trace ≡ None
   run_trace none = subst (λ (t : Option Task). (paths_of t).trace ≡ None) is none
+
+module _ {task : Option Task} {run : Run} (is : task ≡ Some (DryRun run)) where
+  -- so does a dry one
+  pub dry_handheld : (paths_of task).handheld ≡ None → ⊥
+  dry_handheld none = some_is_none (subst (λ (t : Option Task). (paths_of t).handheld ≡ None) is none)
+
+  pub dry_desktop : (paths_of task).desktop ≡ None → ⊥
+  dry_desktop none = some_is_none (subst (λ (t : Option Task). (paths_of t).desktop ≡ None) is none)
+
+  pub dry_source : (paths_of task).source ≡ None → run.script ≡ None
+  dry_source none = subst (λ (t : Option Task). (paths_of t).source ≡ None) is none
+
+  pub dry_trace : (paths_of task).trace ≡ None → run.trace ≡ None
+  dry_trace none = subst (λ (t : Option Task). (paths_of t).trace ≡ None) is none
 
 -- a look names its file
 pub look_source : {task : Option Task} {look : Look} {file : List ℕ} → task ≡ Some (LookAt look file) → (paths_of task).source ≡ None → ⊥

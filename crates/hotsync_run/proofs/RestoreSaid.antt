@@ -38,6 +38,7 @@ use Rattle.hotsync_run.proofs.InstallSaid.{StopsAtFull, down_cut, never_down}
 use Rattle.hotsync_run.proofs.LeftLaws.{Tells}
 use Rattle.hotsync_run.proofs.RestoreActLaws.{some-acts, stands_first, stopped-after, until-shorter}
 use Rattle.hotsync_run.proofs.WholeLaws.{SaidOf, SaidShort, SaidWhole}
+use Rattle.hotsync_run.proofs.NeverLaws.{IsUnrefusedEnd, IsUnrefusedStop}
 use Rattle.hotsync_run.specs.declared.report.Report.{Report}
 use Rattle.hotsync_looks.specs.declared.status.Status.{Status}
 use Rattle.hotsync_looks.specs.declared.status.Status.TheVariants.{Limit, NoMemory}
@@ -87,7 +88,7 @@ module _ {F : Type 0} (since : WorldValue F → WorldValue F → Type 0) (fault 
   }
   told_restores (Ok moved) (Err why) ends told = record {
     ended = tt;
-    cause = subst (IsInstallStop (λ (world : WorldValue F). Some (world_talk world)) fault databases device old new) (sym told) tt;
+    cause = subst (IsInstallStop (λ (world : WorldValue F). Some (world_talk world)) fault databases device old new) (sym told) (tt, tt);
     full = λ name full. absurd (ends.limit name full);
   }
   told_restores (Err cause) (Ok reports) ends told = absurd told
@@ -123,10 +124,10 @@ module _ {F : Type 0} (fault : WorldValue F → Option LinkFault) (databases : L
       → IsPrefix (map text acts) (map text (install_acts databases)))
       → StopsAnswered (stop_status cause why) → SaidShort (map text (install_acts databases)) old new
   stop_said (stop.Session session_fault.Down) stops begins answered = absurd (never_down cause answered)
-  stop_said (stop.Session (session_fault.OtherUser handheld desktop)) stops begins answered = absurd stops
-  stop_said (stop.Session session_fault.TooManyUsers) stops begins answered = absurd stops
-  stop_said (stop.Session (session_fault.Refused code)) stops begins answered = absurd answered
-  stop_said (stop.Session (session_fault.BadReply broken)) stops begins answered = absurd answered
+  stop_said (stop.Session (session_fault.OtherUser handheld desktop)) stops begins answered = absurd stops.0
+  stop_said (stop.Session session_fault.TooManyUsers) stops begins answered = absurd stops.0
+  stop_said (stop.Session (session_fault.Refused function code)) stops begins answered = absurd answered
+  stop_said (stop.Session (session_fault.BadReply function broken)) stops begins answered = absurd answered
   stop_said (stop.Session session_fault.NoMemory) stops begins answered = absurd answered
   stop_said (stop.Limit name) stops begins answered = full_said stops begins
   stop_said (stop.NewHandheld name) stops begins answered = absurd stops
@@ -202,10 +203,10 @@ module _ {F : Type 0} (fault : WorldValue F → Option LinkFault) (databases : L
   stop_shows : (why : Stop) → IsInstallStop (λ (world : WorldValue F). Some (world_talk world)) fault databases device old new why
       → RestoreShows device databases palm_after report (stop_status cause why)
   stop_shows (stop.Session session_fault.Down) stops = down_shows device databases palm_after report cause
-  stop_shows (stop.Session (session_fault.OtherUser handheld desktop)) stops = absurd stops
-  stop_shows (stop.Session session_fault.TooManyUsers) stops = absurd stops
-  stop_shows (stop.Session (session_fault.Refused code)) stops = tt
-  stop_shows (stop.Session (session_fault.BadReply broken)) stops = tt
+  stop_shows (stop.Session (session_fault.OtherUser handheld desktop)) stops = absurd stops.0
+  stop_shows (stop.Session session_fault.TooManyUsers) stops = absurd stops.0
+  stop_shows (stop.Session (session_fault.Refused function code)) stops = tt
+  stop_shows (stop.Session (session_fault.BadReply function broken)) stops = tt
   stop_shows (stop.Session session_fault.NoMemory) stops = tt
   stop_shows (stop.Limit name) stops = full_shows stops
   stop_shows (stop.NewHandheld name) stops = absurd stops
@@ -217,26 +218,26 @@ module _ {F : Type 0} (fault : WorldValue F → Option LinkFault) (databases : L
   shows (Ok made) ends (inl left) = subst (RestoreShows device databases palm_after report) (sym left) tt
   shows (Err why) ends (inl left) = subst (RestoreShows device databases palm_after report) (sym left) (stop_shows why ends.cause)
 
-  cut : (name : List ℕ) (why : Stop) → IsInstallStop (λ (world : WorldValue F). Some (world_talk world)) fault databases device old new why
+  cut : (name : List ℕ) (why : Stop) → IsUnrefusedStop why → IsInstallStop (λ (world : WorldValue F). Some (world_talk world)) fault databases device old new why
       → StopsAtFull name (Err why) → (stop_status cause why ≡ Limit name) ⊎ IsCutShort (stop_status cause why)
-  cut name (stop.Session session_fault.Down) stops at = inr (down_cut cause)
-  cut name (stop.Session (session_fault.OtherUser handheld desktop)) stops at = absurd stops
-  cut name (stop.Session session_fault.TooManyUsers) stops at = absurd stops
-  cut name (stop.Session (session_fault.Refused code)) stops at = inr tt
-  cut name (stop.Session (session_fault.BadReply broken)) stops at = inr tt
-  cut name (stop.Session session_fault.NoMemory) stops at = inr tt
-  cut name (stop.Limit other) stops at = inl (ap Limit at)
-  cut name (stop.NewHandheld other) stops at = absurd at
-  cut name stop.DeskFault stops at = absurd at
+  cut name (stop.Session session_fault.Down) never stops at = inr (down_cut cause)
+  cut name (stop.Session (session_fault.OtherUser handheld desktop)) never stops at = absurd stops.0
+  cut name (stop.Session session_fault.TooManyUsers) never stops at = absurd stops.0
+  cut name (stop.Session (session_fault.Refused function code)) never stops at = absurd never
+  cut name (stop.Session (session_fault.BadReply function broken)) never stops at = absurd never
+  cut name (stop.Session session_fault.NoMemory) never stops at = inr tt
+  cut name (stop.Limit other) never stops at = inl (ap Limit at)
+  cut name (stop.NewHandheld other) never stops at = absurd at
+  cut name stop.DeskFault never stops at = absurd at
 
-  full_told : (answer : Result (Vec DbReport) Stop) {status : Status} (name : List ℕ) → ToldRestores fault databases device old new answer
+  full_told : (answer : Result (Vec DbReport) Stop) {status : Status} (name : List ℕ) → IsUnrefusedEnd answer → ToldRestores fault databases device old new answer
       → (status ≡ left_status cause answer) ⊎ (status ≡ NoMemory) → first_full databases device.databases ≡ Some name
       → (status ≡ Limit name) ⊎ IsCutShort status
-  full_told answer name ends (inr memory) full = inr (subst IsCutShort (sym memory) tt)
-  full_told (Ok made) name ends (inl left) full = absurd (ends.full name full)
-  full_told (Err why) name ends (inl left) full =
-      subst (λ (s : Status). (s ≡ Limit name) ⊎ IsCutShort s) (sym left) (cut name why ends.cause (ends.full name full))
+  full_told answer name never ends (inr memory) full = inr (subst IsCutShort (sym memory) tt)
+  full_told (Ok made) name never ends (inl left) full = absurd (ends.full name full)
+  full_told (Err why) name never ends (inl left) full =
+      subst (λ (s : Status). (s ≡ Limit name) ⊎ IsCutShort s) (sym left) (cut name why never ends.cause (ends.full name full))
 
-  pub restore_shows : (answer : Result (Vec DbReport) Stop) {status : Status} → ToldRestores fault databases device old new answer
+  pub restore_shows : (answer : Result (Vec DbReport) Stop) {status : Status} → IsUnrefusedEnd answer → ToldRestores fault databases device old new answer
       → (status ≡ left_status cause answer) ⊎ (status ≡ NoMemory) → ShowsRestore device databases palm_after status report
-  restore_shows answer ends left = record { status_is = shows answer ends left; full = λ name full. full_told answer name ends left full }
+  restore_shows answer never ends left = record { status_is = shows answer ends left; full = λ name full. full_told answer name never ends left full }

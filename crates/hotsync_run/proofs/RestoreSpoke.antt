@@ -1,5 +1,5 @@
 -- What is known of the session of a restore, by what its calls answered, and whatever is written of it.
-use Rattle.std.proofs.Common.{◌≡◌, ◌∙◌, ap, inl, inr, refl, subst, sym, ℕ, List}
+use Rattle.std.proofs.Common.{◌≡◌, ◌∙◌, ap, inl, inr, refl, subst, sym, ℕ, List, ◌++◌}
 use Rattle.std.specs.Prelude.{IfOk, Option, None, Some, Result, Ok, Err, map}
 use Rattle.std.specs.Global.{Vec}
 use Rattle.std.specs.List.{AllByRecursion}
@@ -46,6 +46,10 @@ use Rattle.hotsync_run.specs.declared.report.Report.{Report}
 use Rattle.hotsync_run.specs.declared.report.SessionEnd.TheVariants.{Ended}
 use Rattle.hotsync_looks.specs.declared.status.Status.{Status}
 use Rattle.hotsync_looks.specs.declared.status.Status.TheVariants.{Done, Limit}
+use Rattle.session_parts.specs.Meets.{greeting}
+use Rattle.install_backup.specs.InstallEnds.{until_full}
+use Rattle.hotsync_run.specs.LineRuns.{log_in}
+use Rattle.hotsync_run.proofs.NeverLaws.{IsAnsweredOrFull, all-talked, install-said, install_never}
 
 -- ---- what it left
 
@@ -105,7 +109,13 @@ restore_spoke {F} {contents} {moments} {paths} {faults} fault downs {databases} 
     let of = restore_said fault databases old.server.device old new new.cause answer told closes.left.status issued
     (λ (acts : List Act) (does : Does (λ (world : WorldValue F). Some (world_talk world)) acts old new).
     subst (λ (l : List (List ℕ)). IsPrefix l asked) (logged_all silent tells.log does).issued_are issued) in
-    let spoken = spoke asked stands silent since closes of in
+    let reported : (requests : List (List ℕ)) → IsPrefix new.log.issued requests → IsPrefix (log_in report).issued requests =
+    λ requests prefix. subst (λ (l : LogValue). IsPrefix l.issued requests) (sym tells.said) prefix in
+    let until = greeting ++ until_full databases old.server.device.databases in
+    let never = install_never fault databases old.server.device old new (all-talked IsAnsweredOrFull new tells
+    (install-said line databases rests bounded (reported asked issued)
+    (λ name full. reported (map text until) (issued_begins old new (map text until) silent tells.log (ends.until name full).only)))) answer told.cause in
+    let spoken = spoke asked stands silent since never closes of in
     let left : RestoreLeft old.server.device databases palm palm_after report = record {
       ended = λ ended. ended_restore rests bounded sides (told_by answer report told.ended closes.left.databases closes.left.end ended);
       beside = stands_beside rests bounded palm_after.contents (record {
@@ -119,7 +129,7 @@ restore_spoke {F} {contents} {moments} {paths} {faults} fault downs {databases} 
           spoken.fronts (stands_beside rests bounded);
     } in
     let had : HadRestore old.script old.server.device databases palm palm_after status report =
-    record { spoke = spoken; left = left; shows = restore_shows fault databases rests rise bounded sides new.cause answer told closes.left.status } in
+    record { spoke = spoken; left = left; shows = restore_shows fault databases rests rise bounded sides new.cause answer never told closes.left.status } in
     record {
       shown = by_left answer (KeptSilent before after status report) closes.left.end had;
       blames = record {

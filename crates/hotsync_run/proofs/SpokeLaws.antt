@@ -31,6 +31,7 @@ use Rattle.hotsync_run.specs.Whole.{DealtWith}
 use Rattle.hotsync_run.proofs.FrontLaws.{front_of}
 use Rattle.hotsync_run.proofs.FrontMoments.{fronts_at_moments}
 use Rattle.hotsync_run.proofs.LineLaws.{line_answered, line_ran}
+use Rattle.hotsync_run.proofs.NeverLaws.{IsUnrefusedEnd}
 use Rattle.hotsync_run.proofs.StopLaws.{tells_stop}
 use Rattle.hotsync_run.proofs.WholeLaws.{SaidOf, dealt_with, some_issued}
 use Rattle.hotsync_run.specs.declared.left.Left.{Left}
@@ -50,9 +51,13 @@ pub record Shown (status : Status) (end : SessionEnd) (numbers : List ℕ) (caus
 
 -- what the status says of a session that is left so
 module _ (answer : Result (Vec DbReport) Stop) (cause : Option Down) (left : Left) where
-  pub shown_left : (frames : List FrameValue) → IsLeft answer cause left → BearsOut cause frames
+  pub shown_left : (frames : List FrameValue) → IsUnrefusedEnd answer → IsLeft answer cause left → BearsOut cause frames
       → Shown left.status left.end left.faulted.items cause frames
-  shown_left frames is borne = grind (arith, common_steps)
+  shown_left frames never is borne = grind (arith, common_steps)
+
+  -- the handheld's folder is blamed for its own failure alone
+  pub left_keeper : IsLeft answer cause left → left.status ≡ HandheldFolder → cause ≡ Some down.Keeper
+  left_keeper is e = grind (arith, common_steps)
 
   -- nothing is said of it yet
   pub left_unsaid : IsLeft answer cause left → IsUnsaid left.status
@@ -86,12 +91,12 @@ ended_ok answer is ok ended = grind (arith, common_steps)
 pub spoke : {F : Type 0} {contents : F → Option FileMap} {moments : F → Moments} {paths : F → Option (List (List ℕ))} {faults : F → ℕ}
     (asked : List (List ℕ)) {old new : WorldValue F} {answer : Result (Vec DbReport) Stop} {status : Status} {report : Report}
     → Stands (contents old.server.folder) old.server.device.databases old.server.device.user → old.log ≡ no_log
-    → WorldSince contents moments paths faults old new → Closes new answer status report → SaidOf asked old new answer status
+    → WorldSince contents moments paths faults old new → IsUnrefusedEnd answer → Closes new answer status report → SaidOf asked old new answer status
     → Spoke (record { rules = old.script; device = old.server.device; asked = asked }) (folder_told contents moments paths faults old.server.folder)
     (folder_told contents moments paths faults new.server.folder) status report
-spoke {contents} {moments} {paths} {faults} asked {old} {new} {answer} {status} {report} stands silent since closes of =
+spoke {contents} {moments} {paths} {faults} asked {old} {new} {answer} {status} {report} stands silent since never closes of =
     let tells = closes.tells in
-    let shown = shown_left answer new.cause (left_in status report) new.frames closes.left closes.borne_out in
+    let shown = shown_left answer new.cause (left_in status report) new.frames never closes.left closes.borne_out in
     let before = folder_told contents moments paths faults old.server.folder in
     let line = line_ran silent stands since tells in
     let bears : BearsOut (cause_in status report.faulted.items) (frames_in report) =
@@ -130,8 +135,7 @@ pub palm_blamed : {F : Type 0} {contents : F → Option FileMap} {moments : F �
     → WorldSince contents moments paths faults old new → Closes new answer status report → status ≡ HandheldFolder
     → Rose (faults old.server.folder) (faults new.server.folder)
 palm_blamed {new} {answer} {status} {report} calm since closes e =
-    let shown = shown_left answer new.cause (left_in status report) new.frames closes.left closes.borne_out in
-    elim (since.keeper (shown.keeper e)) [ inl was ↦ absurd (none_is_some (sym calm ∙ was)) | inr rose ↦ rose ]
+    elim (since.keeper (left_keeper answer new.cause (left_in status report) closes.left e)) [ inl was ↦ absurd (none_is_some (sym calm ∙ was)) | inr rose ↦ rose ]
   where
     none_is_some : {A : Type 0} {a : A} → None ≡ Some a → ⊥
     none_is_some e = cc

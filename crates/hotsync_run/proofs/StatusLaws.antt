@@ -37,6 +37,7 @@ use Rattle.hotsync_looks.specs.declared.status.Status.{Status}
 use Rattle.hotsync_looks.specs.declared.status.Status.TheVariants.{Limit, NewHandheld, NoMemory}
 use Rattle.hotsync_run.proofs.EndLaws.{logged_all}
 use Rattle.hotsync_run.proofs.LeftLaws.{EndsOver, Tells}
+use Rattle.hotsync_run.proofs.NeverLaws.{IsUnrefusedEnd, IsUnrefusedStop}
 
 -- ---- the cause of a stop
 
@@ -52,8 +53,8 @@ module _ (meeting : Meeting) {palm_after : FolderTold} {report : Report} (cause 
   stop_shows : {F : Type 0} (fault : WorldValue F → Option LinkFault) {old new : WorldValue F} (why : Stop) → Tells old new palm_after report
       → IsStopOf (λ (world : WorldValue F). Some (world_talk world)) fault meeting old new why → StatusShows meeting report (stop_status cause why)
   stop_shows fault (stop.Session session_fault.Down) tells is = down_shows meeting report cause
-  stop_shows fault (stop.Session (session_fault.Refused code)) tells is = tt
-  stop_shows fault (stop.Session (session_fault.BadReply broken)) tells is = tt
+  stop_shows fault (stop.Session (session_fault.Refused function code)) tells is = tt
+  stop_shows fault (stop.Session (session_fault.BadReply function broken)) tells is = tt
   stop_shows fault (stop.Session (session_fault.OtherUser handheld desktop)) tells is = (is.0, said_all tells is.1)
   stop_shows fault (stop.Session session_fault.TooManyUsers) tells is = (is.0, said_all tells is.1)
   stop_shows fault (stop.Session session_fault.NoMemory) tells is = tt
@@ -103,46 +104,47 @@ module _ (meeting : Meeting) (cause : Option Down) {status : Status} where
       grind (arith, unseated_status (users_of (marks_of meeting.slots)) meeting.device.user (slot_in meeting) cause unseated, down_cut cause)
 
   -- where the user has a slot, a call of the session stops it for the line, the handheld's folder or memory alone
-  session_cut : {F : Type 0} (fault : WorldValue F → Option LinkFault) (old new : WorldValue F) (why : SessionFault) → status ≡ fault_status cause why
-      → IsOk (seat_of meeting) → IsStopOf (λ (world : WorldValue F). Some (world_talk world)) fault meeting old new (stop.Session why) → IsCutShort status
-  session_cut fault old new session_fault.Down is seated why = subst IsCutShort (sym is) (down_cut cause)
-  session_cut fault old new (session_fault.Refused code) is seated why = subst IsCutShort (sym is) tt
-  session_cut fault old new (session_fault.BadReply broken) is seated why = subst IsCutShort (sym is) tt
-  session_cut fault old new (session_fault.OtherUser handheld desktop) is seated why = absurd (other_unseated meeting handheld desktop why.0 seated)
-  session_cut fault old new session_fault.TooManyUsers is seated why = absurd (full_unseated meeting why.0 seated)
-  session_cut fault old new session_fault.NoMemory is seated why = subst IsCutShort (sym is) tt
+  session_cut : {F : Type 0} (fault : WorldValue F → Option LinkFault) (old new : WorldValue F) (why : SessionFault)
+      → IsUnrefusedStop (stop.Session why) → status ≡ fault_status cause why → IsOk (seat_of meeting)
+      → IsStopOf (λ (world : WorldValue F). Some (world_talk world)) fault meeting old new (stop.Session why) → IsCutShort status
+  session_cut fault old new session_fault.Down never is seated why = subst IsCutShort (sym is) (down_cut cause)
+  session_cut fault old new (session_fault.Refused function code) never is seated why = absurd never
+  session_cut fault old new (session_fault.BadReply function broken) never is seated why = absurd never
+  session_cut fault old new (session_fault.OtherUser handheld desktop) never is seated why = absurd (other_unseated meeting handheld desktop why.0 seated)
+  session_cut fault old new session_fault.TooManyUsers never is seated why = absurd (full_unseated meeting why.0 seated)
+  session_cut fault old new session_fault.NoMemory never is seated why = subst IsCutShort (sym is) tt
 
   limit_told : {F : Type 0} (fault : WorldValue F → Option LinkFault) (old new : WorldValue F) (answer : Result (Vec DbReport) Stop) (name : List ℕ)
-      → (status ≡ left_status cause answer) ⊎ (status ≡ NoMemory) → IsOk (seat_of meeting)
+      → IsUnrefusedEnd answer → (status ≡ left_status cause answer) ⊎ (status ≡ NoMemory) → IsOk (seat_of meeting)
       → IfErr answer (IsStopOf (λ (world : WorldValue F). Some (world_talk world)) fault meeting old new) → StopsAtLimit name answer
       → (status ≡ Limit name) ⊎ IsCutShort status
-  limit_told fault old new answer name (inr memory) seated why stops = inr (subst IsCutShort (sym memory) tt)
-  limit_told fault old new (Ok made) name (inl is) seated why stops = absurd stops
-  limit_told fault old new (Err (stop.Session cut)) name (inl is) seated why stops = inr (session_cut fault old new cut is seated why)
-  limit_told fault old new (Err (stop.Limit other)) name (inl is) seated why stops = inl (is ∙ ap Limit stops)
-  limit_told fault old new (Err (stop.NewHandheld other)) name (inl is) seated why stops = absurd stops
-  limit_told fault old new (Err stop.DeskFault) name (inl is) seated why stops = absurd stops
+  limit_told fault old new answer name never (inr memory) seated why stops = inr (subst IsCutShort (sym memory) tt)
+  limit_told fault old new (Ok made) name never (inl is) seated why stops = absurd stops
+  limit_told fault old new (Err (stop.Session cut)) name never (inl is) seated why stops = inr (session_cut fault old new cut never is seated why)
+  limit_told fault old new (Err (stop.Limit other)) name never (inl is) seated why stops = inl (is ∙ ap Limit stops)
+  limit_told fault old new (Err (stop.NewHandheld other)) name never (inl is) seated why stops = absurd stops
+  limit_told fault old new (Err stop.DeskFault) name never (inl is) seated why stops = absurd stops
 
   loss_told : {F : Type 0} (fault : WorldValue F → Option LinkFault) (old new : WorldValue F) (answer : Result (Vec DbReport) Stop) (name : List ℕ)
-      → (status ≡ left_status cause answer) ⊎ (status ≡ NoMemory) → IsOk (seat_of meeting)
+      → IsUnrefusedEnd answer → (status ≡ left_status cause answer) ⊎ (status ≡ NoMemory) → IsOk (seat_of meeting)
       → IfErr answer (IsStopOf (λ (world : WorldValue F). Some (world_talk world)) fault meeting old new) → StopsAtLoss name answer
       → (status ≡ NewHandheld name) ⊎ IsCutShort status
-  loss_told fault old new answer name (inr memory) seated why stops = inr (subst IsCutShort (sym memory) tt)
-  loss_told fault old new (Ok made) name (inl is) seated why stops = absurd stops
-  loss_told fault old new (Err (stop.Session cut)) name (inl is) seated why stops = inr (session_cut fault old new cut is seated why)
-  loss_told fault old new (Err (stop.Limit other)) name (inl is) seated why stops = absurd stops
-  loss_told fault old new (Err (stop.NewHandheld other)) name (inl is) seated why stops = inl (is ∙ ap NewHandheld stops)
-  loss_told fault old new (Err stop.DeskFault) name (inl is) seated why stops = absurd stops
+  loss_told fault old new answer name never (inr memory) seated why stops = inr (subst IsCutShort (sym memory) tt)
+  loss_told fault old new (Ok made) name never (inl is) seated why stops = absurd stops
+  loss_told fault old new (Err (stop.Session cut)) name never (inl is) seated why stops = inr (session_cut fault old new cut never is seated why)
+  loss_told fault old new (Err (stop.Limit other)) name never (inl is) seated why stops = absurd stops
+  loss_told fault old new (Err (stop.NewHandheld other)) name never (inl is) seated why stops = inl (is ∙ ap NewHandheld stops)
+  loss_told fault old new (Err stop.DeskFault) name never (inl is) seated why stops = absurd stops
 
   pub refusal_told : {F : Type 0} (contents : F → Option FileMap) (moments : F → Moments) (paths : F → Option (List (List ℕ))) (faults : F → ℕ)
       (fault : WorldValue F → Option LinkFault) (downs : WorldValue F → ℕ) (old new : WorldValue F) (desk desk_after : FolderTold)
-      (answer : Result (Vec DbReport) Stop) → (status ≡ left_status cause answer) ⊎ (status ≡ NoMemory)
+      (answer : Result (Vec DbReport) Stop) → IsUnrefusedEnd answer → (status ≡ left_status cause answer) ⊎ (status ≡ NoMemory)
       → EndsOver contents moments paths faults fault downs meeting old new desk desk_after answer → IsToldRefusal meeting status
-  refusal_told contents moments paths faults fault downs old new desk desk_after answer is ends =
+  refusal_told contents moments paths faults fault downs old new desk desk_after answer never is ends =
       step (seat_of meeting) (first_over meeting) (first_loss meeting)
       (λ why unseated. unseated_told answer is unseated (ends.unseated why unseated).1)
-      (λ seated name first. limit_told fault old new answer name is seated ends.cause (ends.limit name first))
-      (λ seated name none first. loss_told fault old new answer name is seated ends.cause (ends.loss name none first)) refl refl refl
+      (λ seated name first. limit_told fault old new answer name never is seated ends.cause (ends.limit name first))
+      (λ seated name none first. loss_told fault old new answer name never is seated ends.cause (ends.loss name none first)) refl refl refl
     where
       step : (seat : Result UserInfo SessionFault) (over loss : Option (List ℕ))
           → ((why : SessionFault) → seat_of meeting ≡ Err why → (status ≡ fault_status None why) ⊎ IsCutShort status)

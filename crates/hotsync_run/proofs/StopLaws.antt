@@ -15,7 +15,7 @@ use Rattle.hotsync_run.specs.Whole.{DealtWith, StopsAnswered}
 use Rattle.hotsync_run.specs.declared.report.Report.{Report}
 use Rattle.hotsync_run.specs.declared.report.SessionEnd.TheVariants.{Ended}
 use Rattle.hotsync_looks.specs.declared.status.Status.{Status}
-use Rattle.hotsync_looks.specs.declared.status.Status.TheVariants.{Done, Usage, BadScript, TooLong, BadFile, TooMany, HandheldFolder, DesktopFolder, SourceRead}
+use Rattle.hotsync_looks.specs.declared.status.Status.TheVariants.{Done, Usage, BadWord, BadScript, TooLong, BadFile, TooMany, HandheldFolder, DesktopFolder, SourceRead}
 use Rattle.hotsync_looks.specs.declared.status.Status.TheVariants.{TraceWrite, OutWrite, NoMemory, LineDown, Unplugged, Aborted, Undetected, OtherUser}
 use Rattle.hotsync_looks.specs.declared.status.Status.TheVariants.{TooManyUsers, Limit, NewHandheld, WrongSide, InUse, CannotExport, BadRecord, BadText, Overfull, BadTrace, NotProper, CannotInstall, NotBackupFolder, SameDatabase}
 use Rattle.hotsync_looks.specs.declared.status.Status.TheVariants.{StreamEnded, StreamAborted, BadHello, Refused, BadReply}
@@ -46,6 +46,7 @@ module _ {asked : List (List ℕ)} {report : Report} {answered : ℕ} where
   tells_stop OutWrite it why by = absurd (none_ended it it.ends by)
   tells_stop NoMemory it why by = inr refl
   tells_stop Usage it why by = absurd it.ends
+  tells_stop (BadWord kind word) it why by = absurd it.ends
   tells_stop (BadScript line) it why by = absurd it.ends
   tells_stop TooLong it why by = absurd it.ends
   tells_stop (BadFile side name kind place) it why by = absurd it.ends

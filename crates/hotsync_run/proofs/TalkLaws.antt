@@ -36,6 +36,9 @@ use Rattle.hotsync_run.proofs.StatusLaws.{refusal_told, status_shows}
 use Rattle.hotsync_run.specs.declared.report.Report.{Report}
 use Rattle.hotsync_run.specs.declared.report.SessionEnd.{SessionEnd}
 use Rattle.hotsync_looks.specs.declared.status.Status.{Status}
+use Rattle.front_laws.specs.Answered.{IsAnsweredExchange}
+use Rattle.hotsync_run.proofs.AnsweredRuns.{session_answered}
+use Rattle.hotsync_run.proofs.NeverLaws.{all-talked, meeting_never}
 
 desk_changed : {meeting : Meeting} (before after : FolderTold) (answer : Result (Vec DbReport) Stop) {end : SessionEnd} → end ≡ left_end answer
     → ChangesDesk meeting (record {
@@ -93,12 +96,13 @@ run_spoke {contents} {moments} {paths} {faults} {desk_contents} {desk_moments} {
     let begins : IsPrefix new.log.issued (requests meeting) = subst (λ (l : LogValue). IsPrefix l.issued (requests meeting)) tells.said session.issued in
     let of = meeting_said fault meeting old new (tellings desk_contents desk_moments folder outcome.folder) outcome.end new.cause closes.left.status begins
     ends.cause ends.ended in
+    let never = meeting_never fault new (all-talked IsAnsweredExchange new tells (session_answered line session)) meeting old outcome.end ends.cause in
     let talked : Talked old.script meeting before after status report = record {
-      spoke = spoke (requests meeting) stands silent since closes of;
+      spoke = spoke (requests meeting) stands silent since never closes of;
       left = session;
       shows = record {
         status_is = status_shows meeting new.cause contents moments paths faults fault downs desk desk_after outcome.end sides closes.left.status ends;
-        refused = refusal_told meeting new.cause contents moments paths faults fault downs old new desk desk_after outcome.end closes.left.status ends;
+        refused = refusal_told meeting new.cause contents moments paths faults fault downs old new desk desk_after outcome.end never closes.left.status ends;
       };
     } in
     let has : TalkedFor run old.script old.server.device slots before after status report =

@@ -38,7 +38,7 @@ use Rattle.hotsync_run.proofs.EndLaws.{all_answered, logged_all}
 use Rattle.hotsync_run.specs.declared.report.Report.{Report}
 use Rattle.hotsync_run.specs.declared.report.SessionEnd.TheVariants.{Ended}
 use Rattle.hotsync_looks.specs.declared.status.Status.{Status}
-use Rattle.hotsync_looks.specs.declared.status.Status.TheVariants.{Done, Usage, BadScript, TooLong, BadFile, TooMany, HandheldFolder, DesktopFolder, SourceRead}
+use Rattle.hotsync_looks.specs.declared.status.Status.TheVariants.{Done, Usage, BadWord, BadScript, TooLong, BadFile, TooMany, HandheldFolder, DesktopFolder, SourceRead}
 use Rattle.hotsync_looks.specs.declared.status.Status.TheVariants.{TraceWrite, OutWrite, NoMemory, LineDown, Unplugged, Aborted, Undetected, OtherUser}
 use Rattle.hotsync_looks.specs.declared.status.Status.TheVariants.{TooManyUsers, Limit, NewHandheld, WrongSide, InUse, CannotExport, BadRecord, BadText, Overfull, BadTrace, NotProper, CannotInstall, NotBackupFolder, SameDatabase}
 use Rattle.hotsync_looks.specs.declared.status.Status.TheVariants.{StreamEnded, StreamAborted, BadHello, Refused, BadReply}
@@ -180,6 +180,7 @@ module _ {asked : List (List ℕ)} where
   whole_over OutWrite some over short whole = inl over.ends
   whole_over NoMemory some over short whole = inr refl
   whole_over Usage some over short whole = absurd over.ends
+  whole_over (BadWord kind word) some over short whole = absurd over.ends
   whole_over (BadScript line) some over short whole = absurd over.ends
   whole_over TooLong some over short whole = absurd over.ends
   whole_over (BadFile a b c d) some over short whole = absurd over.ends

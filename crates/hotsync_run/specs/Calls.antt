@@ -4,9 +4,13 @@ use Rattle.std.specs.declared.alloc.Global.{Global}
 use Rattle.hs_folders.specs.declared.folder.Folder.{Ghosts as FolderMembers}
 use Rattle.hs_folders.specs.declared.sink.Sink.{Ghosts as SinkMembers}
 use Rattle.hs_folders.specs.declared.source.Source.{Ghosts as SourceMembers}
-use Rattle.run_words.specs.Commands.{Task, Sync, LookAt, Scan, Make, Install, Backup, Restore, Emulate, Categories, task_of}
+use Rattle.run_words.specs.Commands.{Task, Sync, DryRun, LookAt, Scan, Make, Install, Backup, Restore, Emulate, Categories, Help, task_of}
+use Rattle.run_words.specs.Faults.{Fault, fault_of}
+use Rattle.hotsync_looks.specs.Helped.{IsHelped}
 use Rattle.hotsync_looks.specs.Looks.{IsLook}
+use Rattle.hotsync_looks.specs.Misuses.{IsMisuse}
 use Rattle.hotsync_run.specs.Backups.{IsBackup, backup_paths}
+use Rattle.hotsync_run.specs.DryRuns.{IsDryRun}
 use Rattle.hotsync_run.specs.Emulations.{IsEmulation, emulation_paths}
 use Rattle.hotsync_run.specs.Filings.{IsCategories, categories_paths}
 use Rattle.hotsync_run.specs.Installs.{IsInstall, install_paths}
@@ -21,25 +25,32 @@ use Rattle.hotsync_run.specs.Told.{CallTold, call_told}
 use Rattle.hotsync_run.specs.declared.answer.Answer.{Answer}
 use Rattle.hotsync_run.specs.declared.report.Report.{Report}
 use Rattle.hotsync_looks.specs.declared.status.Status.{Status}
-use Rattle.hotsync_looks.specs.declared.status.Status.TheVariants.{Usage, NoMemory}
+use Rattle.hotsync_looks.specs.declared.status.Status.TheVariants.{NoMemory}
 
 -- what words ask for, where the seconds of the date now are these, if it can be told
 abbrev pub task_in : Option ℕ → List (String Global) → Option Task
 task_in now words = task_of now (map string_bytes words)
 
--- a call that does nothing ends with the usage line
+-- the word at fault in words that ask for nothing, where it can be named
+abbrev pub fault_in : Option ℕ → List (String Global) → Option Fault
+fault_in now words = fault_of now (map string_bytes words)
+
+-- a call that does nothing ends with the usage line, and with the word at fault behind it where it
+-- is named
 pub record IsNothing (out out_after : SinkTold) (status : Status) : Type 0 where
-  pub ended : (status ≡ Usage) ⊎ (status ≡ NoMemory)
+  pub ended : IsMisuse status ⊎ (status ≡ NoMemory)
   pub printed : IsPrinted (λ text. ⊥) out out_after status
 
 -- What is known of a call: words out of the form give the usage line. Only a run sends anything, a
--- session between made folders, an install, a backup, a restore and categories that are brought
--- together; a handheld over captured bytes says what it would have sent.
+-- dry one in memory, a session between made folders, an install, a backup, a restore and categories
+-- that are brought together; a handheld over captured bytes says what it would have sent.
 abbrev pub IsCall : Option Task → CallTold → CallTold → SinkTold → SinkTold → Status
     → Report → Type 0
 IsCall None before after out out_after status report = IsNothing out out_after status
 IsCall (Some (Sync run)) before after out out_after status report =
     IsRun run before after out out_after status report
+IsCall (Some (DryRun run)) before after out out_after status report =
+    IsDryRun run before after out out_after status report
 IsCall (Some (LookAt look file)) before after out out_after status report =
     IsLook look file before.source after.source out out_after status
 IsCall (Some (Scan bytes)) before after out out_after status report =
@@ -56,6 +67,8 @@ IsCall (Some (Emulate capture)) before after out out_after status report =
     IsEmulation capture before after out out_after status report
 IsCall (Some (Categories words)) before after out out_after status report =
     IsCategories words before after out out_after status report
+IsCall (Some (Help topic)) before after out out_after status report =
+    IsHelped topic out out_after status
 
 -- a call: what its words ask for, its objects before and after it, and what it answered
 pub record Call : Type 0 where
@@ -83,10 +96,11 @@ OfCall Fact palms desks sources traces outs palm desk source trace out answer re
     (sink_told outs.taken outs.paths outs.faults out)
     (sink_told outs.taken outs.paths outs.faults said) answer.status answer.report
 
--- the words ask for a session: for a run, for one between made folders, for an install, a backup, a
--- restore or categories; or for a handheld's end of one, over captured bytes
+-- the words ask for a session: for a run, a dry one too, for one between made folders, for an
+-- install, a backup, a restore or categories; or for a handheld's end of one, over captured bytes
 abbrev pub HasSession : Option Task → Type 0
 HasSession (Some (Sync run)) = ⊤
+HasSession (Some (DryRun run)) = ⊤
 HasSession (Some (Make seed count)) = ⊤
 HasSession (Some (Install words)) = ⊤
 HasSession (Some (Backup words)) = ⊤
@@ -109,6 +123,7 @@ no_paths = record { handheld = None; desktop = None; source = None; trace = None
 -- restore and of categories, the file of a look, and those of a handheld over captured bytes
 abbrev pub paths_of : Option Task → Paths
 paths_of (Some (Sync run)) = run_paths run
+paths_of (Some (DryRun run)) = run_paths run
 paths_of (Some (Install words)) = install_paths words
 paths_of (Some (Backup words)) = backup_paths words
 paths_of (Some (Restore words)) = restore_paths words

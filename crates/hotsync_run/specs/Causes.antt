@@ -9,7 +9,7 @@ use Rattle.session_parts.specs.declared.stop.Stop.TheVariants as stop
 use Rattle.hotsync_run.specs.declared.report.SessionEnd.{SessionEnd}
 use Rattle.hotsync_run.specs.declared.report.SessionEnd.TheVariants.{NotStarted, Ended, Stopped}
 use Rattle.hotsync_looks.specs.declared.status.Status.{Status}
-use Rattle.hotsync_looks.specs.declared.status.Status.TheVariants.{Done, Usage, BadScript, TooLong, BadFile, TooMany, HandheldFolder, DesktopFolder, SourceRead}
+use Rattle.hotsync_looks.specs.declared.status.Status.TheVariants.{Done, Usage, BadWord, BadScript, TooLong, BadFile, TooMany, HandheldFolder, DesktopFolder, SourceRead}
 use Rattle.hotsync_looks.specs.declared.status.Status.TheVariants.{TraceWrite, OutWrite, NoMemory, LineDown, Unplugged, Aborted, Undetected, OtherUser}
 use Rattle.hotsync_looks.specs.declared.status.Status.TheVariants.{TooManyUsers, Limit, NewHandheld, WrongSide, InUse, CannotExport, BadRecord, BadText, Overfull, BadTrace, NotProper, CannotInstall, NotBackupFolder, SameDatabase}
 use Rattle.hotsync_looks.specs.declared.status.Status.TheVariants.{StreamEnded, StreamAborted, BadHello, Refused, BadReply}
@@ -26,13 +26,14 @@ down_status (Some (down.Undetected number)) = Undetected number
 down_status (Some down.Keeper) = HandheldFolder
 down_status None = NoMemory
 
--- of one that stopped for what a call of it answered; no handheld of ours refuses what a session
--- asks
+-- of one that stopped for what a call of it answered
 abbrev pub fault_status : Option Down → SessionFault → Status
 fault_status cause session.Down = down_status cause
 fault_status cause (session.OtherUser handheld desktop) = OtherUser handheld desktop
 fault_status cause session.TooManyUsers = TooManyUsers
-fault_status cause other = NoMemory
+fault_status cause (session.Refused function code) = Refused function code
+fault_status cause (session.BadReply function broken) = BadReply function
+fault_status cause session.NoMemory = NoMemory
 
 -- of one that stopped
 abbrev pub stop_status : Option Down → Stop → Status
@@ -60,6 +61,7 @@ EndsAs TraceWrite end = end ≡ Ended
 EndsAs OutWrite end = end ≡ Ended
 EndsAs NoMemory end = ⊤
 EndsAs Usage end = ⊥
+EndsAs (BadWord _ _) end = ⊥
 EndsAs (BadScript _) end = ⊥
 EndsAs TooLong end = ⊥
 EndsAs (BadFile _ _ _ _) end = ⊥

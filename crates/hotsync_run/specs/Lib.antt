@@ -6,6 +6,7 @@ pub mod Causes
 pub mod Clean
 pub mod Clocks
 pub mod Closings
+pub mod DryRuns
 pub mod Emulations
 pub mod Ends
 pub mod Equal

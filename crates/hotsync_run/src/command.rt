@@ -1,21 +1,24 @@
 // The top call.
 ghost use Rattle.std.specs.Prelude.{◌≡◌, None};
-ghost use Rattle.hotsync_run.specs.Calls.{HasSession, IsCall, OfCall, ReadsFirst, paths_of, task_in};
+ghost use Rattle.hotsync_looks.specs.Misuses.{TellsFault};
+ghost use Rattle.hotsync_run.specs.Calls.{HasSession, IsCall, OfCall, ReadsFirst, fault_in, paths_of, task_in};
 ghost use Rattle.hotsync_run.specs.Refusals.{BlamesHandheld, BlamesSource};
 ghost use Rattle.hotsync_run.specs.Reports.{IsNotStarted};
 
 use crate::answer::Answer;
 use crate::backup::backup_folder;
 use crate::categories::file_categories;
+use crate::dry_run::dry_run_folders;
 use crate::emulation::emulate;
 use crate::install::install_file;
 use crate::make::make;
 use crate::report::SessionEnd;
 use crate::restore::restore_folder;
 use crate::run::run_folders;
-use hotsync_looks::{Status, look_at, print_packets, print_refusal};
+use hotsync_looks::{Status, look_at, print_help, print_misuse, print_packets, print_refusal};
 use hs_folders::{Folder, Sink, Source};
 use run_clap::{Command, WordsFault, read_command};
+use run_words::fault_of;
 use std::alloc::Global;
 
 /// Does what the words ask for, and prints the lines of its status on `out`.
@@ -36,6 +39,10 @@ pub fn hotsync<H: Folder, D: Folder, S: Source, T: Sink, O: Sink>(
         device desk source.old trace.old out.old
         result source.new trace.new out.new }
 
+    // Where the words ask for nothing, the status names the word at fault.
+    ensures fault { task_in now words.now ≡ None
+        → TellsFault (fault_in now words.now) result.status }
+
     // Nothing goes over a line but in a session.
     ensures report { ¬ HasSession (task_in now words.now) → IsNotStarted result.report }
 
@@ -53,6 +60,9 @@ pub fn hotsync<H: Folder, D: Folder, S: Source, T: Sink, O: Sink>(
 {
     match read_command(alloc, now, words) {
         Ok(Command::Run(run)) => run_folders(alloc, &run, device, desk, source, trace, out),
+        Ok(Command::DryRun(run)) => {
+            dry_run_folders(alloc, &run, device, desk, source, trace, out)
+        }
         Ok(Command::Look(look)) => {
             let status = look_at(alloc, look, source, out);
             Answer::not_started(alloc, status, device, desk)
@@ -83,8 +93,12 @@ pub fn hotsync<H: Folder, D: Folder, S: Source, T: Sink, O: Sink>(
         Ok(Command::Categories(words)) => {
             file_categories(alloc, &words, device, desk, source, trace, out)
         }
+        Ok(Command::Help(topic)) => {
+            let status = print_help(alloc, topic, out);
+            Answer::not_started(alloc, status, device, desk)
+        }
         Err(WordsFault::Usage) => {
-            let status = print_refusal(alloc, Status::Usage, out);
+            let status = print_misuse(alloc, fault_of(now, words), out);
             Answer::not_started(alloc, status, device, desk)
         }
         Err(WordsFault::NoMemory) => {

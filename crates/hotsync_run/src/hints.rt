@@ -29,7 +29,7 @@ pub fn hint_words<R: Eprint + AllocGlobal>(
     let Status::Done = status else {
         return;
     };
-    if let Ok(Command::Run(run)) = read_command(rt.alloc(), now, words) {
+    if let Ok(Command::Run(run) | Command::DryRun(run)) = read_command(rt.alloc(), now, words) {
         hint_date(rt, &run, report);
         hint_actions(rt, run.actions, report);
     }

@@ -90,7 +90,7 @@ fn stop_status(stop: Stop, cause: Option<&Down>) -> Status
     }
 }
 
-// The status of one that stopped for what a call of it answered. No handheld of ours refuses what a session asks.
+// The status of one that stopped for what a call of it answered.
 fn fault_status(fault: SessionFault, cause: Option<&Down>) -> Status
     ensures { result ≡ status_of_fault (option_copied cause.entry) fault }
 {
@@ -98,8 +98,9 @@ fn fault_status(fault: SessionFault, cause: Option<&Down>) -> Status
         SessionFault::Down => down_status(cause),
         SessionFault::OtherUser { handheld, desktop } => Status::OtherUser { handheld, desktop },
         SessionFault::TooManyUsers => Status::TooManyUsers,
-        SessionFault::Refused(_) | SessionFault::BadReply(_) | SessionFault::NoMemory =>
-            Status::NoMemory,
+        SessionFault::Refused { function, code } => Status::Refused { function, code },
+        SessionFault::BadReply { function, .. } => Status::BadReply(function),
+        SessionFault::NoMemory => Status::NoMemory,
     }
 }
 

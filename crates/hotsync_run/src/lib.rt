@@ -18,6 +18,7 @@ mod categories_talk;
 mod clock;
 mod closing;
 mod command;
+mod dry_run;
 mod emulation;
 mod hints;
 mod install;

@@ -1,7 +1,8 @@
 // What the program does with the words that it was called with.
 ghost use Rattle.std.specs.Prelude.{◌≡◌, ◌↔◌, IfOk, IsErr, IsErrOf, None, drop};
 ghost use Rattle.std.specs.Process.{exit_status};
-ghost use Rattle.hotsync_run.specs.Calls.{HasSession, IsCall, OfCall, ReadsFirst, paths_of, task_in};
+ghost use Rattle.hotsync_looks.specs.Misuses.{TellsFault};
+ghost use Rattle.hotsync_run.specs.Calls.{HasSession, IsCall, OfCall, ReadsFirst, fault_in, paths_of, task_in};
 ghost use Rattle.hotsync_looks.specs.Codes.{code_of};
 ghost use Rattle.hotsync_run.specs.Refusals.{BlamesHandheld, BlamesSource};
 ghost use Rattle.hotsync_run.specs.Reports.{IsNotStarted};
@@ -50,6 +51,10 @@ pub fn run_program<H: Folder, D: Folder, S: Source, T: Sink, O: Sink>(
         H.Folder D.Folder S.Source T.Sink O.Sink
         device desk source.old trace.old out.old
         result.answer source.new trace.new out.new }
+
+    // Where the words ask for nothing, the status names the word at fault.
+    ensures fault { task_in now (drop 1 args.now) ≡ None
+        → TellsFault (fault_in now (drop 1 args.now)) result.answer.status }
 
     // Nothing goes over a line but in a session.
     ensures report { ¬ HasSession (task_in now (drop 1 args.now))

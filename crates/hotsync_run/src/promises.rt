@@ -8,7 +8,7 @@ ghost use Rattle.line_script.specs.Rules.{RuleValue};
 ghost use Rattle.trace_check.specs.Judging.{IsProperTrace};
 ghost use Rattle.run_words.specs.Betweens.{Between};
 ghost use Rattle.run_words.specs.Captures.{Capture};
-ghost use Rattle.run_words.specs.Commands.{Emulate, Categories, Install, LookAt, Make, Restore};
+ghost use Rattle.run_words.specs.Commands.{DryRun, Emulate, Categories, Install, LookAt, Make, Restore};
 ghost use Rattle.run_words.specs.declared.look.Look.{Look};
 ghost use Rattle.run_words.specs.Runs.{Run};
 ghost use Rattle.desk_journal.specs.Overlays.{finished};
@@ -23,6 +23,7 @@ ghost use Rattle.hotsync_run.specs.Besides.{StandsBeside};
 ghost use Rattle.hotsync_run.specs.Calls.{Call, IsAnsweredCall, IsNothing};
 ghost use Rattle.hotsync_run.specs.Causes.{HasBegun};
 ghost use Rattle.hotsync_run.specs.Clean.{GoesThrough, HasNoLines};
+ghost use Rattle.hotsync_run.specs.DryRuns.{HoldTheSame};
 ghost use Rattle.hotsync_run.specs.Emulations.{SaysAll};
 ghost use Rattle.hotsync_run.specs.Equal.{EndsEqual};
 ghost use Rattle.hotsync_run.specs.FilingCalls.{IsSecondCall, StandsTogether};
@@ -35,7 +36,7 @@ ghost use Rattle.hotsync_run.specs.Meetings.{Meets};
 ghost use Rattle.hotsync_looks.specs.PrintedNames.{is_printable, printed_name};
 ghost use Rattle.hotsync_run.specs.Restores.{EndedRestore, RestoreRan, restore_command};
 ghost use Rattle.hotsync_looks.specs.declared.status.Status.TheVariants.{Done};
-ghost use Rattle.hotsync_run.specs.Runs.{run_command};
+ghost use Rattle.hotsync_run.specs.Runs.{IsRun, run_command};
 ghost use Rattle.hotsync_run.specs.Scripts.{IsScripted};
 ghost use Rattle.hotsync_run.specs.SessionCalls.{SentNothing, StaysAsItWas};
 ghost use Rattle.hotsync_run.specs.Told.{CallTold};
@@ -131,6 +132,21 @@ pub fn an_ended_run_leaves_both_sides_equal()
 /// which ended, leave on both sides what one whole session would have left, up to the ids of new records.
 pub fn stopped_runs_end_as_one()
     ensures { (call : RunCall) (later : List RunCall) → AllRan call later → EndsAsOne call later }
+{}
+
+/// A dry run changes nothing: at each moment both folders hold what they held.
+pub fn a_dry_run_changes_nothing()
+    ensures { (call : Call) (run : Run) → IsAnsweredCall call → call.task ≡ Some (DryRun run)
+        → StaysAsItWas call.before.palm call.after.palm
+        × StaysAsItWas call.before.desk call.after.desk }
+{}
+
+/// Status, report, trace and lines of a dry run are those of a run over folders that hold the same.
+pub fn a_dry_run_is_a_run_over_the_same()
+    ensures { (call : Call) (run : Run) → IsAnsweredCall call → call.task ≡ Some (DryRun run)
+        → (first : CallTold) × (last : CallTold) × HoldTheSame call.before call.after first
+        × (last.trace ≡ call.after.trace)
+        × IsRun run first last call.out call.out_after call.status call.report }
 {}
 
 /// Every file that is looked at is read, or refused by the first rule of its format that it breaks.

@@ -107,7 +107,7 @@ fn judged_run<H: Folder, D: Folder, S: Source, T: Sink>(
 }
 
 // Runs the session, and writes its trace.
-fn traced_talk<H: Folder, D: Folder, T: Sink>(
+pub(crate) fn traced_talk<H: Folder, D: Folder, T: Sink>(
     alloc: Global,
     words: &RunWords<'_>,
     store: Store<H>,

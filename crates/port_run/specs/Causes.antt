@@ -9,7 +9,7 @@ use Rattle.session_parts.specs.declared.stop.Stop.TheVariants as stop
 use Rattle.trace_text.specs.declared.frame.End.TheVariants.{Desktop}
 use Rattle.hotsync_looks.specs.declared.status.Status.{Status}
 use Rattle.hotsync_looks.specs.declared.status.Status.TheVariants.{PortFailed, NoHandheld, LineDown, LineSilent, PeerAborted, LineEndless, NoMemory}
-use Rattle.hotsync_looks.specs.declared.status.Status.TheVariants.{OtherUser, TooManyUsers, Limit, NewHandheld, DesktopFolder}
+use Rattle.hotsync_looks.specs.declared.status.Status.TheVariants.{OtherUser, TooManyUsers, Limit, NewHandheld, DesktopFolder, Refused, BadReply}
 
 -- of one whose link answers no more
 abbrev pub down_status : Option PortCause → Status
@@ -22,12 +22,15 @@ down_status (Some cause.Aborted) = PeerAborted
 down_status (Some cause.TooLong) = LineEndless
 down_status (Some cause.NoMemory) = NoMemory
 
--- of one that stopped for what a call of it answered
+-- of one that stopped for what a call of it answered; a refusal and a reply that can't be read are
+-- told with the function of their request
 abbrev pub fault_status : Option PortCause → SessionFault → Status
 fault_status cause session.Down = down_status cause
 fault_status cause (session.OtherUser handheld desktop) = OtherUser handheld desktop
 fault_status cause session.TooManyUsers = TooManyUsers
-fault_status cause other = NoMemory
+fault_status cause (session.Refused function code) = Refused function code
+fault_status cause (session.BadReply function broken) = BadReply function
+fault_status cause session.NoMemory = NoMemory
 
 -- of one that stopped
 abbrev pub stop_status : Option PortCause → Stop → Status

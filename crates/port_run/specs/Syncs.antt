@@ -7,11 +7,12 @@ use Rattle.run_words.specs.Cables.{Cable}
 use Rattle.trace_text.specs.declared.frame.End.TheVariants as end
 use Rattle.port_link.specs.Logs.{log_entries}
 use Rattle.hotsync_looks.specs.Lines.{done_lines}
+use Rattle.hotsync_looks.specs.Misuses.{IsMisuse}
 use Rattle.hotsync_looks.specs.Opening.{Opens, OpensAtMost, OpensGiven, OpensGivenAtMost}
 use Rattle.hotsync_looks.specs.Printed.{IsPrinted, IsPrintedStatus}
 use Rattle.hotsync_looks.specs.Told.{SinkTold}
 use Rattle.hotsync_looks.specs.declared.status.Status.{Status}
-use Rattle.hotsync_looks.specs.declared.status.Status.TheVariants.{Usage, NoMemory, PortFailed, DesktopFolder, InUse, TraceWrite}
+use Rattle.hotsync_looks.specs.declared.status.Status.TheVariants.{NoMemory, PortFailed, DesktopFolder, InUse, TraceWrite}
 use Rattle.hotsync_run.specs.Causes.{ByEnd, HasBegun, IsTracedStatus}
 use Rattle.hotsync_run.specs.Refusals.{HasDesktop, LeavesDesktopUnread}
 use Rattle.hotsync_run.specs.Runs.{StandsAsItDid}
@@ -107,10 +108,11 @@ pub record IsSync (cable : Cable) (before after : SyncTold) (out out_after : Sin
   pub status_is : IsPrintedStatus found status
   pub printed : IsPrinted (λ text. text ≡ done_lines report.databases.items) out out_after status
 
--- words out of the form give the usage line, and nothing is done
+-- words out of the form give the usage line, with the word at fault behind it where it is named, and
+-- nothing is done
 pub record IsNothing (before after : SyncTold) (out out_after : SinkTold) (status : Status)
     (report : CableReport) : Type 0 where
-  pub ended : (status ≡ Usage) ⊎ (status ≡ NoMemory)
+  pub ended : IsMisuse status ⊎ (status ≡ NoMemory)
   pub same : after ≡ before
   pub silent : IsSilent report
   pub printed : IsPrinted (λ text. ⊥) out out_after status

@@ -61,8 +61,9 @@ fn fault_status(cause: Option<PortCause>, fault: SessionFault) -> Status
         SessionFault::Down => down_status(cause),
         SessionFault::OtherUser { handheld, desktop } => Status::OtherUser { handheld, desktop },
         SessionFault::TooManyUsers => Status::TooManyUsers,
-        SessionFault::Refused(_) | SessionFault::BadReply(_) | SessionFault::NoMemory =>
-            Status::NoMemory,
+        SessionFault::Refused { function, code } => Status::Refused { function, code },
+        SessionFault::BadReply { function, .. } => Status::BadReply(function),
+        SessionFault::NoMemory => Status::NoMemory,
     }
 }
 

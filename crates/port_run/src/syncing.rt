@@ -1,9 +1,11 @@
 // A session over a cable: what comes before it, and what it prints.
 ghost use Rattle.std.specs.Prelude.{◌≡◌, ◌≢◌, IfSome, None, map, string_bytes};
+ghost use Rattle.hotsync_looks.specs.Misuses.{TellsFault};
 ghost use Rattle.hotsync_looks.specs.Told.{sink_told};
 ghost use Rattle.port_run.specs.Syncs.{HasSynced, IsSyncCall, TracesTalk};
 ghost use Rattle.port_run.specs.Told.{desk_told, port_told, sync_told};
 ghost use Rattle.run_words.specs.Cables.{sync_of};
+ghost use Rattle.run_words.specs.Faults.{fault_of as fault_in_words};
 ghost use Rattle.run_words.specs.Views.{cable_view};
 
 use crate::opening::open_port;
@@ -11,11 +13,11 @@ use crate::synced::Synced;
 use crate::talk::talk;
 use crate::tracing::trace_log;
 use desk_store::Desk;
-use hotsync_looks::{Status, print_refusal, print_status};
+use hotsync_looks::{Status, print_misuse, print_status};
 use hotsync_run::{open_desktop, open_trace};
 use hs_folders::{Folder, Sink};
 use port_line::Port;
-use run_words::{CableWords, sync_words};
+use run_words::{CableWords, fault_of, sync_words};
 use std::alloc::Global;
 
 /// Has the session over a cable that the words ask for, and prints the lines of its status on `out`.
@@ -42,9 +44,13 @@ pub fn sync<P: Port, D: Folder, T: Sink, O: Sink>(
         cable.trace ≡ None → trace.new ≡ trace.old) }
     ensures untouched { sync_of now (map string_bytes words.now) ≡ None
         → (result.port ≡ port) × (result.desk ≡ desk) × (trace.new ≡ trace.old) }
+
+    // Where the words ask for nothing, the status names the word at fault.
+    ensures fault { sync_of now (map string_bytes words.now) ≡ None
+        → TellsFault (fault_in_words now (map string_bytes words.now)) result.status }
 {
     let Some(cable) = sync_words(now, words) else {
-        let status = print_refusal(alloc, Status::Usage, out);
+        let status = print_misuse(alloc, fault_of(now, words), out);
         return Synced::not_started(alloc, status, port, desk);
     };
     let synced = judged(alloc, &cable, port, desk, trace);

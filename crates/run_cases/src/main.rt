@@ -14,7 +14,8 @@
 //! - `print WORDS` calls likewise, and prints the exit status and what was printed alone.
 //! - `names` and `files` print what the folders then hold, `trace` the trace, or its lines of the numbers behind it, and `taken`
 //!   its bytes in hexadecimal.
-//! - `words WORDS` prints what these words are read as: `usage` where they are out of the form, and else each word, the date in
+//! - `words WORDS` prints what these words are read as: `usage` where they are out of the form, `help` and the
+//!   command or `version` where they ask for these, and else each word, the date in
 //!   seconds and an option that isn't given as `-`; behind `actions` the names with their actions, and what is done with
 //!   `MemoDB`.
 //! - `system WORDS` calls over the folders, files and standard output of the system, and prints the words behind `$ hotsync`, and

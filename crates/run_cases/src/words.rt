@@ -1,10 +1,10 @@
 // What words say.
 use pdb_values::DbName;
 use run_clap::{
-    BetweenWords, CaptureWords, Command, ExportForm, ImportForm, Look, LookWords, RunWords,
+    BetweenWords, CaptureWords, Command, ExportForm, ImportForm, Look, LookWords, RunWords, Topic,
     WordsFault, read_command,
 };
-use run_words::{ActionWord, Target, action_of, command_of, read_actions};
+use run_words::{ActionWord, CommandWord, Target, action_of, command_of, read_actions};
 use std::alloc::{AllocError, Global};
 use std::fmt::Write;
 
@@ -16,7 +16,8 @@ pub fn words_text(alloc: Global, now: Option<u32>, line: &str) -> Result<String,
     }
     let in_form = command_of(now, &words).is_some();
     match read_command(alloc, now, &words) {
-        Ok(Command::Run(run)) => run_text(alloc, &run),
+        Ok(Command::Run(run)) => run_text(alloc, "run", &run),
+        Ok(Command::DryRun(run)) => run_text(alloc, "dry run", &run),
         Ok(Command::Look(look)) => look_text(alloc, &look),
         Ok(Command::Packet(packet)) => format!(in alloc; "packet hex {}\n", packet.hex),
         Ok(Command::Make(make)) => {
@@ -27,8 +28,37 @@ pub fn words_text(alloc: Global, now: Option<u32>, line: &str) -> Result<String,
         Ok(Command::Restore(words)) => between_text(alloc, "restore", &words),
         Ok(Command::Categories(words)) => categories_text(alloc, &words),
         Ok(Command::Device(words)) => device_text(alloc, &words),
+        Ok(Command::Help(topic)) => String::from_str(alloc, topic_text(topic)),
         Err(WordsFault::Usage) if !in_form => String::from_str(alloc, "usage\n"),
         Err(_) => String::from_str(alloc, "no memory\n"),
+    }
+}
+
+fn topic_text(topic: Topic) -> &'static str {
+    match topic {
+        Topic::Program => "help\n",
+        Topic::Version => "version\n",
+        Topic::Of(command) => command_text(command),
+    }
+}
+
+fn command_text(command: CommandWord) -> &'static str {
+    match command {
+        CommandWord::Run => "help run\n",
+        CommandWord::Check => "help check\n",
+        CommandWord::Show => "help show\n",
+        CommandWord::Export => "help export\n",
+        CommandWord::Import => "help import\n",
+        CommandWord::Verify => "help verify\n",
+        CommandWord::Picture => "help picture\n",
+        CommandWord::Packet => "help packet\n",
+        CommandWord::Install => "help install\n",
+        CommandWord::Backup => "help backup\n",
+        CommandWord::Restore => "help restore\n",
+        CommandWord::Device => "help device\n",
+        CommandWord::Categories => "help categories\n",
+        CommandWord::Sync => "help sync\n",
+        CommandWord::Make => "help make\n",
     }
 }
 
@@ -77,6 +107,7 @@ fn look_text(alloc: Global, words: &LookWords<'_>) -> Result<String, AllocError>
     match words.look {
         Look::Check => format!(in alloc; "check file {file}\n"),
         Look::Show => format!(in alloc; "show file {file}\n"),
+        Look::Records => format!(in alloc; "show file {file} records\n"),
         Look::Verify => format!(in alloc; "verify file {file}\n"),
         Look::Picture => format!(in alloc; "picture file {file}\n"),
         Look::Export(export) => {
@@ -99,10 +130,10 @@ fn form_text(alloc: Global, form: ExportForm) -> Result<String, AllocError> {
     }
 }
 
-fn run_text(alloc: Global, run: &RunWords<'_>) -> Result<String, AllocError> {
+fn run_text(alloc: Global, command: &str, run: &RunWords<'_>) -> Result<String, AllocError> {
     let actions = actions_text(alloc, run.actions)?;
     format!(in alloc;
-        "run handheld {} desktop {} date {} script {} trace {} slow {} add-user {} actions{actions}\n",
+        "{command} handheld {} desktop {} date {} script {} trace {} slow {} add-user {} actions{actions}\n",
         run.handheld,
         run.desktop,
         run.date.seconds(),

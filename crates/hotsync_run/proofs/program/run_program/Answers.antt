@@ -1,3 +1,4 @@
+use Rattle.std.proofs.Common.{sym}
 use Rattle.hotsync_run.proofs.program.run_program.Goals as goal
 
 pub returns-clause-report : goal.returns-clause-report
@@ -14,3 +15,6 @@ returns-clause-desk g c = λ no. c.hotsync-answer.ensures.desk (rw c.words_of.en
 
 pub returns-clause-trace : goal.returns-clause-trace
 returns-clause-trace g c = λ no. c.hotsync-answer.ensures.trace (rw c.words_of.ensures no)
+
+pub returns-clause-fault : goal.returns-clause-fault
+returns-clause-fault g c = λ none. rw (sym c.words_of.ensures) (c.hotsync-answer.ensures.fault (rw c.words_of.ensures none))
