@@ -1,0 +1,25 @@
+-- What a call answers that puts a text into a room.
+use Rattle.std.specs.Prelude.{◌≡◌, ◌⊎◌, ℕ, suc, ℤ, negsuc, List}
+use Rattle.pdb_files.specs.declared.fault.FileFault.{FileFault}
+use Rattle.pdb_files.specs.declared.fault.FileFault.TheVariants.{NoMemory}
+use Rattle.hotsync_c.specs.declared.refusal.Refusal.{Refusal}
+use Rattle.hotsync_c.specs.declared.refusal.Refusal.TheVariants.{Memory, Form, BadLine, Absent}
+use Rattle.hotsync_c.specs.Rooms.{PutsIn}
+
+-- the number that C gets for a refusal: -1, -2, -2 - N for line N, and -3
+abbrev pub answer_of : Refusal → ℤ
+answer_of Memory = negsuc 0
+answer_of Form = negsuc 1
+answer_of (BadLine line) = negsuc (suc line)
+answer_of Absent = negsuc 2
+
+-- the refusal of a file
+abbrev pub refusal_of : FileFault → Refusal
+refusal_of NoMemory = Memory
+refusal_of _ = Form
+
+-- a call that puts such a text into the room, or refuses so and leaves the room as it was
+abbrev pub Answers : (List ℕ → Type 0) → (Refusal → Type 0) → List ℕ → List ℕ → ℤ → Type 0
+Answers IsText Refuses room room_after answer =
+    ((text : List ℕ) × IsText text × PutsIn text room room_after answer)
+    ⊎ ((refusal : Refusal) × Refuses refusal × (answer ≡ answer_of refusal) × (room_after ≡ room))

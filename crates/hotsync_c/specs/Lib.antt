@@ -1,0 +1,7 @@
+pub mod Answers
+pub mod Building
+pub mod Files
+pub mod Parts
+pub mod Rooms
+pub mod Texts
+pub mod Traces

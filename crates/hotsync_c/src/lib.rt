@@ -1,0 +1,26 @@
+//! The readers of this repository for C: pure functions over bytes that the caller lends for the call.
+//!
+//! Each export makes a call of another crate of this repository and has its contract. A result that is a text or a file
+//! goes into room that the caller brings, as far as it fits, and the answer is how long it is, so that the call can be made
+//! again with more room. Nothing outlives a call, and no export reaches a file, a terminal or a clock. `include/hotsync.h`
+//! declares the functions for C; a slice is a pointer and then a length there, and the allocator is no parameter.
+#![tactic(auto)]
+
+mod build;
+mod entry;
+mod file;
+mod fit;
+mod packets;
+mod parts;
+mod refusal;
+mod room;
+mod trace;
+mod version;
+
+pub use build::hs_build;
+pub use entry::{hs_entry, hs_head};
+pub use file::{hs_check, hs_show};
+pub use packets::hs_packets;
+pub use parts::{HsEntry, HsHead};
+pub use trace::{hs_picture, hs_verify};
+pub use version::hs_version;

@@ -1,0 +1,303 @@
+/* Calls each function of the library: in room that fits, in none, in one byte too few, and over no bytes at all. What is
+   wanted was worked out from the formats by hand.
+   cc each.c $(pkg-config --cflags --libs hotsync) */
+#include <hotsync.h>
+#include <stdio.h>
+#include <stdlib.h>
+#include <string.h>
+
+static int failed;
+
+static void expect(const char *what, int64_t got, int64_t wanted)
+{
+    if (got != wanted) {
+        fprintf(stderr, "each: %s: %lld, and not %lld\n", what, (long long)got, (long long)wanted);
+        failed = 1;
+    }
+}
+
+/* A call that puts bytes into the room. */
+typedef int64_t call(const uint8_t *bytes, size_t len, uint8_t *room, size_t n);
+
+/* Calls it in a room of n bytes, no byte more, and looks at the answer and at the room. */
+static void in_room(const char *what, call *made, const uint8_t *bytes, size_t len, const char *text, size_t wanted, size_t n)
+{
+    size_t most = n > 0 ? n : 1;
+    uint8_t *room = malloc(most);
+    if (room == NULL)
+        exit(2);
+    memset(room, 0xAA, most);
+    expect(what, made(bytes, len, room, n), (int64_t)wanted);
+    size_t fits = wanted < n ? wanted : n;
+    expect(what, memcmp(room, text, fits), 0);
+    for (size_t place = fits; place < most; place++)
+        expect(what, room[place], 0xAA);
+    free(room);
+}
+
+static void in_rooms(const char *what, call *made, const uint8_t *bytes, size_t len, const char *text, size_t wanted)
+{
+    in_room(what, made, bytes, len, text, wanted, wanted);
+    in_room(what, made, bytes, len, text, wanted, 0);
+    in_room(what, made, bytes, len, text, wanted, wanted + 7);
+    if (wanted > 0)
+        in_room(what, made, bytes, len, text, wanted, wanted - 1);
+}
+
+/* The same where there is nothing: the room stays as it was. */
+static void refused(const char *what, call *made, const uint8_t *bytes, size_t len, int64_t answer)
+{
+    uint8_t room[3] = {0xAA, 0xAA, 0xAA};
+    expect(what, made(bytes, len, room, 3), answer);
+    expect(what, room[0] + room[1] + room[2], 3 * 0xAA);
+}
+
+/* Bytes of their hexadecimal. */
+static size_t bytes_of(const char *hex, uint8_t *bytes)
+{
+    size_t count = 0;
+    unsigned value;
+    for (; sscanf(hex, "%2x", &value) == 1; hex += 2)
+        bytes[count++] = (uint8_t)value;
+    return count;
+}
+
+/* ---- files ---- */
+
+/* A file of two records, its numbers by name: docs/FORMATS.md says the places. */
+static const char PDB[] =
+    "4e6f746500000000000000000000000000000000000000000000000000000000" /* Note */
+    "0008" "0001" "00000001" "00000002" "00000003" "00000004"          /* attributes, version, dates, modification number */
+    "00000060" "00000000" "44415441" "6d656d6f" "00000005" "00000000"  /* app, sort, DATA, memo, seed, next list */
+    "0002" "00000063" "42" "000001" "00000065" "00" "3b1004"           /* two entries */
+    "0000" "617070" "4869" "42796521";                                 /* filler, app, Hi, Bye! */
+
+/* A file of one resource. */
+static const char PRC[] =
+    "4170700000000000000000000000000000000000000000000000000000000000" /* App */
+    "0001" "0002" "00000001" "00000002" "00000003" "00000004"
+    "00000000" "00000000" "6170706c" "4e6f7465" "00000005" "00000000"
+    "0001" "636f6465" "0001" "0000005a"
+    "0000" "ff00ff";
+
+static struct hs_entry entry;
+static struct hs_head head;
+static uint32_t wanted_index;
+
+static int64_t entry_of(const uint8_t *bytes, size_t len, uint8_t *room, size_t n)
+{
+    return hs_entry(bytes, len, wanted_index, &entry, room, n);
+}
+
+static int64_t head_of(const uint8_t *bytes, size_t len, uint8_t *room, size_t n)
+{
+    return hs_head(bytes, len, &head, room, n);
+}
+
+static void check(const char *what, const uint8_t *bytes, size_t len, int64_t answer, uint32_t kind, uint64_t place)
+{
+    uint32_t found = 99;
+    uint64_t at = 99;
+    expect(what, hs_check(bytes, len, &found, &at), answer);
+    expect(what, found, kind);
+    expect(what, (int64_t)at, (int64_t)place);
+}
+
+static void entry_is(const char *what, uint32_t type, uint32_t id, uint32_t attributes, uint32_t size)
+{
+    expect(what, entry.type, type);
+    expect(what, entry.id, id);
+    expect(what, entry.attributes, attributes);
+    expect(what, entry.size, size);
+}
+
+static void texts(const uint8_t *pdb, size_t pdb_size, const uint8_t *prc, size_t prc_size)
+{
+    static const char pdb_text[] =
+        "name Note\n"
+        "type 44415441 creator 6d656d6f version 1 attributes 0008\n"
+        "created 1 modified 2 backup 3\n"
+        "app 3 sort -\n"
+        "0 id 000001 attr 42 size 2\n"
+        "1 id 3b1004 attr 00 size 4\n";
+    static const char prc_text[] =
+        "name App\n"
+        "type 6170706c creator 4e6f7465 version 2 attributes 0001\n"
+        "created 1 modified 2 backup 3\n"
+        "app - sort -\n"
+        "0 type 636f6465 id 1 size 3\n";
+    in_rooms("hs_show of records", hs_show, pdb, pdb_size, pdb_text, sizeof pdb_text - 1);
+    in_rooms("hs_show of resources", hs_show, prc, prc_size, prc_text, sizeof prc_text - 1);
+    refused("hs_show of a part", hs_show, pdb, pdb_size - 44, HS_FORM);
+    refused("hs_show of nothing", hs_show, pdb, 0, HS_FORM);
+}
+
+static void parts(const uint8_t *pdb, size_t pdb_size, const uint8_t *prc, size_t prc_size)
+{
+    in_rooms("hs_head", head_of, pdb, pdb_size, "Noteapp", 7);
+    expect("attributes", head.attributes, 8);
+    expect("version", head.version, 1);
+    expect("dates", head.created * 100 + head.modified * 10 + head.backup, 123);
+    expect("modification number and seed", head.modnum * 10 + head.seed, 45);
+    expect("type", head.type, 0x44415441);
+    expect("creator", head.creator, 0x6d656d6f);
+    expect("entries", head.entries, 2);
+    expect("lengths", head.name * 10 + head.app, 43);
+    expect("no sort block", head.sort, HS_NO_BLOCK);
+    refused("hs_head of nothing", head_of, pdb, 0, HS_FORM);
+    expect("head as it was", head.entries, 2);
+
+    wanted_index = 0;
+    in_rooms("hs_entry 0", entry_of, pdb, pdb_size, "Hi", 2);
+    entry_is("entry 0", 0, 1, 0x42, 2);
+    wanted_index = 1;
+    in_rooms("hs_entry 1", entry_of, pdb, pdb_size, "Bye!", 4);
+    entry_is("entry 1", 0, 0x3b1004, 0, 4);
+    wanted_index = 2;
+    refused("hs_entry 2", entry_of, pdb, pdb_size, HS_ABSENT);
+    refused("hs_entry of nothing", entry_of, pdb, 0, HS_FORM);
+    entry_is("entry as it was", 0, 0x3b1004, 0, 4);
+    wanted_index = 0;
+    in_rooms("hs_entry of a resource", entry_of, prc, prc_size, "\xff\0\xff", 3);
+    entry_is("resource", 0x636f6465, 1, 0, 3);
+}
+
+static struct hs_entry entries[2];
+static size_t entry_count;
+
+static int64_t file_of(const uint8_t *bytes, size_t len, uint8_t *room, size_t n)
+{
+    return hs_build(&head, entries, entry_count, bytes, len, room, n);
+}
+
+/* What hs_head and hs_entry say of a canonical file gives this file again. */
+static void built(const char *what, const uint8_t *file, size_t size, size_t count)
+{
+    uint8_t bytes[200], none[1] = {0};
+    size_t length = (size_t)hs_head(file, size, &head, bytes, sizeof bytes);
+    for (entry_count = 0; entry_count < count; entry_count++)
+        length += (size_t)hs_entry(file, size, (uint32_t)entry_count, &entries[entry_count], bytes + length, sizeof bytes - length);
+    in_rooms(what, file_of, bytes, length, (const char *)file, size);
+    refused("hs_build of a byte too few", file_of, bytes, length - 1, HS_FORM);
+    refused("hs_build of a byte too many", file_of, bytes, length + 1, HS_FORM);
+    refused("hs_build of no bytes", file_of, none, 0, HS_FORM);
+    entries[0].id = 0x1000000;
+    refused("hs_build of a large id", file_of, bytes, length, HS_FORM);
+    entries[0].id = 1;
+    head.version = 65536;
+    refused("hs_build of a large version", file_of, bytes, length, HS_FORM);
+    head.version = 1;
+    bytes[0] = 0;
+    refused("hs_build of a zero in the name", file_of, bytes, length, HS_FORM);
+}
+
+static void files(void)
+{
+    uint8_t pdb[200], prc[200];
+    size_t pdb_size = bytes_of(PDB, pdb), prc_size = bytes_of(PRC, prc);
+    check("hs_check of records", pdb, pdb_size, 2, HS_GOOD, 0);
+    check("hs_check of resources", prc, prc_size, 1, HS_GOOD, 0);
+    check("hs_check of nothing", pdb, 0, HS_FORM, HS_SHORT, 0);
+    check("hs_check of a header alone", pdb, 78, HS_FORM, HS_SHORT, 78);
+    texts(pdb, pdb_size, prc, prc_size);
+    built("hs_build of records", pdb, pdb_size, 2);
+    built("hs_build of resources", prc, prc_size, 1);
+    parts(pdb, pdb_size, prc, prc_size);
+    pdb[0] = 0;
+    check("hs_check without a name", pdb, pdb_size, HS_FORM, HS_NAME, 0);
+    pdb[0] = 'N';
+    pdb[75] = 1;
+    check("hs_check of a second list", pdb, pdb_size, HS_FORM, HS_CHAINED, 72);
+    pdb[75] = 0;
+    pdb[81] = 200;
+    check("hs_check of a block out of place", pdb, pdb_size, HS_FORM, HS_OFFSET, 1);
+}
+
+static void large(void)
+{
+    size_t size = 99 + 65501 + 4;
+    uint8_t *pdb = calloc(1, size);
+    if (pdb == NULL)
+        exit(2);
+    bytes_of(PDB, pdb);
+    /* The second block is the first record: 65,501 bytes. */
+    size_t begin = 99 + 65501;
+    pdb[86] = (uint8_t)(begin >> 24), pdb[87] = (uint8_t)(begin >> 16);
+    pdb[88] = (uint8_t)(begin >> 8), pdb[89] = (uint8_t)begin;
+    check("hs_check of a large block", pdb, size, HS_FORM, HS_LARGE, 1);
+    free(pdb);
+}
+
+/* ---- a line ---- */
+
+#define WAKE "beefed030302000effaf01c0000a0100010100000000258071ae\n"
+#define ACK "beefed0303020004ffa502c0000a1a85\n"
+#define INIT "beefed030302000effaf01c0000a02000101000000002580c061\n"
+#define READ "beefed030302000601a901c0000210000e37\n"
+#define ASKED "5 D ok + " READ "6 H ok + beefed030302000401a702c00002ce11\n"
+#define ANSWERED "7 H ok + beefed030302002801cb01c0002490010000201e" NONE NONE NONE "ed6b\n" \
+    "8 D ok - beefed030302000401a702c000248ab5\n9 D abort - beefed030302000402a808c000002de1\n"
+#define NONE "00000000000000000000"
+#define GREETED "1 H ok + " WAKE "2 D ok + " ACK "3 D ok + " INIT
+
+static void judge(const char *trace, int64_t answer, uint32_t requests, uint32_t replies)
+{
+    uint32_t asked = 99, answered = 99;
+    expect(trace, hs_verify((const uint8_t *)trace, strlen(trace), &asked, &answered), answer);
+    expect(trace, asked, requests);
+    expect(trace, answered, replies);
+}
+
+static void lines(void)
+{
+    static const char one[] = "slp 3 3 2 id 1 padp ack c0 2 data 0\npackets 1\n";
+    static const char two[] = "slp 3 3 2 id 1 padp ack c0 2 data 0\nslp 3 3 2 id 1 padp ack c0 2 data 0\npackets 2\n";
+    uint8_t bytes[100];
+    size_t size = bytes_of("beefed030302000401a702c00002ce11beefbeefed030302000401a702c00002ce11", bytes);
+    in_rooms("hs_packets", hs_packets, bytes, 16, one, sizeof one - 1);
+    in_rooms("hs_packets of two", hs_packets, bytes, size, two, sizeof two - 1);
+    in_rooms("hs_packets of nothing", hs_packets, bytes, 0, "packets 0\n", 10);
+
+    judge("", 0, 0, 0);
+    judge(GREETED "4 H ok + " ACK ASKED ANSWERED, 0, 1, 1);
+    judge("1 H unplug - " WAKE "2 D ok + " ACK, 'A', 0, 0);
+    judge("1 H lost + " WAKE, 'C', 0, 0);
+    judge("1 H ok + " WAKE "2 H ok + " WAKE, 'D', 0, 0);
+    judge(GREETED "4 D ok + " READ, 'E', 0, 0);
+    judge("1 H lost - " WAKE "2 D ok + " ACK, 'G', 0, 0);
+    judge("1\n", -3, 0, 0);
+    judge("1 H ok + " WAKE "2 D ok + ", -4, 0, 0);
+}
+
+static void pictures(void)
+{
+    static const char trace[] = GREETED;
+    const uint8_t *bytes = (const uint8_t *)trace;
+    uint8_t none[1] = {0};
+    int64_t wanted = hs_picture(bytes, sizeof trace - 1, none, 0);
+    uint8_t *page = malloc(wanted > 0 ? (size_t)wanted : 1);
+    if (page == NULL || wanted <= 0) {
+        expect("hs_picture", wanted, 1);
+        return;
+    }
+    expect("hs_picture", hs_picture(bytes, sizeof trace - 1, page, (size_t)wanted), wanted);
+    expect("hs_picture begins", memcmp(page, "<!doctype html>", 15), 0);
+    in_rooms("hs_picture", hs_picture, bytes, sizeof trace - 1, (const char *)page, (size_t)wanted);
+    refused("hs_picture of a bad line", hs_picture, (const uint8_t *)"1\n", 2, -3);
+    free(page);
+}
+
+int main(void)
+{
+    /* The script that runs this says what VERSION has. */
+#ifdef WANTED_VERSION
+    expect("hs_version", hs_version(), WANTED_VERSION);
+#endif
+    files();
+    large();
+    lines();
+    pictures();
+    if (failed == 0)
+        printf("each: as wanted\n");
+    return failed;
+}

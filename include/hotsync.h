@@ -1,0 +1,111 @@
+/* hotsync.h: the readers of hotsync for C, over libhotsync.a or libhotsync.so.
+ *
+ * Pure functions over bytes. Any thread may call them; nothing that is passed is kept, and nothing is to be freed. No
+ * function reaches a file, a terminal or a clock; memory comes from malloc.
+ *
+ * A text or other bytes go into `room`, which has `n` bytes, as far as they fit, without a zero byte behind them. The
+ * answer is how long they are, so that a call with too little room (n may be 0) says how much is wanted. An answer below
+ * 0 says why there is nothing; the room is as it was then.
+ *
+ * What the caller owes: no pointer is null, also not where its length is 0; behind each pointer lie as many bytes as its
+ * length says; results that are passed by a pointer have some value before the call; no two pieces of memory overlap
+ * where one of them is written; no call from a signal handler; and a malloc that aligns blocks to 16 bytes. */
+#ifndef HOTSYNC_H
+#define HOTSYNC_H
+
+#include <stddef.h>
+#include <stdint.h>
+
+#ifdef __cplusplus
+extern "C" {
+#endif
+
+/* Answers below 0. */
+enum {
+    HS_MEMORY = -1, /* memory was refused */
+    HS_FORM = -2,   /* the bytes are not of the form that is read: no database's file, or too many for a trace */
+    HS_ABSENT = -3  /* hs_entry: the database has no such entry */
+};
+
+/* The version of the library: 0x00MMmmpp for MAJOR.MINOR.PATCH. */
+uint32_t hs_version(void);
+
+/* ---- the file of one database (PDB or PRC) ---- */
+
+/* The first rule that a file breaks: `kind` of hs_check, and what `place` is then. */
+enum {
+    HS_GOOD = 0,
+    HS_SHORT = 1,  /* too few bytes for the header and the entries: how many there are */
+    HS_NAME = 2,   /* the name is empty (0) or has no end (32) */
+    HS_CHAINED = 3, /* a second list of entries: 72 */
+    HS_OFFSET = 4, /* a block begins out of its place: its number */
+    HS_LARGE = 5   /* a block has more than 65,500 bytes: its number */
+};
+
+/* How many entries the database has: records or resources. HS_FORM says `kind` and `place`, which are 0 else. */
+int64_t hs_check(const uint8_t *file, size_t len, uint32_t *kind, uint64_t *place);
+
+/* The lines of `hotsync show`: the head, the blocks, and a line for each entry. */
+int64_t hs_show(const uint8_t *file, size_t len, uint8_t *room, size_t n);
+
+/* The length of a block that isn't there. */
+#define HS_NO_BLOCK UINT32_MAX
+
+/* What the header says. Dates are seconds since 1904-01-01T00:00:00, a type has its first character in its highest byte. */
+struct hs_head {
+    uint32_t attributes; /* bit 0x0001: the entries are resources */
+    uint32_t version;
+    uint32_t created;
+    uint32_t modified;
+    uint32_t backup;
+    uint32_t modnum;
+    uint32_t seed;
+    uint32_t type;
+    uint32_t creator;
+    uint32_t entries; /* how many there are */
+    uint32_t name;    /* the length of the name */
+    uint32_t app;     /* the length of the app block, or HS_NO_BLOCK */
+    uint32_t sort;    /* the length of the sort block, or HS_NO_BLOCK */
+};
+
+/* The head; in the room the name, the app block and the sort block, one behind the other. An answer below 0 leaves `head`
+   as it was. */
+int64_t hs_head(const uint8_t *file, size_t len, struct hs_head *head, uint8_t *room, size_t n);
+
+/* What stands in front of a record or a resource. */
+struct hs_entry {
+    uint32_t type;       /* of a resource; 0 for a record */
+    uint32_t id;         /* the id of a record, the number of a resource */
+    uint32_t attributes; /* of a record: 0x80 deleted, 0x40 dirty, 0x20 busy, 0x10 secret, and the category */
+    uint32_t size;       /* how many bytes it has */
+};
+
+/* The entry of this index, from 0 on; in the room its bytes. An answer below 0 leaves `entry` as it was. Each call reads
+   the whole file. */
+int64_t hs_entry(const uint8_t *file, size_t len, uint32_t index, struct hs_entry *entry, uint8_t *room, size_t n);
+
+/* The file of a database of these parts: `bytes` are the name, the app block, the sort block and the bytes of all entries,
+   one behind the other, as hs_head and hs_entry put them into a room; `head->entries` is not looked at. HS_FORM where there
+   is no database of them: a number or a name that has no place in a file, an entry of more than 65,500 bytes, or more or
+   fewer bytes than the parts have. */
+int64_t hs_build(const struct hs_head *head, const struct hs_entry *entries, size_t count, const uint8_t *bytes,
+                 size_t len, uint8_t *room, size_t n);
+
+/* ---- a serial line ---- */
+
+/* The lines of `hotsync packet`: one for each packet in the bytes, and their number. */
+int64_t hs_packets(const uint8_t *bytes, size_t len, uint8_t *room, size_t n);
+
+/* Judges the text of a trace: 0 for a proper one, whose whole requests and replies are counted then; 'A' to 'G' for the
+   first rule that it breaks; -2 - N where line N, from 1 on, is the first that is none of a trace; HS_FORM for more than
+   67,108,864 bytes. The counts are 0 in all other cases than the first. */
+int64_t hs_verify(const uint8_t *trace, size_t len, uint32_t *requests, uint32_t *replies);
+
+/* The page of `hotsync picture` for such a text. Answers below 0 are those of hs_verify. */
+int64_t hs_picture(const uint8_t *trace, size_t len, uint8_t *room, size_t n);
+
+#ifdef __cplusplus
+}
+#endif
+
+#endif
