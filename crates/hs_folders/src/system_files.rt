@@ -23,8 +23,7 @@ pub(crate) struct OpenedFolder {
 }
 
 // A folder is there if its names can be read. It may be reached by a symbolic link. It is locked,
-// and a temporary file that an earlier run left in it is removed. The answer is `WouldBlock` where
-// somebody else holds the lock.
+// and nothing in it changes. The answer is `WouldBlock` where somebody else holds the lock.
 pub(crate) fn open_folder<R: Files<File = File>>(
     rt: &R,
     alloc: Global,
@@ -32,9 +31,7 @@ pub(crate) fn open_folder<R: Files<File = File>>(
 ) -> io::Result<OpenedFolder> {
     let _names = fs::read_dir(&(rt, alloc), folder)?;
     let path = String::from_str(alloc, folder)?;
-    let temporary = Path::new(folder).join(alloc, TEMPORARY)?;
     let lock = locked(fs::open(rt, folder)?)?;
-    let _ = fs::remove_file(rt, temporary);
     Ok(OpenedFolder { path, lock })
 }
 
