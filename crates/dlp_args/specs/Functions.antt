@@ -5,12 +5,13 @@ use Rattle.dlp_args.specs.declared.function.Function.TheVariants.{ReadUserInfo, 
 use Rattle.dlp_args.specs.declared.function.Function.TheVariants.{WriteAppBlock, ReadSortBlock, WriteSortBlock, ReadNextModifiedRec, ReadRecord, WriteRecord}
 use Rattle.dlp_args.specs.declared.function.Function.TheVariants.{DeleteRecord, ReadResource, WriteResource, DeleteResource, CleanUpDatabase, ResetSyncFlags}
 use Rattle.dlp_args.specs.declared.function.Function.TheVariants.{AddSyncLogEntry, ReadOpenDbInfo, MoveCategory, OpenConduit, EndOfSync, ResetRecordIndex}
-use Rattle.dlp_args.specs.declared.function.Function.TheVariants.{ReadRecordIdList}
+use Rattle.dlp_args.specs.declared.function.Function.TheVariants.{ReadRecordIdList, ReadSysInfo}
 
 -- the byte of a function
 abbrev pub number_of : Function → ℕ
 number_of ReadUserInfo = 0x10
 number_of WriteUserInfo = 0x11
+number_of ReadSysInfo = 0x12
 number_of ReadDbList = 0x16
 number_of OpenDb = 0x17
 number_of CreateDb = 0x18
@@ -42,6 +43,7 @@ unfoldable pub function_of : ℕ → Option Function
 function_of n =
     if n == 0x10 then Some ReadUserInfo else
     if n == 0x11 then Some WriteUserInfo else
+    if n == 0x12 then Some ReadSysInfo else
     if n == 0x16 then Some ReadDbList else
     if n == 0x17 then Some OpenDb else
     if n == 0x18 then Some CreateDb else

@@ -2,11 +2,13 @@
 ghost use Rattle.std.specs.Prelude.{◌≡◌};
 ghost use Rattle.dlp_args.specs.Functions.{function_of, number_of};
 
-/// What a request asks for, one byte on the wire. ReadRecord and ReadResource have two forms of request each.
+/// What a request asks for, one byte on the wire. ReadSysInfo, ReadRecord and ReadResource have two
+/// forms of request each.
 #[derive(Clone, Copy)]
 pub enum Function {
     ReadUserInfo,
     WriteUserInfo,
+    ReadSysInfo,
     ReadDbList,
     OpenDb,
     CreateDb,
@@ -43,6 +45,7 @@ impl Function {
         match byte {
             0x10 => Some(Function::ReadUserInfo),
             0x11 => Some(Function::WriteUserInfo),
+            0x12 => Some(Function::ReadSysInfo),
             0x16 => Some(Function::ReadDbList),
             0x17 => Some(Function::OpenDb),
             0x18 => Some(Function::CreateDb),
@@ -79,6 +82,7 @@ impl Function {
         match self {
             Function::ReadUserInfo => 0x10,
             Function::WriteUserInfo => 0x11,
+            Function::ReadSysInfo => 0x12,
             Function::ReadDbList => 0x16,
             Function::OpenDb => 0x17,
             Function::CreateDb => 0x18,

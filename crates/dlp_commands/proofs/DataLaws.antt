@@ -11,6 +11,8 @@ use Rattle.dlp_commands.specs.RequestData.{data_by, data_of}
 data_by_short : (f : Form) (fields : Fields (kinds_of f)) (bytes : List ℕ) → AreFields (kinds_of f) fields bytes → length (data_by f fields) ≤ 65500
 data_by_short form.ReadUserInfo fields bytes text = lit≤ tt
 data_by_short form.WriteUserInfo fields bytes text = lit≤ tt
+data_by_short form.ReadSysInfo fields bytes text = lit≤ tt
+data_by_short form.ReadSysInfoFor fields bytes text = lit≤ tt
 data_by_short form.ReadDbList fields bytes text = lit≤ tt
 data_by_short form.OpenDb fields bytes text = lit≤ tt
 data_by_short form.CreateDb fields bytes text = lit≤ tt

@@ -19,7 +19,6 @@ use Rattle.dlp_args.specs.Fields.{FieldsFit}
 use Rattle.dlp_requests.specs.Forms as form
 use Rattle.dlp_requests.specs.Forms.{kinds_of}
 use Rattle.dlp_requests.specs.RequestValues.{RequestValue}
-use Rattle.dlp_replies.specs.ReplyValues as reply
 use Rattle.dlp_replies.specs.ReplyValues.{ReplyValue}
 use Rattle.palm_device.specs.Blocks.{empty_database}
 use Rattle.palm_device.specs.Bounds.{IsBounded, IsBoundedDatabase, IsBoundedHead, IsBoundedOpened, IsBoundedUser}

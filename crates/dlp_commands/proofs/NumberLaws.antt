@@ -15,7 +15,7 @@ use Rattle.dlp_args.proofs.FunctionLaws.{number_is}
 use Rattle.dlp_requests.specs.Faults.{or_size}
 use Rattle.dlp_requests.specs.Forms as form
 use Rattle.dlp_requests.specs.Forms.{Form, argument_of, kinds_of, number_of}
-use Rattle.dlp_requests.specs.RequestReading.{argument_bytes, by_id_21, known, request_at, request_by, request_in, request_of}
+use Rattle.dlp_requests.specs.RequestReading.{argument_bytes, by_id_21, known, request_at, request_by, request_in, request_of, with_or_bare, first_id}
 use Rattle.dlp_requests.specs.RequestTexts.{request_text}
 use Rattle.dlp_requests.specs.RequestValues.{RequestValue}
 use Rattle.dlp_requests.specs.declared.fault.RequestFault.{RequestFault}
@@ -49,11 +49,18 @@ by_two this other number (Some id) arguments value same also is = by (id == 0x21
     by true is = by_number this number arguments value same is
     by false is = by_number other number arguments value also is
 
+by_bare : (this bare : Form) (number : ℕ) (id : Option ℕ) (arguments : List Argument) (value : RequestValue) → number_of this ≡ number
+    → number_of bare ≡ number → with_or_bare this bare id arguments ≡ Ok value → number_of value.form ≡ number
+by_bare this bare number None arguments value same also is = by_number bare number arguments value also is
+by_bare this bare number (Some id) arguments value same also is = by_number this number arguments value same is
+
 of_number : (f : Function) (arguments : List Argument) (value : RequestValue) → request_of f arguments ≡ Ok value
     → number_of value.form ≡ functions.number_of f
 unfolding request_of
 of_number function.ReadUserInfo arguments value is = by_number form.ReadUserInfo _ arguments value refl is
 of_number function.WriteUserInfo arguments value is = by_number form.WriteUserInfo _ arguments value refl is
+of_number function.ReadSysInfo arguments value is =
+    by_bare form.ReadSysInfoFor form.ReadSysInfo _ (first_id arguments) arguments value refl refl is
 of_number function.ReadDbList arguments value is = by_number form.ReadDbList _ arguments value refl is
 of_number function.OpenDb arguments value is = by_number form.OpenDb _ arguments value refl is
 of_number function.CreateDb arguments value is = by_number form.CreateDb _ arguments value refl is
@@ -64,10 +71,12 @@ of_number function.WriteAppBlock arguments value is = by_number form.WriteAppBlo
 of_number function.ReadSortBlock arguments value is = by_number form.ReadSortBlock _ arguments value refl is
 of_number function.WriteSortBlock arguments value is = by_number form.WriteSortBlock _ arguments value refl is
 of_number function.ReadNextModifiedRec arguments value is = by_number form.ReadNextModifiedRec _ arguments value refl is
-of_number function.ReadRecord arguments value is = grind (arith, nat_tests, common_steps)
+of_number function.ReadRecord arguments value is =
+    by_two form.ReadRecordByIndex form.ReadRecordById _ (first_id arguments) arguments value refl refl is
 of_number function.WriteRecord arguments value is = by_number form.WriteRecord _ arguments value refl is
 of_number function.DeleteRecord arguments value is = by_number form.DeleteRecord _ arguments value refl is
-of_number function.ReadResource arguments value is = grind (arith, nat_tests, common_steps)
+of_number function.ReadResource arguments value is =
+    by_two form.ReadResourceByType form.ReadResourceByIndex _ (first_id arguments) arguments value refl refl is
 of_number function.WriteResource arguments value is = by_number form.WriteResource _ arguments value refl is
 of_number function.DeleteResource arguments value is = by_number form.DeleteResource _ arguments value refl is
 of_number function.CleanUpDatabase arguments value is = by_number form.CleanUpDatabase _ arguments value refl is

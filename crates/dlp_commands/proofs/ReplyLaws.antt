@@ -20,9 +20,8 @@ use Rattle.palm_device.specs.Soundness.{ids_of}
 use Rattle.palm_device.proofs.BoundLaws.{AllByRecursion-drop, AllByRecursion-get, AllByRecursion-take, slice_get-within}
 use Rattle.dlp_commands.specs.DatabaseFunctions.{listed, more_flag}
 use Rattle.dlp_commands.specs.Holding.{fits, on_records}
-use Rattle.dlp_commands.specs.Readings.{next_in, read_in, read_number, read_of, record_part, resource_part, whole, wire_attributes}
-use Rattle.dlp_commands.specs.UserFunctions.{user_reply}
-use Rattle.dlp_commands.specs.Writings as writing
+use Rattle.dlp_commands.specs.Readings.{next_in, read_in, read_number, read_of, record_part, resource_part, wire_attributes}
+use Rattle.dlp_commands.specs.UserFunctions.{system_reply, user_reply}
 use Rattle.dlp_commands.specs.Writings.{WritingValue, write_number, write_reply}
 use Rattle.dlp_commands.specs.declared.reading.Reading.{Reading}
 use Rattle.dlp_commands.specs.declared.reading.Reading.TheVariants as reading
@@ -69,6 +68,9 @@ user_is_reply user bounded = record {
   };
   function = refl;
 }
+
+pub system_is_reply : Replies 0x12 system_reply
+system_is_reply = reply_by (lit< tt, (lit< tt, (tt, (lit< tt, tt)))) tt (lit≤ tt) refl
 
 -- ---- parts
 

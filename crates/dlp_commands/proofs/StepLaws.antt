@@ -9,7 +9,6 @@ use Rattle.dlp_requests.specs.RequestReading.{request_at}
 use Rattle.dlp_requests.specs.RequestTexts.{request_text}
 use Rattle.dlp_requests.specs.RequestValues.{RequestValue}
 use Rattle.dlp_requests.specs.declared.fault.RequestFault.{RequestFault}
-use Rattle.dlp_requests.specs.declared.fault.RequestFault.TheVariants as fault
 use Rattle.dlp_requests.proofs.RequestLaws.{request_takes}
 use Rattle.dlp_replies.specs.Frames.{IsReply, reply_text}
 use Rattle.dlp_replies.specs.ReplyReading.{reply_at}

@@ -15,7 +15,6 @@ use Rattle.dlp_args.specs.Fields.{Fields}
 use Rattle.dlp_requests.specs.Forms as form
 use Rattle.dlp_requests.specs.Forms.{Form, kinds_of}
 use Rattle.dlp_requests.specs.RequestValues.{RequestValue}
-use Rattle.dlp_replies.specs.ReplyValues as reply
 use Rattle.palm_device.specs.Bounds.{IsBounded, IsBoundedHead, IsBoundedUser}
 use Rattle.palm_device.specs.Devices.{Device}
 use Rattle.palm_device.specs.Handles.{Base, base_at, just_opened}
@@ -26,7 +25,7 @@ use Rattle.dlp_commands.specs.DeviceSteps.{FormMayGive, tried, tried_by}
 use Rattle.dlp_commands.specs.UserFunctions.{name_or_empty, with_marks, write_user_info, name_length}
 use Rattle.dlp_commands.specs.Writings as writing
 use Rattle.dlp_commands.specs.declared.reading.Reading.TheVariants as reading
-use Rattle.dlp_commands.proofs.ReplyLaws.{list_is_reply, reply_by, user_is_reply}
+use Rattle.dlp_commands.proofs.ReplyLaws.{list_is_reply, reply_by, system_is_reply, user_is_reply}
 use Rattle.dlp_commands.proofs.TriedLaws.{Keeps, keeps_check, keeps_need, keeps_then}
 use Rattle.dlp_commands.proofs.DoneLaws.{Done, RequestFits, free_few, handle_count, handle_each, made_done, marked_done, next_done, reads_done, removed_done}
 use Rattle.dlp_commands.proofs.DoneLaws.{reset_done, same_done, writes_done}
@@ -125,6 +124,8 @@ form_done : (free : ℕ) (old : Device) (f : Form) (fields : Fields (kinds_of f)
 form_done free old form.ReadUserInfo none may = same_done (λ sound bounded. user_is_reply old.user bounded.user)
 form_done free old form.WriteUserInfo (user, (viewer, (pc, (date, (bits, (name_len, (name, end))))))) may =
     marks_done old user viewer pc date bits name_len name
+form_done free old form.ReadSysInfo none may = same_done (λ sound bounded. system_is_reply)
+form_done free old form.ReadSysInfoFor (major, (minor, end)) may = same_done (λ sound bounded. system_is_reply)
 form_done free old form.ReadDbList (flags, (card, (start, end))) may = list_done old flags card start
 form_done free old form.OpenDb (card, (mode, (name, end))) may = open_done old card mode name
 form_done free old form.CreateDb (creator, (kind, (card, (pad, (flags, (version, (name, end))))))) may =

@@ -9,13 +9,11 @@ use Rattle.pdb_values.specs.Databases.{DatabaseValue}
 use Rattle.pdb_values.specs.Heads.{holds_resources}
 use Rattle.pdb_values.specs.Records.{is_live}
 use Rattle.pdb_values.specs.declared.record.Record.{Record}
-use Rattle.dlp_replies.specs.ReplyValues as reply
 use Rattle.dlp_replies.specs.ReplyValues.{ReplyValue}
 use Rattle.palm_device.specs.Bounds.{IsBoundedDatabase, IsBoundedRecord}
 use Rattle.palm_device.specs.Heads.{has_bit}
 use Rattle.palm_device.specs.Records as records
 use Rattle.palm_device.specs.Records.{IsFree, clean, given_id, has_id, is_in, is_new, moved, place_of_id, with_records}
-use Rattle.palm_device.specs.Resources as resources
 use Rattle.palm_device.specs.Resources.{place_of_resource, has_room}
 use Rattle.palm_device.specs.Soundness.{AreIds, ids_of}
 use Rattle.palm_device.proofs.BoundLaws.{AllByRecursion-filter, AllByRecursion-map, AllByRecursion-without, IsBoundedDatabase-put_record}

@@ -22,6 +22,7 @@ use Rattle.dlp_commands.specs.declared.user.UserMarks.{UserMarks}
 -- the function's byte of what changes no database and not the user
 abbrev pub quiet_number : Quiet → ℕ
 quiet_number quiet.ReadUser = 0x10
+quiet_number quiet.ReadSystem = 0x12
 quiet_number (quiet.List flags card start) = 0x16
 quiet_number (quiet.Open card mode name) = 0x17
 quiet_number (quiet.Close handle) = 0x19
@@ -35,6 +36,7 @@ quiet_number quiet.EndOfSync = 0x2F
 -- what it does
 abbrev pub quiet_tried : Device → Quiet → Tried
 quiet_tried device quiet.ReadUser = users.read_user_info device
+quiet_tried device quiet.ReadSystem = users.read_sys_info device
 quiet_tried device (quiet.List flags card start) = databases.read_db_list device flags card start
 quiet_tried device (quiet.Open card mode name) = databases.open_db device card mode name.now
 quiet_tried device (quiet.Close handle) = databases.close_db device handle

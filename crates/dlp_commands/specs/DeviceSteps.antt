@@ -25,6 +25,8 @@ tried_by free device form.ReadUserInfo none = users.read_user_info device
 tried_by free device form.WriteUserInfo
     (user, (viewer, (pc, (date, (bits, (name_len, (name, end))))))) =
     users.write_user_info device user viewer pc date bits name_len name
+tried_by free device form.ReadSysInfo none = users.read_sys_info device
+tried_by free device form.ReadSysInfoFor (major, (minor, end)) = users.read_sys_info device
 tried_by free device form.ReadDbList (flags, (card, (start, end))) =
     databases.read_db_list device flags card start
 tried_by free device form.OpenDb (card, (mode, (name, end))) =

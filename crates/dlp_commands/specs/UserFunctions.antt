@@ -1,6 +1,6 @@
--- The functions on the user and on the whole session: the table, with the errors in its order
+-- The functions on the user, on the system and on the whole session: the table, with the errors in its order
 -- (pilot-link, `pi-dlp.h`).
-use Rattle.std.specs.Prelude.{ℕ, ◌+◌, List, [], length, Option, Some, None, Result, Ok, ◌==◌, if◌then◌else◌}
+use Rattle.std.specs.Prelude.{ℕ, ◌+◌, List, [], ◌∷◌, length, Option, Some, None, Result, Ok, ◌==◌, if◌then◌else◌}
 use Rattle.pdb_values.specs.PalmDates.{read_wire}
 use Rattle.pdb_values.specs.Users.{user_name_of}
 use Rattle.pdb_values.specs.declared.user.UserInfo.{UserInfo}
@@ -61,6 +61,14 @@ unfoldable pub write_user_info : Device → ℕ → ℕ → ℕ → List ℕ →
 write_user_info device user viewer pc date bits name_len name =
     marked user viewer pc date bits name_len name device.user
     >>= λ known. Ok (record device { user = known }, reply.WriteUserInfo)
+
+-- what every device says that it is: the ROM of version 1.0, the locale 0, and the product's id
+abbrev pub system_reply : ReplyValue
+system_reply = reply.ReadSysInfo 0x01003000 0 (0 ∷ 1 ∷ 0 ∷ 0 ∷ [])
+
+-- ReadSysInfo replies that
+abbrev pub read_sys_info : Device → Tried
+read_sys_info device = Ok (device, system_reply)
 
 -- AddSyncLogEntry keeps nothing
 abbrev pub add_sync_log_entry : Device → Tried

@@ -25,6 +25,8 @@ pub enum Command<'a> {
 #[derive(Clone, Copy)]
 pub enum Quiet<'a> {
     ReadUser,
+    /// What the handheld is.
+    ReadSystem,
     List { flags: u8, card: u8, start: u16 },
     Open { card: u8, mode: u8, name: &'a [u8] },
     Close { handle: u8 },
@@ -96,6 +98,8 @@ impl<'a> Command<'a> {
                 };
                 Command::Change(Change::WriteUser { marks })
             }
+            Request::ReadSysInfo => Command::Quiet(Quiet::ReadSystem),
+            Request::ReadSysInfoFor { major: _, minor: _ } => Command::Quiet(Quiet::ReadSystem),
             Request::ReadDbList { flags, card, start } => {
                 Command::Quiet(Quiet::List { flags, card, start })
             }

@@ -1,7 +1,7 @@
 //! What the requests of the Desktop Link Protocol do to a handheld, and the link over which they go.
 //!
 //! The table of the functions is in `specs`, each function once, with its errors in their order and then its effect: those on
-//! the user in `UserFunctions`, on databases and handles in `DatabaseFunctions`; what a handle leads to is in `Reached`, what is
+//! the user and the system in `UserFunctions`, on databases and handles in `DatabaseFunctions`; what a handle leads to is in `Reached`, what is
 //! read of its database in `Readings`, what is written into it in `Writings`. `DeviceSteps` makes of them what a message does to
 //! a device, `DeviceRuns` what several do. A `Link` is a device behind a line. The public source is pilot-link's `pi-dlp.h` and
 //! `dlp.c`.
@@ -21,6 +21,7 @@ mod record;
 mod refusal;
 mod reply;
 mod resource;
+mod system;
 mod user;
 mod writing;
 
@@ -41,5 +42,6 @@ pub use reading::Reading;
 pub use record::next_record;
 pub use refusal::Refusal;
 pub use reply::{put_done, put_fault, put_listed, put_refusal, put_reply};
+pub use system::system_reply;
 pub use user::{UserMarks, marked, user_reply};
 pub use writing::Writing;

@@ -64,6 +64,10 @@ reply_written (values.ReadUserInfo user viewer pc good last name password) is =
       g,
       l,
     ) refl) (rw (g, l, n) refl) is.fits)
+reply_written (values.ReadSysInfo rom locale product) is = inr (with_written _ _ _ _ _ (
+  rom,
+  (locale, (tt, (length product, (product, tt)))),
+) _ refl is.fields (eq-eqb (length product) (length product) refl) refl refl is.fits)
 reply_written (values.ReadDbList last flags entries) is =
     let rows = rows_written entries is.values in
     inr (with_written _ _ _ _ _ (

@@ -9,12 +9,12 @@ use Rattle.dlp_args.specs.Cells.{Kind, HasNoZero}
 use Rattle.dlp_args.specs.Fields.{Fields, fields_text, FieldsFit}
 use Rattle.dlp_replies.specs.EntryLists.{entries_text, IsEntry}
 use Rattle.dlp_replies.specs.IdLists.{ids_text, IsId}
-use Rattle.dlp_replies.specs.Layouts.{user_info, db_list, handle_alone, block, record_reply, id_alone, resource_reply, count_alone, id_list}
+use Rattle.dlp_replies.specs.Layouts.{user_info, sys_info, db_list, handle_alone, block, record_reply, id_alone, resource_reply, count_alone, id_list}
 use Rattle.dlp_replies.specs.ReplyReading.{reply_byte}
 use Rattle.dlp_replies.specs.ReplyValues.{ReplyValue, Refused, ReadUserInfo, ReadDbList, OpenDb, CreateDb, ReadAppBlock, ReadSortBlock, ReadNextModifiedRec}
 use Rattle.dlp_replies.specs.ReplyValues.{ReadRecord, WriteRecord, ReadResource, ReadOpenDbInfo, ReadRecordIdList, WriteUserInfo, CloseDb, DeleteDb}
 use Rattle.dlp_replies.specs.ReplyValues.{WriteAppBlock, WriteSortBlock, DeleteRecord, WriteResource, DeleteResource, CleanUpDatabase, ResetSyncFlags}
-use Rattle.dlp_replies.specs.ReplyValues.{ResetRecordIndex, AddSyncLogEntry, MoveCategory, OpenConduit, EndOfSync}
+use Rattle.dlp_replies.specs.ReplyValues.{ResetRecordIndex, AddSyncLogEntry, MoveCategory, OpenConduit, EndOfSync, ReadSysInfo}
 
 -- an error of a function; a function's reply without an argument; and one with an argument of this
 -- layout
@@ -35,6 +35,7 @@ frame (ReadUserInfo user viewer pc good last name password) = With 0x10 user_inf
   user,
   (viewer, (pc, (wire_date good, (wire_date last, ((name_text name, password), tt))))),
 )
+frame (ReadSysInfo rom locale product) = With 0x12 sys_info (rom, (locale, (tt, (length product, (product, tt)))))
 frame (ReadDbList last flags entries) = With 0x16 db_list (last, (flags, (length entries, (entries_text entries, tt))))
 frame (OpenDb handle) = With 0x17 handle_alone (handle, tt)
 frame (CreateDb handle) = With 0x18 handle_alone (handle, tt)

@@ -1,11 +1,15 @@
 -- The layouts of replies (pilot-link, `dlp.c`).
 use Rattle.std.specs.Prelude.{List, [], ◌∷◌}
-use Rattle.dlp_args.specs.Cells.{Kind, Byte, Half, Word, Run, Rest, Counted, Whole, Names}
+use Rattle.dlp_args.specs.Cells.{Kind, Byte, Half, Word, Pad, Run, Rest, Counted, Whole, Names}
 
 -- user, viewer and PC; the dates of the last good and the last session; name and password behind
 -- their lengths
 abbrev pub user_info : List Kind
 user_info = Word ∷ Word ∷ Word ∷ Run 8 ∷ Run 8 ∷ Names ∷ []
+
+-- the version of the ROM, the locale, and the product's id behind its length
+abbrev pub sys_info : List Kind
+sys_info = Word ∷ Word ∷ Pad ∷ Byte ∷ Whole ∷ []
 
 -- the index of the last entry, flags, a number of entries of one byte, and their texts
 abbrev pub db_list : List Kind

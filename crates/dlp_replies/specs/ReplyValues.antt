@@ -8,6 +8,7 @@ pub data ReplyValue : Type 0 where
   Refused : (function : ℕ) → (code : ℕ) → ReplyValue
   ReadUserInfo : (user : ℕ) → (viewer : ℕ) → (pc : ℕ) → (good : ℕ) → (last : ℕ) → (name : List ℕ)
       → (password : List ℕ) → ReplyValue
+  ReadSysInfo : (rom : ℕ) → (locale : ℕ) → (product : List ℕ) → ReplyValue
   ReadDbList : (last : ℕ) → (flags : ℕ) → (entries : List (ℕ × DbHead)) → ReplyValue
   OpenDb : (handle : ℕ) → ReplyValue
   CreateDb : (handle : ℕ) → ReplyValue

@@ -9,11 +9,11 @@ use Rattle.dlp_args.specs.Fields.{Fields}
 use Rattle.dlp_replies.specs.Checks.{Checks, user_sizes, user_checks, record_checks, id_checks, user_name, text_or_none, date_or_zero}
 use Rattle.dlp_replies.specs.EntryReading.{rows_of, rows_or_none, rows_checks, item_of}
 use Rattle.dlp_replies.specs.IdLists.{words, ids_checks}
-use Rattle.dlp_replies.specs.Layouts.{user_info, db_list, handle_alone, block, record_reply, id_alone, resource_reply, count_alone, id_list}
+use Rattle.dlp_replies.specs.Layouts.{user_info, sys_info, db_list, handle_alone, block, record_reply, id_alone, resource_reply, count_alone, id_list}
 use Rattle.dlp_replies.specs.ReplyValues.{ReplyValue, ReadUserInfo, ReadDbList, OpenDb, CreateDb, ReadAppBlock, ReadSortBlock, ReadNextModifiedRec, ReadRecord}
 use Rattle.dlp_replies.specs.ReplyValues.{WriteRecord, ReadResource, ReadOpenDbInfo, ReadRecordIdList, WriteUserInfo, CloseDb, DeleteDb, WriteAppBlock}
 use Rattle.dlp_replies.specs.ReplyValues.{WriteSortBlock, DeleteRecord, WriteResource, DeleteResource, CleanUpDatabase, ResetSyncFlags, ResetRecordIndex}
-use Rattle.dlp_replies.specs.ReplyValues.{AddSyncLogEntry, MoveCategory, OpenConduit, EndOfSync}
+use Rattle.dlp_replies.specs.ReplyValues.{AddSyncLogEntry, MoveCategory, OpenConduit, EndOfSync, ReadSysInfo}
 
 -- no function; no argument; or one argument: its layout, a test of the lengths in it, tests of its
 -- values, and what it says
@@ -39,6 +39,9 @@ resource_said (kind, (id, (index, (size, (bytes, end))))) = ReadResource kind id
 -- the shape of each function's reply
 abbrev pub shape : Function → Shape
 shape function.ReadUserInfo = One user_info user_sizes user_checks user_said
+shape function.ReadSysInfo =
+    One sys_info (λ v. v.1.1.1.0 == length v.1.1.1.1.0) (λ v. [])
+    (λ v. ReadSysInfo v.0 v.1.0 v.1.1.1.1.0)
 shape function.ReadDbList =
     One db_list (λ v. is_some (rows_of v)) (λ v. rows_checks 4 (rows_or_none (rows_of v)))
     (λ v. ReadDbList v.0 v.1.0 (map item_of (rows_or_none (rows_of v))))

@@ -9,13 +9,14 @@ use Rattle.dlp_replies.specs.declared.reply.Reply.TheVariants as lent
 use Rattle.dlp_replies.specs.ReplyValues.{ReplyValue, Refused, ReadUserInfo, ReadDbList, OpenDb, CreateDb, ReadAppBlock, ReadSortBlock, ReadNextModifiedRec}
 use Rattle.dlp_replies.specs.ReplyValues.{ReadRecord, WriteRecord, ReadResource, ReadOpenDbInfo, ReadRecordIdList, WriteUserInfo, CloseDb, DeleteDb}
 use Rattle.dlp_replies.specs.ReplyValues.{WriteAppBlock, WriteSortBlock, DeleteRecord, WriteResource, DeleteResource, CleanUpDatabase, ResetSyncFlags}
-use Rattle.dlp_replies.specs.ReplyValues.{ResetRecordIndex, AddSyncLogEntry, MoveCategory, OpenConduit, EndOfSync}
+use Rattle.dlp_replies.specs.ReplyValues.{ResetRecordIndex, AddSyncLogEntry, MoveCategory, OpenConduit, EndOfSync, ReadSysInfo}
 
 -- a lent reply is what it says, with the bytes that it lends
 abbrev pub reply_value : Reply → ReplyValue
 reply_value (lent.Refused function code) = Refused function code.0
 reply_value (lent.ReadUserInfo user viewer pc good last name password) =
     ReadUserInfo user viewer pc good last name.now password.now
+reply_value (lent.ReadSysInfo rom locale product) = ReadSysInfo rom locale product.now
 reply_value (lent.ReadDbList last flags entries) = ReadDbList last flags entries
 reply_value (lent.OpenDb handle) = OpenDb handle
 reply_value (lent.CreateDb handle) = CreateDb handle

@@ -29,6 +29,35 @@ fn put(out: &mut Message, number: u8, front: &[u8], some: &[u8], last: &[u8])
     append(out, last);
 }
 
+// What the handheld is.
+pub(crate) fn put_sys_info(out: &mut Message, rom: u32, locale: u32, product: &[u8])
+    requires short { length product.now ≤ 255 }
+    requires fits { length (frame_text (With 0x12 layouts.sys_info (
+      rom,
+      (locale, (tt, (length product.now, (product.now, tt)))),
+    ))) ≤ 65535 }
+    ensures { out.new ≡ frame_text (With 0x12 layouts.sys_info (
+      rom,
+      (locale, (tt, (length product.now, (product.now, tt)))),
+    )) }
+{
+    let rom = rom.to_be_bytes();
+    let locale = locale.to_be_bytes();
+    let front = [
+        rom[0],
+        rom[1],
+        rom[2],
+        rom[3],
+        locale[0],
+        locale[1],
+        locale[2],
+        locale[3],
+        0,
+        product.len() as u8,
+    ];
+    put(out, 0x12, &front, product, &[]);
+}
+
 // A handle.
 pub(crate) fn put_handle_alone(out: &mut Message, number: u8, handle: u8)
     requires number { number < 0x80 }

@@ -21,6 +21,7 @@ mod reader;
 mod record;
 mod reply;
 mod resource;
+mod system;
 mod user;
 mod user_frame;
 mod writer;

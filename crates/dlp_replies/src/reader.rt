@@ -13,7 +13,7 @@ use crate::argument::{no_arguments, without};
 use crate::error_code::ErrorCode;
 use crate::fault::ReplyFault;
 use crate::reply::Reply;
-use crate::{database, lists, record, resource, user};
+use crate::{database, lists, record, resource, system, user};
 use dlp_args::{Args, Function, read_args};
 
 /// Reads a reply to a function, which is all of the bytes. It takes no memory.
@@ -93,6 +93,7 @@ fn known_reply<'a>(function: Function, end: usize, args: &Args<'a>) -> Result<Re
 {
     match function {
         Function::ReadUserInfo => user::user_info(end, args),
+        Function::ReadSysInfo => system::sys_info(end, args),
         Function::ReadDbList => lists::db_list(end, args),
         Function::OpenDb => database::open_db(end, args),
         Function::CreateDb => database::create_db(end, args),

@@ -22,6 +22,13 @@ pub enum Reply<'a> {
         name: &'a [u8],
         password: &'a [u8],
     },
+    ReadSysInfo {
+        /// The version of the ROM.
+        rom: u32,
+        locale: u32,
+        /// The product's id, at most 255 bytes.
+        product: &'a [u8],
+    },
     ReadDbList {
         /// The index of the last entry.
         last: u16,

@@ -29,6 +29,11 @@ pub fn write_reply(reply: &Reply<'_>, out: &mut Message)
             name,
             password,
         } => put_user_info(out, *user, *viewer, *pc, *good, *last, name, password),
+        Reply::ReadSysInfo {
+            rom,
+            locale,
+            product,
+        } => put_sys_info(out, *rom, *locale, product),
         Reply::ReadDbList {
             last,
             flags,

@@ -24,7 +24,7 @@ use Rattle.dlp_requests.specs.declared.request.Request.{Request}
 use Rattle.dlp_requests.specs.Faults.{of_arguments, or_size}
 use Rattle.dlp_requests.specs.Forms as form
 use Rattle.dlp_requests.specs.Forms.{Form, number_of, argument_of, kinds_of}
-use Rattle.dlp_requests.specs.RequestReading.{argument_bytes, request_in, request_by, request_of, first_id, by_id_21, known, request_at}
+use Rattle.dlp_requests.specs.RequestReading.{argument_bytes, request_in, request_by, request_of, first_id, by_id_21, with_or_bare, known, request_at}
 use Rattle.dlp_requests.specs.RequestTexts.{HasArgument, RequestText, argument_text, request_text, AreShort, IsRequest}
 use Rattle.dlp_requests.specs.RequestValues.{RequestValue}
 use Rattle.dlp_requests.proofs.FitLaws.{fields_most, length-fields_text, length-argument_text}
@@ -48,6 +48,18 @@ each_is : (this : Form) → IsForm this
 unfolding function_of is_well request_of
 each_is form.ReadUserInfo = record { owner = function.ReadUserInfo; named = refl; asked = λ arguments first. refl; well = refl }
 each_is form.WriteUserInfo = record { owner = function.WriteUserInfo; named = refl; asked = λ arguments first. refl; well = refl }
+each_is form.ReadSysInfo = record {
+  owner = function.ReadSysInfo;
+  named = refl;
+  asked = λ arguments first. ap (λ id. with_or_bare form.ReadSysInfoFor form.ReadSysInfo id arguments) first;
+  well = refl;
+}
+each_is form.ReadSysInfoFor = record {
+  owner = function.ReadSysInfo;
+  named = refl;
+  asked = λ arguments first. ap (λ id. with_or_bare form.ReadSysInfoFor form.ReadSysInfo id arguments) first;
+  well = refl;
+}
 each_is form.ReadDbList = record { owner = function.ReadDbList; named = refl; asked = λ arguments first. refl; well = refl }
 each_is form.OpenDb = record { owner = function.OpenDb; named = refl; asked = λ arguments first. refl; well = refl }
 each_is form.CreateDb = record { owner = function.CreateDb; named = refl; asked = λ arguments first. refl; well = refl }
@@ -173,11 +185,18 @@ two_take this other (Some id) number arguments bytes value one two fits texts e 
       | inr second ↦ subst (λ (n : ℕ). RequestText value (n ∷ length arguments ∷ bytes)) two (request_by_takes other arguments bytes value fits texts second.1)
     ]
 
+with_or_bare_takes : (id : Option ℕ) (arguments : List Argument) (bytes : List ℕ) (value : RequestValue) → IsBytes bytes → ArgTexts arguments bytes
+    → with_or_bare form.ReadSysInfoFor form.ReadSysInfo id arguments ≡ Ok value → RequestText value (0x12 ∷ length arguments ∷ bytes)
+with_or_bare_takes None arguments bytes value fits texts e = request_by_takes form.ReadSysInfo arguments bytes value fits texts e
+with_or_bare_takes (Some id) arguments bytes value fits texts e = request_by_takes form.ReadSysInfoFor arguments bytes value fits texts e
+
 request_of_takes : (f : Function) (arguments : List Argument) (bytes : List ℕ) (value : RequestValue) → IsBytes bytes → ArgTexts arguments bytes
     → request_of f arguments ≡ Ok value → RequestText value (functions.number_of f ∷ length arguments ∷ bytes)
 unfolding request_of
 request_of_takes function.ReadUserInfo arguments bytes value fits texts e = request_by_takes form.ReadUserInfo arguments bytes value fits texts e
 request_of_takes function.WriteUserInfo arguments bytes value fits texts e = request_by_takes form.WriteUserInfo arguments bytes value fits texts e
+request_of_takes function.ReadSysInfo arguments bytes value fits texts e =
+    with_or_bare_takes (first_id arguments) arguments bytes value fits texts e
 request_of_takes function.ReadDbList arguments bytes value fits texts e = request_by_takes form.ReadDbList arguments bytes value fits texts e
 request_of_takes function.OpenDb arguments bytes value fits texts e = request_by_takes form.OpenDb arguments bytes value fits texts e
 request_of_takes function.CreateDb arguments bytes value fits texts e = request_by_takes form.CreateDb arguments bytes value fits texts e

@@ -3,10 +3,12 @@
 use Rattle.std.specs.Prelude.{ℕ, List, [], ◌∷◌, Option, Some, None}
 use Rattle.dlp_args.specs.Cells.{Kind, Byte, Half, Word, Pad, Run, Text, MaybeText, Rest, Counted}
 
--- one for each function; ReadRecord and ReadResource have two
+-- one for each function; ReadSysInfo, ReadRecord and ReadResource have two
 pub data Form : Type 0 where
   ReadUserInfo : Form
   WriteUserInfo : Form
+  ReadSysInfo : Form
+  ReadSysInfoFor : Form
   ReadDbList : Form
   OpenDb : Form
   CreateDb : Form
@@ -51,6 +53,8 @@ one number id kinds = record { number = number; argument = Some id; kinds = kind
 abbrev pub layout : Form → Layout
 layout ReadUserInfo = bare 0x10
 layout WriteUserInfo = one 0x11 0x20 (Word ∷ Word ∷ Word ∷ Run 8 ∷ Byte ∷ Byte ∷ MaybeText 40 ∷ [])
+layout ReadSysInfo = bare 0x12
+layout ReadSysInfoFor = one 0x12 0x20 (Half ∷ Half ∷ [])
 layout ReadDbList = one 0x16 0x20 (Byte ∷ Byte ∷ Half ∷ [])
 layout OpenDb = one 0x17 0x20 (Byte ∷ Byte ∷ Text ∷ [])
 layout CreateDb = one 0x18 0x20 (Run 4 ∷ Run 4 ∷ Byte ∷ Pad ∷ Half ∷ Half ∷ Text ∷ [])

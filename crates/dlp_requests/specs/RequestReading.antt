@@ -44,10 +44,17 @@ by_id_21 this other None arguments = request_by other arguments
 by_id_21 this other (Some id) arguments =
     if id == 0x21 then request_by this arguments else request_by other arguments
 
+-- of two forms the one that has an argument where there is one, or the bare one
+abbrev pub with_or_bare : Form → Form → Option ℕ → List Argument → Result RequestValue RequestFault
+with_or_bare this bare None arguments = request_by bare arguments
+with_or_bare this bare (Some id) arguments = request_by this arguments
+
 -- the request of a function by its arguments
 unfoldable pub request_of : Function → List Argument → Result RequestValue RequestFault
 request_of function.ReadUserInfo arguments = request_by form.ReadUserInfo arguments
 request_of function.WriteUserInfo arguments = request_by form.WriteUserInfo arguments
+request_of function.ReadSysInfo arguments =
+    with_or_bare form.ReadSysInfoFor form.ReadSysInfo (first_id arguments) arguments
 request_of function.ReadDbList arguments = request_by form.ReadDbList arguments
 request_of function.OpenDb arguments = request_by form.OpenDb arguments
 request_of function.CreateDb arguments = request_by form.CreateDb arguments
@@ -103,6 +110,7 @@ request_with function.MoveCategory bytes = request_in form.MoveCategory bytes
 request_with function.EndOfSync bytes = request_in form.EndOfSync bytes
 request_with function.ReadRecordIdList bytes = request_in form.ReadRecordIdList bytes
 request_with function.ReadUserInfo bytes = None
+request_with function.ReadSysInfo bytes = None
 request_with function.OpenConduit bytes = None
 request_with function.ReadRecord bytes = None
 request_with function.ReadResource bytes = None

@@ -18,6 +18,11 @@ request_value (lent.WriteUserInfo user viewer pc date bits name_len name) = reco
     (viewer, (pc, (date, (bits, (name_len, (option_map (λ name. name.now) name, tt)))))),
   );
 }
+request_value lent.ReadSysInfo = record { form = form.ReadSysInfo; fields = tt }
+request_value (lent.ReadSysInfoFor major minor) = record {
+  form = form.ReadSysInfoFor;
+  fields = (major, (minor, tt));
+}
 request_value (lent.ReadDbList flags card start) = record {
   form = form.ReadDbList;
   fields = (flags, (card, (start, tt)));

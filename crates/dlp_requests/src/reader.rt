@@ -63,6 +63,7 @@ fn request_of<'a>(function: Function, args: &Args<'a>) -> Result<Request<'a>, Re
             none(args)?;
             Ok(Request::OpenConduit)
         }
+        Function::ReadSysInfo => read_sys_info(args),
         Function::ReadRecord => read_record(args),
         Function::ReadResource => read_resource(args),
         _ => or_size(request_with(function, only(args, 0x20)?)),
@@ -99,10 +100,23 @@ fn request_with(function: Function, content: &[u8]) -> Option<Request<'_>>
         Function::EndOfSync => session::end_of_sync(content),
         Function::ReadRecordIdList => record::read_record_id_list(content),
         Function::ReadUserInfo
+        | Function::ReadSysInfo
         | Function::OpenConduit
         | Function::ReadRecord
         | Function::ReadResource => None,
     }
+}
+
+// ReadSysInfo with the desktop's version of the protocol (argument 0x20), or without an argument.
+fn read_sys_info<'a>(args: &Args<'a>) -> Result<Request<'a>, RequestFault>
+    ensures { Gives request_value result
+        (reading.with_or_bare form.ReadSysInfoFor form.ReadSysInfo
+        (reading.first_id args.now) args.now) }
+{
+    if args.iter().next().is_none() {
+        return Ok(Request::ReadSysInfo);
+    }
+    or_size(session::read_sys_info_for(only(args, 0x20)?))
 }
 
 // ReadRecord by id (argument 0x20) or by index (0x21).

@@ -17,6 +17,13 @@ pub enum Request<'a> {
         name_len: u8,
         name: Option<&'a [u8]>,
     },
+    /// What the handheld is.
+    ReadSysInfo,
+    /// The same, with the protocol's version that the desktop speaks.
+    ReadSysInfoFor {
+        major: u16,
+        minor: u16,
+    },
     /// The databases from an index on.
     ReadDbList {
         flags: u8,

@@ -62,6 +62,27 @@ pub(crate) fn put_write_user_info(
     }
 }
 
+pub(crate) fn read_sys_info_for(content: &[u8]) -> Option<Request<'_>>
+    ensures { Reads form.ReadSysInfoFor content.now result }
+{
+    let [j1, j0, n1, n0] = content else {
+        return None;
+    };
+    Some(Request::ReadSysInfoFor {
+        major: u16::from_be_bytes([*j1, *j0]),
+        minor: u16::from_be_bytes([*n1, *n0]),
+    })
+}
+
+pub(crate) fn put_read_sys_info_for(out: &mut Message, major: u16, minor: u16)
+    requires { IsRequest (request_value (Request.ReadSysInfoFor major minor)) }
+    ensures { out.new ≡ request_text (request_value (Request.ReadSysInfoFor major minor)) }
+{
+    let major = major.to_be_bytes();
+    let minor = minor.to_be_bytes();
+    put(out, 0x12, 0x20, &[major[0], major[1]], &minor, &[]);
+}
+
 pub(crate) fn add_sync_log_entry(content: &[u8]) -> Option<Request<'_>>
     ensures { Reads form.AddSyncLogEntry content.now result }
 {

@@ -23,6 +23,10 @@ pub fn write_request(request: &Request<'_>, out: &mut Message)
             name_len,
             name,
         } => session::put_write_user_info(out, user, viewer, pc, date, bits, name_len, name),
+        Request::ReadSysInfo => put_read_sys_info(out),
+        Request::ReadSysInfoFor { major, minor } => session::put_read_sys_info_for(
+            out, major, minor,
+        ),
         Request::ReadDbList { flags, card, start } => database::put_read_db_list(
             out, flags, card, start,
         ),
@@ -127,6 +131,14 @@ fn put_read_user_info(out: &mut Message)
 {
     out.clear();
     append(out, &[0x10, 0]);
+}
+
+#[tactic(auto, unfolding(crate::specs::RequestTexts::request_text))]
+fn put_read_sys_info(out: &mut Message)
+    ensures { out.new ≡ request_text (request_value Request.ReadSysInfo) }
+{
+    out.clear();
+    append(out, &[0x12, 0]);
 }
 
 #[tactic(auto, unfolding(crate::specs::RequestTexts::request_text))]

@@ -14,7 +14,7 @@ ghost use Rattle.handheld_server.specs.Servers.{store_of};
 use crate::server::Server;
 use dlp_commands::{
     Holds, Message, Quiet, Reading, Refusal, Reply, listed, more_flag, named, next_record,
-    put_done, put_listed, put_refusal, user_reply, write_reply,
+    put_done, put_listed, put_refusal, system_reply, user_reply, write_reply,
 };
 use hs_folders::Folder;
 use palm_device::{Opened, has_bit};
@@ -35,6 +35,7 @@ impl<F: Folder> Server<F> {
     {
         match *asked {
             Quiet::ReadUser => write_reply(&user_reply(self.store.user()), out),
+            Quiet::ReadSystem => write_reply(&system_reply(), out),
             Quiet::List { flags, card, start } => self.list(flags, card, start, out),
             Quiet::Open { card, mode, name } => {
                 let answer = self.open(card, mode, name);

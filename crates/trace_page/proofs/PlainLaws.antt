@@ -9,7 +9,7 @@ use Rattle.dlp_args.specs.declared.function.Function.TheVariants.{ReadUserInfo, 
 use Rattle.dlp_args.specs.declared.function.Function.TheVariants.{WriteAppBlock, ReadSortBlock, WriteSortBlock, ReadNextModifiedRec, ReadRecord, WriteRecord}
 use Rattle.dlp_args.specs.declared.function.Function.TheVariants.{DeleteRecord, ReadResource, WriteResource, DeleteResource, CleanUpDatabase, ResetSyncFlags}
 use Rattle.dlp_args.specs.declared.function.Function.TheVariants.{AddSyncLogEntry, ReadOpenDbInfo, MoveCategory, OpenConduit, EndOfSync, ResetRecordIndex}
-use Rattle.dlp_args.specs.declared.function.Function.TheVariants.{ReadRecordIdList}
+use Rattle.dlp_args.specs.declared.function.Function.TheVariants.{ReadRecordIdList, ReadSysInfo}
 use Rattle.hex.specs.Hex.{IsBytes, encode_lower, encode_with, lower_digits}
 use Rattle.padp_link.specs.declared.fragment.PadpKind.{PadpKind}
 use Rattle.padp_link.specs.declared.fragment.PadpKind.TheVariants.{Data, Ack, Tickle, Abort}
@@ -112,6 +112,7 @@ line-plain number frame traced =
 function-plain : (function : Function) → all_plain (function_word function) ≡ true
 function-plain ReadUserInfo = refl
 function-plain WriteUserInfo = refl
+function-plain ReadSysInfo = refl
 function-plain ReadDbList = refl
 function-plain OpenDb = refl
 function-plain CreateDb = refl

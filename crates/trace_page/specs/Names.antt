@@ -8,7 +8,7 @@ use Rattle.dlp_args.specs.declared.function.Function.TheVariants.{ReadUserInfo, 
 use Rattle.dlp_args.specs.declared.function.Function.TheVariants.{WriteAppBlock, ReadSortBlock, WriteSortBlock, ReadNextModifiedRec, ReadRecord, WriteRecord}
 use Rattle.dlp_args.specs.declared.function.Function.TheVariants.{DeleteRecord, ReadResource, WriteResource, DeleteResource, CleanUpDatabase, ResetSyncFlags}
 use Rattle.dlp_args.specs.declared.function.Function.TheVariants.{AddSyncLogEntry, ReadOpenDbInfo, MoveCategory, OpenConduit, EndOfSync, ResetRecordIndex}
-use Rattle.dlp_args.specs.declared.function.Function.TheVariants.{ReadRecordIdList}
+use Rattle.dlp_args.specs.declared.function.Function.TheVariants.{ReadRecordIdList, ReadSysInfo}
 use Rattle.padp_link.specs.declared.fragment.PadpKind.{PadpKind}
 use Rattle.padp_link.specs.declared.fragment.PadpKind.TheVariants.{Data, Ack, Tickle, Abort}
 use Rattle.trace_text.specs.declared.frame.End.{End}
@@ -20,6 +20,7 @@ use Rattle.trace_page.specs.declared.bearing.Bearing.{Bearing}
 abbrev pub function_word : Function → List ℕ
 function_word ReadUserInfo = codes "ReadUserInfo"
 function_word WriteUserInfo = codes "WriteUserInfo"
+function_word ReadSysInfo = codes "ReadSysInfo"
 function_word ReadDbList = codes "ReadDBList"
 function_word OpenDb = codes "OpenDB"
 function_word CreateDb = codes "CreateDB"

@@ -144,6 +144,7 @@ fn function_word(function: Function) -> &'static str
     match function {
         Function::ReadUserInfo => "ReadUserInfo",
         Function::WriteUserInfo => "WriteUserInfo",
+        Function::ReadSysInfo => "ReadSysInfo",
         Function::ReadDbList => "ReadDBList",
         Function::OpenDb => "OpenDB",
         Function::CreateDb => "CreateDB",

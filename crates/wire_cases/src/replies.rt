@@ -31,6 +31,16 @@ fn said(alloc: Global, reply: &Reply<'_>) -> Result<String, AllocError> {
         Reply::Refused { function, code } => {
             say_numbers(alloc, "Refused", &[*function as u64, code.0 as u64])
         }
+        Reply::ReadSysInfo {
+            rom,
+            locale,
+            product,
+        } => say(
+            alloc,
+            "ReadSysInfo",
+            &[*rom as u64, *locale as u64],
+            product,
+        ),
         Reply::OpenDb { handle } => say_numbers(alloc, "OpenDb", &[*handle as u64]),
         Reply::CreateDb { handle } => say_numbers(alloc, "CreateDb", &[*handle as u64]),
         Reply::ReadAppBlock { bytes } => say(alloc, "ReadAppBlock", &[], bytes),

@@ -70,6 +70,10 @@ fn words(alloc: Global, request: &Request<'_>) -> Result<String, AllocError> {
             ];
             say(alloc, "WriteUserInfo", &numbers, name.unwrap_or(&[]))
         }
+        Request::ReadSysInfo => say_numbers(alloc, "ReadSysInfo", &[]),
+        Request::ReadSysInfoFor { major, minor } => {
+            say_numbers(alloc, "ReadSysInfoFor", &[major as u64, minor as u64])
+        }
         Request::ReadDbList { flags, card, start } => {
             let numbers = [flags as u64, card as u64, start as u64];
             say_numbers(alloc, "ReadDbList", &numbers)

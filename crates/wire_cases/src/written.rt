@@ -39,6 +39,11 @@ fn reply_of(name: &str) -> Option<Reply<'static>>
             name: b"A",
             password: b"pw",
         }),
+        "ReadSysInfo" => Some(Reply::ReadSysInfo {
+            rom: 0x0100_3000,
+            locale: 1,
+            product: b"id",
+        }),
         "OpenDb" => Some(Reply::OpenDb { handle: 1 }),
         "CreateDb" => Some(Reply::CreateDb { handle: 1 }),
         "ReadAppBlock" => Some(Reply::ReadAppBlock { bytes: b"hi" }),

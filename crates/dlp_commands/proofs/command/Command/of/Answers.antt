@@ -10,6 +10,14 @@ pub returns-in-WriteUserInfo-clause-same : goal.returns-in-WriteUserInfo-clause-
 unfolding tried
 returns-in-WriteUserInfo-clause-same c free device = rw c.in-WriteUserInfo.is refl
 
+pub returns-in-ReadSysInfo-clause-same : goal.returns-in-ReadSysInfo-clause-same
+unfolding tried
+returns-in-ReadSysInfo-clause-same c free device = rw c.in-ReadSysInfo.is refl
+
+pub returns-in-ReadSysInfoFor-clause-same : goal.returns-in-ReadSysInfoFor-clause-same
+unfolding tried
+returns-in-ReadSysInfoFor-clause-same c free device = rw c.in-ReadSysInfoFor.is refl
+
 pub returns-in-ReadDbList-clause-same : goal.returns-in-ReadDbList-clause-same
 unfolding tried
 returns-in-ReadDbList-clause-same c free device = rw c.in-ReadDbList.is refl
