@@ -8,6 +8,19 @@
 //! each once, and lends the whole message. `arrived` judges each packet that comes, for both ends. What pieces a
 //! message has is in `specs/Pieces.antt`.
 //!
+//! An end that says a message asks for the piece that waits, and tells of each acknowledgement; one that
+//! hears a message tells of each fragment, and asks for the whole (`wire_cases` has these lines):
+//!
+//! ```text
+//! ends.sender.start(byte_in(id), short_in(length));
+//! match sender.current() {
+//! let is_taken = ends.sender.on_ack(key);
+//!
+//! ends.receiver.expect(byte_in(id));
+//! let taken = receiver.on_data(id, &fragment);
+//! match receiver.whole() {
+//! ```
+//!
 //! Only `Receiver::new` takes memory.
 #![tactic(auto)]
 
