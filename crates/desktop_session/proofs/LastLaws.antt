@@ -17,7 +17,7 @@ use Rattle.desktop_session.specs.declared.fault.SessionFault.TheVariants as sess
 use Rattle.desktop_session.specs.Acts.{Act, acted, text}
 use Rattle.desktop_session.specs.Answers.{answer_by, no_more, or_false, or_none, said_in}
 use Rattle.desktop_session.specs.Faults.{fault_of}
-use Rattle.desktop_session.specs.Lasts.{IsBroken, IsByLastReply, IsRefusal, LastSays}
+use Rattle.desktop_session.specs.Lasts.{IsBroken, IsByErrorReply, IsByLastReply, IsErrorReply, IsRefusal, LastSays}
 use Rattle.desktop_session.specs.Lists.{HasCause, IsNotMissing, IsToldOf}
 use Rattle.desktop_session.specs.Orders.{may_find_none}
 use Rattle.desktop_session.proofs.ActLaws.{read_back}
@@ -57,6 +57,15 @@ module _ {L : Type 0} {talk : L → Option Talk} {since : L → L → Type 0} {f
   last_by (session.BadReply function broken) asked is own other =
       asked_last (IsBroken function broken) asked is.0 (record { own = own; breaks = is.1 })
   last_by other asked is own found = tt
+
+  -- and without the last
+  pub error_by : (cause : SessionFault) → Asked talk since fault downs one old new → HasCause (fault new.link) (reply_at (number_of one) new.reply) cause
+      → IsToldOf (number_of one) cause → IsByErrorReply (talk new.link) cause
+  error_by (session.Refused function code) asked is own =
+      asked_last (IsErrorReply function code.0) asked is.0 (record { own = own; refuses = is.1 })
+  error_by (session.BadReply function broken) asked is own =
+      asked_last (IsBroken function broken) asked is.0 (record { own = own; breaks = is.1 })
+  error_by other asked is own = tt
 
 -- a link's fault is none of a reply
 pub last_of_link : (talk : Option Talk) (now : LinkFault) → IsByLastReply talk (fault_of now)
@@ -225,6 +234,12 @@ module _ {L : Type 0} {talk : L → Option Talk} {since : L → L → Type 0} {f
   last_refused_by take cause other asked is =
       last_by cause asked (cause_answered (fault new.link) (number_of one) take (reply_at (number_of one) new.reply) cause is)
       (told_answered (fault new.link) (number_of one) take (reply_at (number_of one) new.reply) cause is) other
+
+  pub error_refused : {A : Type 0} (take : ReplyValue → A) (cause : SessionFault) → Asked talk since fault downs one old new
+      → Err cause ≡ answer_by (fault new.link) (said_in (number_of one) take (reply_at (number_of one) new.reply)) → IsByErrorReply (talk new.link) cause
+  error_refused take cause asked is =
+      error_by cause asked (cause_answered (fault new.link) (number_of one) take (reply_at (number_of one) new.reply) cause is)
+      (told_answered (fault new.link) (number_of one) take (reply_at (number_of one) new.reply) cause is)
 
   pub last_refused : {A : Type 0} (take : ReplyValue → A) (cause : SessionFault) → may_find_none one.asks.form ≡ false
       → Asked talk since fault downs one old new

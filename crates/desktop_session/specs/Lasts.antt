@@ -32,6 +32,12 @@ pub record IsRefusal (function code : ℕ) (asked : RequestValue)
   pub refuses : Refuses code read
   pub other : may_find_none asked.form ≡ true → (code == 5) ≡ false
 
+-- the same, whatever the error
+pub record IsErrorReply (function code : ℕ) (asked : RequestValue)
+    (read : Result ReplyValue ReplyFault) : Type 0 where
+  pub own : function ≡ function_number asked
+  pub refuses : Refuses code read
+
 -- the reply to a request of this function breaks this rule first
 pub record IsBroken (function : ℕ) (broken : ReplyFault) (asked : RequestValue)
     (read : Result ReplyValue ReplyFault) : Type 0 where
@@ -47,3 +53,12 @@ IsByLastReply talk (session.Refused function code) =
 IsByLastReply talk (session.BadReply function broken) =
     IfSome talk (LastSays (IsBroken function broken))
 IsByLastReply talk other = Unit {0}
+
+-- The same of what no call of a session makes, a reading without an answer of its own for error 5
+-- where the request may find none: the last reply refuses with this error, which may be 5.
+abbrev pub IsByErrorReply : Option Talk → SessionFault → Type 0
+IsByErrorReply talk (session.Refused function code) =
+    IfSome talk (LastSays (IsErrorReply function code.0))
+IsByErrorReply talk (session.BadReply function broken) =
+    IfSome talk (LastSays (IsBroken function broken))
+IsByErrorReply talk other = Unit {0}

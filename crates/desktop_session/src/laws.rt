@@ -16,7 +16,7 @@ ghost use Rattle.dlp_commands.specs.Holding.{on_records, on_resources};
 ghost use Rattle.dlp_commands.specs.Talks.{Talk};
 ghost use Rattle.desktop_session.specs.Acts.{Act, acted};
 ghost use Rattle.desktop_session.specs.Answers.{answer_by, no_more, or_false, or_none, record_of, resource_of, said_in};
-ghost use Rattle.desktop_session.specs.Lasts.{IsByLastReply};
+ghost use Rattle.desktop_session.specs.Lasts.{IsByErrorReply, IsByLastReply};
 ghost use Rattle.desktop_session.specs.Lent.{record_lent, resource_lent};
 ghost use Rattle.desktop_session.specs.Lists.{IsNotMissing, has_more, heads_listed, id_parts, ids_listed, list_reply};
 ghost use Rattle.desktop_session.specs.Opens.{IsOpenAs, LeavesOpen};
@@ -54,7 +54,7 @@ pub fn acts_are_steps()
 /// Over any link a call that stops for a refusal, or for a reply that can't be read, stops for what the
 /// last reply of the link's talk says, read as one to the function of its request, and tells that
 /// function: whatever the call takes from the reply, and also where error 5 has an answer of its own.
-/// A call that has one never stops for it.
+/// A call that has one never stops for it; where there were none, that reply may refuse with any error.
 pub fn refusals_are_the_last_reply<L: Link, A>()
     ensures said { (one : Act) (old new : SessionValue L) (take : ReplyValue → A)
         (cause : SessionFault) → (may_find_none one.asks.form ≡ true → IsNotMissing cause)
@@ -62,6 +62,11 @@ pub fn refusals_are_the_last_reply<L: Link, A>()
         → Err cause ≡ answer_by (L.fault new.link)
         (said_in (number_of one) take (reply_at (number_of one) new.reply))
         → IsByLastReply (L.talk new.link) cause }
+    ensures refused { (one : Act) (old new : SessionValue L) (take : ReplyValue → A)
+        (cause : SessionFault) → Asked L.talk L.since L.fault L.downs one old new
+        → Err cause ≡ answer_by (L.fault new.link)
+        (said_in (number_of one) take (reply_at (number_of one) new.reply))
+        → IsByErrorReply (L.talk new.link) cause }
     ensures found { (one : Act) (old new : SessionValue L) (take : ReplyValue → A)
         (cause : SessionFault) → Asked L.talk L.since L.fault L.downs one old new
         → Err cause ≡ answer_by (L.fault new.link)
