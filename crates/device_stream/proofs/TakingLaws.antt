@@ -1,7 +1,8 @@
 -- What one packet does to a talk.
 use Rattle.std.proofs.Common.{◌≡◌, ◌≤◌, ℕ, true, false, List, [], ◌∷◌, ◌++◌, length, Option, None, Some, sym, ap, subst, ◌∙◌, arith}
-use Rattle.std.proofs.Common.{◌⊎◌, inl, inr}
-use Rattle.std.proofs.lemmas.Bool.{both_ways, cond-false, cond-true}
+use Rattle.std.proofs.Common.{◌⊎◌, inl, inr, refl}
+use Rattle.std.specs.Prelude.{Result, Ok, Err, OnOk, OnErr}
+use Rattle.std.proofs.lemmas.Bool.{both_ways, cases_Bool, cond-false, cond-true}
 use Rattle.std.proofs.lemmas.Grind.{flat_map-append}
 use Rattle.std.proofs.lemmas.List.{append-nil}
 use Rattle.hs_folders.specs.FileMaps.{FileMap}
@@ -12,16 +13,18 @@ use Rattle.dlp_commands.specs.DeviceSteps.{DeviceStep, served}
 use Rattle.handheld_server.specs.Servers.{store_of}
 use Rattle.line_world.specs.Folders.{ServedSince}
 use Rattle.line_world.specs.SinceLaws.{served-itself, served-none, served-once}
-use Rattle.padp_end.specs.Ends.{EndValue, end_takes}
+use Rattle.padp_end.specs.Arrivals.{Ack, Arrival, Data, Drop, Stop, Tickle, arrival_of}
+use Rattle.padp_end.specs.Ends.{Answer, EndValue, arrival_taken, end_takes, goes_on_with, is_key, silent, with_next}
 use Rattle.padp_end.proofs.SayingLaws.{acknowledgement_length}
-use Rattle.padp_end.proofs.TakingLaws.{end_takes-whole}
+use Rattle.padp_end.proofs.TakingLaws.{IsNext, IsOther, IsRepeat, data_case, end_takes-whole}
+use Rattle.padp_link.specs.Senders.{waiting_key}
 use Rattle.trace_text.specs.Frames.{padp_packet}
 use Rattle.padp_end.specs.Outgoings.{OutgoingFragment, said_text}
 use Rattle.padp_end.specs.declared.heard.Heard.{Heard}
 use Rattle.padp_end.specs.declared.heard.Heard.TheVariants as heard
 use Rattle.slp_frames.specs.PacketText.{PacketValue}
-use Rattle.device_stream.specs.Hands.{Hand, MayServe, with_delivery, greeted_by, heard_by, message_of, with_reply, taken_by, with_end}
-use Rattle.device_stream.specs.declared.talk_end.TalkEnd.TheVariants.{Aborted}
+use Rattle.device_stream.specs.Hands.{Hand, MayServe, with_delivery, greeted_by, heard_by, is_farewell, message_of, with_reply, taken_by, with_end}
+use Rattle.device_stream.specs.declared.talk_end.TalkEnd.TheVariants.{Aborted, Ended}
 use Rattle.device_stream.specs.Talks.{TalkValue, talk_server}
 use Rattle.device_stream.specs.Takings.{HasTaken, Performs, Serves}
 
@@ -177,3 +180,43 @@ message-room old packet hears is text_is =
 pub taken-from : {seen old : Hand} {packet : PacketValue} {text : List ℕ} {new : Hand} → seen ≡ old → HasTaken seen packet text new
     → HasTaken old packet text new
 taken-from {packet} {text} {new} same taken = subst (λ (h : Hand). HasTaken h packet text new) same taken
+
+-- ---- the message that is sent
+
+-- no packet changes the message of an end
+message-arrival : (end : EndValue) (arrival : Arrival) → (arrival_taken end arrival).end.message ≡ end.message
+message-arrival end Drop = refl
+message-arrival end Tickle = refl
+message-arrival end Stop = refl
+message-arrival end (Ack key) = elim (cases_Bool (is_key (waiting_key end.sender) key)) [
+  | inl same ↦ ap (λ (a : Answer). a.end.message)
+      (cond-true (is_key (waiting_key end.sender) key) (goes_on_with (with_next end)) (silent end heard.Nothing) same)
+  | inr other ↦ ap (λ (a : Answer). a.end.message)
+      (cond-false (is_key (waiting_key end.sender) key) (goes_on_with (with_next end)) (silent end heard.Nothing) other)
+]
+message-arrival end (Data id fragment) = elim (data_case end id fragment) [
+  | IsRepeat same is ↦ ap (λ (a : Answer). a.end.message) is
+  | IsNext is ↦ ap (λ (a : Answer). a.end.message) is
+  | IsOther is ↦ ap (λ (a : Answer). a.end.message) is
+]
+
+pub end_takes-message : (end : EndValue) (packet : PacketValue) → (end_takes end packet).end.message ≡ end.message
+end_takes-message end packet = message-arrival end (arrival_of packet)
+
+pub message-delivered : (hand : Hand) → (with_delivery hand).end.message ≡ hand.end.message
+message-delivered hand =
+    let ends : Hand = record hand { over = Some Ended } in
+    elim (cases_Bool (is_farewell hand.end.message)) [
+      | inl is ↦ ap (λ (h : Hand). h.end.message) (cond-true (is_farewell hand.end.message) ends hand is)
+      | inr not ↦ ap (λ (h : Hand). h.end.message) (cond-false (is_farewell hand.end.message) ends hand not)
+    ]
+
+-- so a message that isn't too long stays so
+pub short-then : {old new : List ℕ} → new ≡ old → length old ≤ 65535 → length new ≤ 65535
+short-then same short = subst (λ (m : List ℕ). length m ≤ 65535) (sym same) short
+
+-- a reply isn't too long, and where none was given the message is the one before
+pub short-served : {T E : Type 0} (answer : Result T E) (old new : Hand) → OnOk answer (length new.end.message ≤ 65535) → OnErr answer (new ≡ old)
+    → length old.end.message ≤ 65535 → length new.end.message ≤ 65535
+short-served (Ok done) old new ok refused short = ok
+short-served (Err fault) old new ok refused short = short-then (ap (λ (h : Hand). h.end.message) refused) short

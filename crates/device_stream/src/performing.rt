@@ -1,5 +1,5 @@
 //! A request is performed.
-ghost use Rattle.std.specs.Prelude.{◌≡◌, ◌≤◌, ◌<◌, ◌^◌, ◌++◌, true, OnErr, OnOk, IsErrOf};
+ghost use Rattle.std.specs.Prelude.{◌≡◌, ◌≤◌, ◌<◌, ◌^◌, ◌++◌, true, length, OnErr, OnOk, IsErrOf};
 ghost use Rattle.hs_folders.specs.Moments.{OneChange};
 ghost use Rattle.arrayvec.specs.ArrayVec.{array_vec_len};
 ghost use Rattle.padp_end.specs.Outgoings.{said_text};
@@ -83,6 +83,7 @@ pub(crate) fn reply_to(
     ensures end { end.new ≡ (replying end.old number reply.now).1 }
     ensures said { out.new.items ≡ out.old.items
         ++ said_text (replying end.old number reply.now).0 }
+    ensures short { length end.new.message ≤ 65535 }
 {
     if !is_farewell(reply.bytes()) {
         end.expect(session_id(number + 1));

@@ -1,5 +1,5 @@
 //! A talk.
-ghost use Rattle.std.specs.Prelude.{◌≡◌, ◌↔◌, ◌≤◌, None, true, IfErr, IfOk, IsErr, IsErrOf, OnErr, OnOk};
+ghost use Rattle.std.specs.Prelude.{◌≡◌, ◌↔◌, ◌≤◌, None, true, length, IfErr, IfOk, IsErr, IsErrOf, OnErr, OnOk};
 ghost use Rattle.arrayvec.specs.ArrayVec.{array_vec_len};
 ghost use Rattle.hs_folders.specs.Causes.{HasCause};
 ghost use Rattle.slp_frames.specs.PacketValues.{lent_value};
@@ -108,6 +108,8 @@ impl<F: Folder> Talk<F> {
         ensures takes { OnOk result (HasTaken self.old.hand (lent_value packet.entry)
             out.new.items self.new.hand) }
         ensures sound { OnOk result (self.new.sound ≡ true) }
+        ensures short { length self.old.hand.end.message ≤ 65535
+            → length self.new.hand.end.message ≤ 65535 }
 
         // The folder goes with the device, one request at most.
         ensures performs { Performs F.contents F.moments F.paths F.faults self.old self.new }
@@ -178,6 +180,7 @@ impl<F: Folder> Talk<F> {
     // The first message is whole.
     fn greet(&mut self)
         ensures hand { self.new.hand ≡ greeted_by self.old.hand (message_of self.old.hand.end) }
+        ensures message { self.new.hand.end.message ≡ self.old.hand.end.message }
         ensures stays { PerformsNothing self.old self.new }
     {
         take_whole(&self.end, &mut self.request);
@@ -196,6 +199,7 @@ impl<F: Folder> Talk<F> {
         ensures serves { OnOk result (Serves self.old.hand out.old.items out.new.items
             self.new.hand) }
         ensures sound { OnOk result (self.new.sound ≡ true) }
+        ensures short { OnOk result (length self.new.hand.end.message ≤ 65535) }
         ensures performs { Performs F.contents F.moments F.paths F.faults self.old self.new }
         ensures refused { OnErr result (self.new.hand ≡ self.old.hand) }
         ensures cause { HasCause (F.faults self.old.folder) (F.faults self.new.folder)

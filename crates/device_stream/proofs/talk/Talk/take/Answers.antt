@@ -5,7 +5,7 @@ use Rattle.padp_end.specs.Ends.{end_takes}
 use Rattle.padp_end.specs.Outgoings.{said_text}
 use Rattle.device_stream.specs.Talks.{talk_server}
 use Rattle.device_stream.proofs.TakingLaws.{delivered-taken, greeting-taken, message-room, performs-itself, serving-taken}
-use Rattle.device_stream.proofs.TakingLaws.{silent-taken, stop-taken, taken-from}
+use Rattle.device_stream.proofs.TakingLaws.{end_takes-message, message-delivered, short-served, short-then, silent-taken, stop-taken, taken-from}
 use Rattle.device_stream.proofs.talk.Talk.take.Goals as goal
 
 pub serve-requires-clause-room : goal.serve-requires-clause-room
@@ -72,3 +72,31 @@ pub returns-in-Stop-clause-performs : goal.returns-in-Stop-clause-performs
 returns-in-Stop-clause-performs g c =
     performs-itself g.F.Folder.contents g.F.Folder.moments g.F.Folder.paths g.F.Folder.faults c.args.self.now _ (ap talk_server c.self.view_is)
     (ap (λ t. t.hand.performed) c.self.view_is) (ap (λ t. t.hand.replies) c.self.view_is)
+
+pub returns-in-Nothing-clause-short : goal.returns-in-Nothing-clause-short
+returns-in-Nothing-clause-short g c short =
+    short-then (ap (λ e. e.message) c.take.ensures.end ∙ end_takes-message c.self.inside.end (lent_value c.args.packet)
+    ∙ ap (λ t. t.hand.end.message) c.self.view_is) short
+
+pub returns-in-Delivered-clause-short : goal.returns-in-Delivered-clause-short
+returns-in-Delivered-clause-short g c short =
+    short-then (ap (λ h. h.end.message) c.deliver.ensures.hand ∙ message-delivered _
+    ∙ ap (λ e. e.message) c.take.ensures.end ∙ end_takes-message c.self.inside.end (lent_value c.args.packet)
+    ∙ ap (λ t. t.hand.end.message) c.self.view_is) short
+
+pub returns-in-Message-clause-short : goal.returns-in-Message-clause-short
+returns-in-Message-clause-short g c short =
+    short-served c.serve.result _ c.serve.new.self.hand c.serve.ensures.short c.serve.ensures.refused
+    (short-then (ap (λ e. e.message) c.take.ensures.end ∙ end_takes-message c.self.inside.end (lent_value c.args.packet)
+    ∙ ap (λ t. t.hand.end.message) c.self.view_is) short)
+
+pub returns-in-Message-2-clause-short : goal.returns-in-Message-2-clause-short
+returns-in-Message-2-clause-short g c short =
+    short-then (c.greet.ensures.message
+    ∙ ap (λ e. e.message) c.take.ensures.end ∙ end_takes-message c.self.inside.end (lent_value c.args.packet)
+    ∙ ap (λ t. t.hand.end.message) c.self.view_is) short
+
+pub returns-in-Stop-clause-short : goal.returns-in-Stop-clause-short
+returns-in-Stop-clause-short g c short =
+    short-then (ap (λ e. e.message) c.take.ensures.end ∙ end_takes-message c.self.inside.end (lent_value c.args.packet)
+    ∙ ap (λ t. t.hand.end.message) c.self.view_is) short
