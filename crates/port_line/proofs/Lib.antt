@@ -1,2 +1,5 @@
+pub mod CradleLaws
+pub mod GivingLaws
 pub mod Pieces
 pub mod Prefixes
+pub mod WayLaws

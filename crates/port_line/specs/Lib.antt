@@ -1,1 +1,4 @@
+pub mod Comings
+pub mod Cradles
 pub mod MemPorts
+pub mod Ways

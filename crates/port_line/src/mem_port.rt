@@ -7,6 +7,7 @@ ghost use Rattle.port_line.specs.MemPorts.{coming, good_calls, read_of, left_of}
 use crate::calls::Calls;
 use crate::port::Port;
 use crate::port_fault::PortFault;
+use crate::room::{behind, copy_front};
 use std::alloc::Global;
 
 /// A port in memory, over which pieces of bytes come, one a read, and then nothing any more. An empty
@@ -96,24 +97,6 @@ impl MemPort {
     }
 }
 
-// The bytes behind the first so many, none where there are no more.
-fn behind(piece: &[u8], from: usize) -> &[u8]
-    ensures { result.now ≡ drop from piece.now }
-{
-    piece.get(from..).unwrap_or(&[])
-}
-
-// Copies as many bytes as there are and as there is room for.
-fn copy_front(room: &mut [u8], left: &[u8]) -> usize
-    ensures count { result ≡ min (length room.old) (length left.now) }
-    ensures room { length room.new ≡ length room.old }
-    ensures bytes { take result room.new ≡ take (length room.old) left.now }
-{
-    let count = room.len().min(left.len());
-    room[..count].copy_from_slice(&left[..count]);
-    count
-}
-
 // Beside the trait's clauses each method says that it fails exactly where the good calls are over, and
 // a read gives what comes next.
 #[tactic(auto, using(crate::proofs::Prefixes::none_taken))]
@@ -121,6 +104,8 @@ impl Port for MemPort {
     ghost given = { λ port. Some (map vec_items port.given.items) };
 
     ghost taken = { λ port. Some port.taken.items };
+
+    ghost palm = { λ port. None };
 
     ghost paths = { λ port. Some (map string_bytes port.opened.items) };
 

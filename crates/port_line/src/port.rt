@@ -3,6 +3,8 @@ ghost use Rattle.std.specs.Prelude.{◌≡◌, ◌<◌, ◌≤◌, ◌++◌, ◌
 ghost use Rattle.std.specs.Option.{option_map};
 ghost use Rattle.hs_folders.specs.Appends.{AppendsPrefix};
 ghost use Rattle.hs_folders.specs.Causes.{HasCause};
+ghost use Rattle.port_laws.specs.Palms.{Gives, HearsOf, IsFirstTold, IsTold, MovesOn, Palm};
+ghost use Rattle.slp_frames.specs.PacketScan.{scan};
 
 use crate::port_fault::PortFault;
 
@@ -18,6 +20,9 @@ pub trait Port {
     /// The bytes that it took so far, where they are told.
     ghost taken: { Self → Option (List ℕ) };
 
+    /// The handheld and the cable behind it, where they are told.
+    ghost palm: { Self → Option Palm };
+
     /// The paths that it was opened at, the first one first, where they are told.
     ghost paths: { Self → Option (List (List ℕ)) };
 
@@ -31,6 +36,10 @@ pub trait Port {
         ensures refused { OnErr result (paths self.new ≡ paths self.old) }
         ensures given { given self.new ≡ given self.old }
         ensures taken { taken self.new ≡ taken self.old }
+
+        // The handheld says its wake, and nothing is under way.
+        ensures first { OnOk result (IsFirstTold (palm self.new)) }
+
         ensures cause { HasCause (faults self.old) (faults self.new)
             (IsErrOf result PortFault.Failed) };
 
@@ -41,6 +50,10 @@ pub trait Port {
         ensures prefix { OnErr result (AppendsPrefix (taken self.old) (taken self.new) bytes.now) }
         ensures given { given self.new ≡ given self.old }
         ensures paths { paths self.new ≡ paths self.old }
+
+        // The packets in the bytes are on their way, some of them lost maybe, and anything happens.
+        ensures palm { IsTold (HearsOf (scan bytes.now)) (palm self.old) (palm self.new) }
+
         ensures cause { HasCause (faults self.old) (faults self.new)
             (IsErrOf result PortFault.Failed) };
 
@@ -52,6 +65,12 @@ pub trait Port {
         ensures gave { IfOk result (λ count. given self.new ≡ option_map (λ given.
             given ++ take count room.new ∷ []) (given self.old)) }
         ensures stays { OnErr result (given self.new ≡ given self.old) }
+
+        // Anything happens, and then bytes of what the handheld said come.
+        ensures palm { IfOk result (λ count. IsTold (Gives (take count room.new)) (palm self.old)
+            (palm self.new)) }
+        ensures unread { OnErr result (IsTold MovesOn (palm self.old) (palm self.new)) }
+
         ensures taken { taken self.new ≡ taken self.old }
         ensures paths { paths self.new ≡ paths self.old }
         ensures cause { HasCause (faults self.old) (faults self.new)

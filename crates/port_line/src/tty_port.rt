@@ -82,6 +82,8 @@ fn write_bytes<F: Write>(file: &mut Option<F>, bytes: &[u8]) -> io::Result<()> {
 impl<'r, R: Files> Port for TtyPort<'r, R> {
     ghost given = { λ _. None };
 
+    ghost palm = { λ _. None };
+
     ghost taken = { λ _. None };
 
     ghost paths = { λ _. None };

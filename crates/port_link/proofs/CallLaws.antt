@@ -16,13 +16,15 @@ use Rattle.port_link.specs.declared.awaited.Awaited.TheVariants.{Tick}
 use Rattle.port_link.specs.Courses.{Course, Scene}
 use Rattle.port_link.specs.Desks.{Event, Awaits, reacts}
 use Rattle.port_link.specs.Greetings.{id_behind}
+use Rattle.port_link.proofs.BehindLaws.{palm-quiet}
 use Rattle.port_link.proofs.CourseLaws.{course-one, course-then}
 use Rattle.port_link.proofs.TellLaws.{tells-nothing, written-none}
 
 -- a message is awaited
 pub awaits : (id : ℕ) (old : Scene) (desk : Desk) → desk ≡ (reacts old.desk (Awaits id)).desk
-    → Course (Awaits id ∷ []) None old (record { given = old.given; taken = old.taken; held = old.held; desk = desk; log = old.log })
+    → Course (Awaits id ∷ []) None old (record { given = old.given; taken = old.taken; palm = old.palm; held = old.held; desk = desk; log = old.log })
 awaits id old desk is = course-one (Awaits id) (continues_start old.held) (written-none old.given) is (tells-nothing old.taken old.log)
+    (palm-quiet old.desk (Awaits id) old.palm old.palm refl refl)
 
 -- something was done before
 pub says-behind : (awaited : Awaited) (first later : List Event) (old mid new : Scene) (answer : Result Turn PortFault) → Course first None old mid

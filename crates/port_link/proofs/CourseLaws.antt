@@ -5,12 +5,15 @@ use Rattle.std.specs.Option.{option_map}
 use Rattle.std.specs.Result.{result_err}
 use Rattle.std.proofs.lemmas.Grind.{flat_map-append}
 use Rattle.std.proofs.lemmas.List.{append-nil, append_assoc}
+use Rattle.port_laws.specs.Palms.{IsTold, MovesOn}
 use Rattle.port_line.specs.declared.port_fault.PortFault.{PortFault}
 use Rattle.slp_frames.proofs.ScanLaws.{continues_append, continues_now, continues_start, continues_then}
 use Rattle.slp_frames.specs.Histories.{Continues}
 use Rattle.port_link.specs.declared.awaited.Awaited.{Awaited}
 use Rattle.port_link.specs.declared.desk.Desk.{Desk}
 use Rattle.port_link.specs.declared.turn.Turn.{Turn}
+use Rattle.port_link.specs.Behind.{PalmAt, PalmsGo}
+use Rattle.port_link.proofs.BehindLaws.{ends-itself, palms-then}
 use Rattle.port_link.specs.Courses.{Course, Happens, Holds, HoldsNext, IsHeard, Scene, Tells, reads_at, reads_of}
 use Rattle.port_link.specs.Desks.{Event, Awaits, Begins, Came, Read, desk_after, reacts}
 use Rattle.port_link.specs.Listening.{GoesThrough, is_over}
@@ -63,6 +66,7 @@ course-itself a = record {
   given = written-none a.given;
   desk = refl;
   tells = tells-nothing a.taken a.log;
+  palms = refl;
 }
 
 pub course-then : {fault : Option PortFault} {a b c : Scene} {es fs : List Event} → Course es None a b → Course fs fault b c → Course (es ++ fs) fault a c
@@ -73,48 +77,56 @@ course-then {fault} {a} {b} {c} {es} {fs} first next = record {
   desk = next.desk ∙ ap (λ (d : Desk). desk_after d fs) first.desk ∙ sym (desk_after-append a.desk es fs);
   tells = subst (λ (l : List EntryValue). Tells fault a.taken c.taken a.log c.log l) (sym (logged-append a.desk es fs))
       (tells-then first.tells (subst (λ (d : Desk). Tells fault b.taken c.taken b.log c.log (logged d fs)) first.desk next.tells));
+  palms = palms-then fault a.desk es fs a.palm b.palm c.palm first.palms
+      (subst (λ (d : Desk). PalmsGo fault d fs b.palm c.palm) first.desk next.palms);
 }
 
 -- a course of one event
 pub course-one : {fault : Option PortFault} (event : Event) {old new : Scene} → HoldsNext old.held event new.held
     → new.given ≡ option_map (λ given. given ++ reads_at event) old.given → new.desk ≡ (reacts old.desk event).desk
-    → Tells fault old.taken new.taken old.log new.log (entries_at old.desk event) → Course (event ∷ []) fault old new
-course-one {fault} event {old} {new} holds given desk tells = record {
+    → Tells fault old.taken new.taken old.log new.log (entries_at old.desk event) → PalmAt old.desk event old.palm new.palm
+    → Course (event ∷ []) fault old new
+course-one {fault} event {old} {new} holds given desk tells palm = record {
   holds = (new.held, holds, continues_start new.held);
   given = given ∙ ap (λ (r : List (List ℕ)). option_map (λ given. given ++ r) old.given) (sym (append-nil (reads_at event)));
   desk = desk;
   tells = subst (λ (l : List EntryValue). Tells fault old.taken new.taken old.log new.log l) (sym (append-nil (entries_at old.desk event))) tells;
+  palms = (new.palm, palm, ends-itself fault new.palm);
 }
 
 -- one event happened
 pub happens-one : (result : Result Turn PortFault) (event : Event) (old new : Scene) → IsHeard event → HoldsNext old.held event new.held
     → new.given ≡ option_map (λ given. given ++ reads_at event) old.given → new.desk ≡ (reacts old.desk event).desk
     → IfOk result (λ turn. turn ≡ (reacts old.desk event).turn)
-    → Tells (result_err result) old.taken new.taken old.log new.log (entries_at old.desk event) → Happens result old new
-happens-one (Ok turn) event old new heard holds given desk turn_is tells = (event, heard, turn_is, course-one event holds given desk tells)
-happens-one (Err fault) event old new heard holds given desk turn_is tells = (event ∷ [], (heard, refl), course-one event holds given desk tells)
+    → Tells (result_err result) old.taken new.taken old.log new.log (entries_at old.desk event) → PalmAt old.desk event old.palm new.palm
+    → Happens result old new
+happens-one (Ok turn) event old new heard holds given desk turn_is tells palm = (event, heard, turn_is, course-one event holds given desk tells palm)
+happens-one (Err fault) event old new heard holds given desk turn_is tells palm =
+    (event ∷ [], (heard, refl), course-one event holds given desk tells palm)
 
 -- the reader had dropped what can't be in a packet
 course-from : {fault : Option PortFault} {events : List Event} (old : Scene) {new : Scene} (held : List ℕ) → Continues old.held [] held
-    → Course events fault (record { given = old.given; taken = old.taken; held = held; desk = old.desk; log = old.log }) new → Course events fault old new
+    → Course events fault (record { given = old.given; taken = old.taken; palm = old.palm; held = held; desk = old.desk; log = old.log }) new → Course events fault old new
 course-from {fault} {events} old {new} held first course = record {
   holds = holds-from events new.held first course.holds;
   given = course.given;
   desk = course.desk;
   tells = course.tells;
+  palms = course.palms;
 }
 
 pub happens-from : (result : Result Turn PortFault) (old new : Scene) (held : List ℕ) → Continues old.held [] held
-    → Happens result (record { given = old.given; taken = old.taken; held = held; desk = old.desk; log = old.log }) new → Happens result old new
+    → Happens result (record { given = old.given; taken = old.taken; palm = old.palm; held = held; desk = old.desk; log = old.log }) new → Happens result old new
 happens-from (Ok turn) old new held first happens = (happens.0, happens.1, happens.2, course-from old held first happens.3)
 happens-from (Err fault) old new held first happens = (happens.0, happens.1, course-from old held first happens.2)
 
 -- the port failed at a read
 pub course-unread : (fault : PortFault) {old new : Scene} → new.given ≡ old.given → new.taken ≡ old.taken → new.held ≡ old.held → new.desk ≡ old.desk
-    → new.log ≡ old.log → Course [] (Some fault) old new
-course-unread fault {old} {new} given taken held desk log = record {
+    → new.log ≡ old.log → IsTold MovesOn old.palm new.palm → Course [] (Some fault) old new
+course-unread fault {old} {new} given taken held desk log palm = record {
   holds = subst (λ (h : List ℕ). Continues old.held [] h) (sym held) (continues_start old.held);
   given = given ∙ written-none old.given;
   desk = desk;
   tells = subst (λ (l : List EntryValue). Tells (Some fault) old.taken new.taken old.log l []) (sym log) (tells-failed fault old.taken old.log taken);
+  palms = palm;
 }

@@ -1,5 +1,13 @@
+pub mod BehindLaws
 pub mod TellLaws
 pub mod CourseLaws
 pub mod CallLaws
 pub mod WholeLaws
 pub mod PartLaws
+pub mod StandLaws
+pub mod AskLaws
+pub mod ReplyLaws
+pub mod GreetLaws
+pub mod RoundLaws
+pub mod LinkLaws
+pub mod RanLaws

@@ -25,7 +25,7 @@ pub record HasWhole (desk : Desk) : Type 0 where
   pub message : List ℕ
   pub is : whole_of desk.end.receiver.pieces ≡ Some message
 
-heard-message : (hears : Heard) → then.Whole ≡ turn_of hears → hears ≡ heard.Message
+pub heard-message : (hears : Heard) → then.Whole ≡ turn_of hears → hears ≡ heard.Message
 heard-message heard.Nothing e = cc
 heard-message heard.Tickle e = cc
 heard-message heard.Delivered e = cc
@@ -41,7 +41,7 @@ no-reaction true x y not_x not_y e = not_x e
 no-reaction false x y not_x not_y e = not_y e
 
 -- silence makes nothing whole
-silence-not_whole : (desk : Desk) → then.Whole ≡ (silence desk).turn → ⊥
+pub silence-not_whole : (desk : Desk) → then.Whole ≡ (silence desk).turn → ⊥
 silence-not_whole desk e =
     no-reaction (is_some (waiting desk.end.sender)) (waiting_silence desk) (idle_silence desk)
     (λ (e : then.Whole ≡ (waiting_silence desk).turn). no-turn (is_spent desk.end) then.Spent then.GoesOn (λ (e : then.Whole ≡ then.Spent). cc) (λ (e : then.Whole ≡ then.GoesOn). cc) e)
@@ -63,7 +63,7 @@ listens-whole old new listens = go listens.ends where
   go (inl ends) = subst HasWhole (sym ends.0.3.desk) (reacts-whole listens.between.desk ends.0.0 ends.0.2)
   go (inr ends) = let e : then.Whole ≡ then.GoesOn = ends.1 in cc
 
-not_delivered : (old new : Scene) → Listens Message old new (Ok then.Delivered) → ⊥
+pub not_delivered : (old new : Scene) → Listens Message old new (Ok then.Delivered) → ⊥
 not_delivered old new listens = go listens.ends where
   go : EndsWith Message (length listens.events) (Ok then.Delivered) listens.between new → ⊥
   go (inl ends) = let e : false ≡ true = ends.1 in cc

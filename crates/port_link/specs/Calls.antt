@@ -1,10 +1,11 @@
 -- What a link over a port does at each call.
-use Rattle.std.specs.Prelude.{◌≡◌, ◌⊎◌, ◌<◌, length, ℕ, Bool, true, false, List, [], ◌∷◌, Option, Some, None, Result, Ok, Err}
+use Rattle.std.specs.Prelude.{◌≡◌, ◌⊎◌, ◌<◌, ◌≤◌, length, ℕ, Bool, true, false, List, [], ◌∷◌, Option, Some, None, Result, Ok, Err}
 use Rattle.std.specs.Option.{option_map, unwrap_or}
 use Rattle.std.specs.Result.{result_err}
 use Rattle.dlp_commands.specs.declared.link.LinkFault.{LinkFault}
 use Rattle.hs_folders.specs.Causes.{HasCause}
 use Rattle.padp_link.specs.Receivers.{whole_of}
+use Rattle.port_laws.specs.Palms.{Palm}
 use Rattle.port_line.specs.declared.port_fault.PortFault.{PortFault}
 use Rattle.port_link.specs.declared.awaited.Awaited.{Awaited}
 use Rattle.port_link.specs.declared.awaited.Awaited.TheVariants.{Message, Delivery, Tick}
@@ -92,6 +93,7 @@ abbrev pub with_linger : Scene → Scene
 with_linger scene = record {
   given = scene.given;
   taken = scene.taken;
+  palm = scene.palm;
   held = scene.held;
   desk = lingering scene.desk;
   log = scene.log;
@@ -124,10 +126,10 @@ pub record LinkValue : Type 0 where
   pub cause : Option PortCause
 
 -- a link over a port of which this is told, before its first call
-abbrev pub first_link : Option (List (List ℕ)) → Option (List ℕ) → Option (List (List ℕ)) → ℕ
-    → LinkValue
-first_link given taken paths faults = record {
-  scene = scene given taken [] first_desk [];
+abbrev pub first_link : Option (List (List ℕ)) → Option (List ℕ) → Option Palm
+    → Option (List (List ℕ)) → ℕ → LinkValue
+first_link given taken palm paths faults = record {
+  scene = scene given taken palm [] first_desk [];
   paths = paths;
   faults = faults;
   id = 255;
@@ -180,11 +182,24 @@ AnswersExchange (Some cause) request reply old new fault =
 AnswersExchange None request reply old new fault =
     Asks request reply old new × (fault ≡ option_map link_fault new.cause)
 
+-- a handheld is greeted at most once
+pub record HailsFirst (old new : LinkValue) : Type 0 where
+  pub first : old.begun ≡ false
+  pub answer : Result ℕ PortCause
+  pub says : SaysHello answer old new
+
+-- a request of at most 65,535 bytes is said to a handheld that was greeted
+pub record AsksGreeted (request : List ℕ) (old new : LinkValue) : Type 0 where
+  pub greeted : old.begun ≡ true
+  pub short : length request ≤ 65535
+  pub reply : List ℕ
+  pub asks : Asks request reply old new
+
 -- the same of any call
 abbrev pub IsCall : Option PortCause → Call → LinkValue → LinkValue → Type 0
 IsCall (Some cause) call old new = new ≡ old
-IsCall None Hello old new = (result : Result ℕ PortCause) × SaysHello result old new
-IsCall None (Exchange request) old new = (reply : List ℕ) × Asks request reply old new
+IsCall None Hello old new = HailsFirst old new
+IsCall None (Exchange request) old new = AsksGreeted request old new
 
 abbrev pub AreCalls : LinkValue → List Call → LinkValue → Type 0
 AreCalls old [] new = new ≡ old
@@ -197,10 +212,10 @@ Since old new = (calls : List Call) × AreCalls old calls new
 
 -- what is left of a link: where a handheld was greeted and nothing went wrong it lingers
 abbrev pub LeavesWith : Bool → Option PortCause → Scene → Option (List (List ℕ))
-    → Option (List ℕ) → List EntryValue → Type 0
-LeavesWith true None old given taken log =
-    (held : List ℕ) × (desk : Desk) × Lingers old (scene given taken held desk log)
-LeavesWith false None old given taken log =
-    (given ≡ old.given) × (taken ≡ old.taken) × (log ≡ old.log)
-LeavesWith begun (Some cause) old given taken log =
-    (given ≡ old.given) × (taken ≡ old.taken) × (log ≡ old.log)
+    → Option (List ℕ) → Option Palm → List EntryValue → Type 0
+LeavesWith true None old given taken palm log =
+    (held : List ℕ) × (desk : Desk) × Lingers old (scene given taken palm held desk log)
+LeavesWith false None old given taken palm log =
+    (given ≡ old.given) × (taken ≡ old.taken) × (palm ≡ old.palm) × (log ≡ old.log)
+LeavesWith begun (Some cause) old given taken palm log =
+    (given ≡ old.given) × (taken ≡ old.taken) × (palm ≡ old.palm) × (log ≡ old.log)

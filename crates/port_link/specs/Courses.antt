@@ -3,28 +3,37 @@ use Rattle.std.specs.Prelude.{◌≡◌, ℕ, List, [], ◌∷◌, ◌++◌, tak
 use Rattle.std.specs.Option.{option_map}
 use Rattle.std.specs.List.{flat_map}
 use Rattle.hs_folders.specs.Appends.{AppendsPrefix}
+use Rattle.port_laws.specs.Palms.{Palm}
 use Rattle.port_line.specs.declared.port_fault.PortFault.{PortFault}
 use Rattle.port_line.specs.declared.port_fault.PortFault.TheVariants as fault
 use Rattle.slp_frames.specs.Histories.{Continues}
 use Rattle.slp_frames.specs.PacketScan.{scan}
 use Rattle.port_link.specs.declared.desk.Desk.{Desk}
 use Rattle.port_link.specs.declared.turn.Turn.{Turn}
+use Rattle.port_link.specs.Behind.{PalmsGo}
 use Rattle.port_link.specs.Desks.{Event, Awaits, Begins, Came, Read, desk_after, reacts}
 use Rattle.port_link.specs.Logs.{EntryValue, logged, spoken}
 
--- what the port gave and took, where it tells it, the bytes that the reader holds, the desktop's
--- end, and all that was said and heard
+-- what the port gave and took and what stands behind it, where it tells it, the bytes that the reader
+-- holds, the desktop's end, and all that was said and heard
 pub record Scene : Type 0 where
   pub given : Option (List (List ℕ))
   pub taken : Option (List ℕ)
+  pub palm : Option Palm
   pub held : List ℕ
   pub desk : Desk
   pub log : List EntryValue
 
-abbrev pub scene : Option (List (List ℕ)) → Option (List ℕ) → List ℕ → Desk → List EntryValue
-    → Scene
-scene given taken held desk log =
-    record { given = given; taken = taken; held = held; desk = desk; log = log }
+abbrev pub scene : Option (List (List ℕ)) → Option (List ℕ) → Option Palm → List ℕ → Desk
+    → List EntryValue → Scene
+scene given taken palm held desk log = record {
+  given = given;
+  taken = taken;
+  palm = palm;
+  held = held;
+  desk = desk;
+  log = log;
+}
 
 -- ---- what comes
 
@@ -80,6 +89,7 @@ pub record Course (events : List Event) (fault : Option PortFault) (old new : Sc
   pub given : new.given ≡ option_map (λ given. given ++ reads_of events) old.given
   pub desk : new.desk ≡ desk_after old.desk events
   pub tells : Tells fault old.taken new.taken old.log new.log (logged old.desk events)
+  pub palms : PalmsGo fault old.desk events old.palm new.palm
 
 -- ---- one event
 

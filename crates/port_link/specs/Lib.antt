@@ -1,9 +1,12 @@
 pub mod Desks
+pub mod Behind
 pub mod Logs
 pub mod Courses
 pub mod Listening
 pub mod Causes
 pub mod Greetings
 pub mod Calls
+pub mod Standing
+pub mod Hands
 pub mod SinceLaws
 pub mod Answered

@@ -2,6 +2,8 @@
 ghost use Rattle.std.specs.Prelude.{◌≡◌, ◌≤◌, ◌<◌, ◌++◌, ◌∷◌, [], Ok, IfOk, IsErrOf, OnErr, OnOk, length};
 ghost use Rattle.std.specs.Result.{result_err};
 ghost use Rattle.hs_folders.specs.Causes.{HasCause};
+ghost use Rattle.cable_laws.specs.Cables.{packets_of};
+ghost use Rattle.port_laws.specs.Palms.{HearsOf, IsTold};
 ghost use Rattle.slp_frames.specs.PacketScan.{scan};
 ghost use Rattle.slp_frames.specs.PacketValues.{lent_value};
 ghost use Rattle.port_link.specs.Courses.{Course, Happens, Tells, scene};
@@ -34,6 +36,8 @@ impl<P: Port> Cable<P> {
             (P.taken self.old.port) (P.taken self.new.port)
             (log_entries self.old.log.entries) (log_entries self.new.log.entries)
             (entry.said_entries (reacts self.old.desk (Begins id message.now)).said) }
+        ensures palm { IsTold (HearsOf (packets_of (reacts self.old.desk
+            (Begins id message.now)).said)) (P.palm self.old.port) (P.palm self.new.port) }
         ensures given { P.given self.new.port ≡ P.given self.old.port }
         ensures paths { P.paths self.new.port ≡ P.paths self.old.port }
         ensures cause { HasCause (P.faults self.old.port) (P.faults self.new.port)
@@ -54,6 +58,8 @@ impl<P: Port> Cable<P> {
             (P.taken self.old.port) (P.taken self.new.port)
             (log_entries self.old.log.entries) (log_entries self.new.log.entries)
             (entry.entries_at self.old.desk (Came (lent_value packet.entry))) }
+        ensures palm { IsTold (HearsOf (packets_of (reacts self.old.desk
+            (Came (lent_value packet.entry))).said)) (P.palm self.old.port) (P.palm self.new.port) }
         ensures given { P.given self.new.port ≡ P.given self.old.port }
         ensures paths { P.paths self.new.port ≡ P.paths self.old.port }
         ensures cause { HasCause (P.faults self.old.port) (P.faults self.new.port)
@@ -78,6 +84,8 @@ impl<P: Port> Cable<P> {
             (P.taken self.old.port) (P.taken self.new.port)
             (log_entries self.old.log.entries) (log_entries self.new.log.entries)
             (entry.Silent ∷ entry.said_entries (silence self.old.desk).said) }
+        ensures palm { IsTold (HearsOf (packets_of (silence self.old.desk).said))
+            (P.palm self.old.port) (P.palm self.new.port) }
         ensures given { P.given self.new.port ≡ P.given self.old.port }
         ensures paths { P.paths self.new.port ≡ P.paths self.old.port }
         ensures cause { HasCause (P.faults self.old.port) (P.faults self.new.port)
@@ -101,6 +109,8 @@ impl<P: Port> Cable<P> {
             (log_entries self.old.log.entries) (log_entries self.new.log.entries)
             (speech text.now) }
         ensures desk { self.new.desk ≡ self.old.desk }
+        ensures palm { IsTold (HearsOf (scan text.now)) (P.palm self.old.port)
+            (P.palm self.new.port) }
         ensures given { P.given self.new.port ≡ P.given self.old.port }
         ensures paths { P.paths self.new.port ≡ P.paths self.old.port }
         ensures cause { HasCause (P.faults self.old.port) (P.faults self.new.port)

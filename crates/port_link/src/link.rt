@@ -14,11 +14,11 @@ use port_line::Port;
 
 // Beside the trait's clauses each method says what the machine of a desktop's end did at the port.
 impl<P: Port> Link for PortLink<P> {
-    ghost use Rattle.std.specs.Prelude.{None};
     ghost use Rattle.std.specs.Option.{option_map};
     ghost use Rattle.port_link.specs.Calls.{Since};
     ghost use Rattle.port_link.specs.Causes.{downs_of, link_fault};
     ghost use Rattle.port_link.specs.SinceLaws.{since_itself, since_more};
+    ghost use Rattle.port_link.specs.Standing.{talk_of};
 
     ghost downs = { λ link. downs_of (option_map link_fault link.cause) };
 
@@ -26,7 +26,7 @@ impl<P: Port> Link for PortLink<P> {
 
     ghost fault = { λ link. option_map link_fault link.cause };
 
-    ghost talk = { λ _. None };
+    ghost talk = { λ link. talk_of link };
 
     ghost since = { λ first last. Since first last };
 
@@ -60,6 +60,7 @@ impl<P: Port> Link for PortLink<P> {
         }
     }
 
+    #[tactic(auto, using(crate::proofs::LinkLaws::unanswered_same))]
     fn exchange(&mut self, request: &Message, reply: &mut Message) -> Result<(), LinkFault>
         requires { MayExchange (⟦<Self as Link>⟧.begun self.old) (⟦<Self as Link>⟧.fault self.old) }
         ensures answered { OnOk result (Answered (⟦<Self as Link>⟧.talk self.old)

@@ -23,9 +23,9 @@ pub(crate) fn listen<P: Port>(
     awaited: Awaited,
 ) -> Result<Turn, PortFault>
     ensures listens { Listens awaited
-        (scene (P.given cable.old.port) (P.taken cable.old.port) reader.old.held
+        (scene (P.given cable.old.port) (P.taken cable.old.port) (P.palm cable.old.port) reader.old.held
         cable.old.desk (log_entries cable.old.log.entries))
-        (scene (P.given cable.new.port) (P.taken cable.new.port) reader.new.held
+        (scene (P.given cable.new.port) (P.taken cable.new.port) (P.palm cable.new.port) reader.new.held
         cable.new.desk (log_entries cable.new.log.entries)) result }
     ensures paths { P.paths cable.new.port ≡ P.paths cable.old.port }
     ensures cause { HasCause (P.faults cable.old.port) (P.faults cable.new.port)
@@ -44,9 +44,9 @@ pub(crate) fn listen<P: Port>(
 // Takes a packet that the reader holds, or reads the port once.
 fn step<P: Port>(cable: &mut Cable<P>, reader: &mut SlpReader) -> Result<Turn, PortFault>
     ensures happens { Happens result
-        (scene (P.given cable.old.port) (P.taken cable.old.port) reader.old.held
+        (scene (P.given cable.old.port) (P.taken cable.old.port) (P.palm cable.old.port) reader.old.held
         cable.old.desk (log_entries cable.old.log.entries))
-        (scene (P.given cable.new.port) (P.taken cable.new.port) reader.new.held
+        (scene (P.given cable.new.port) (P.taken cable.new.port) (P.palm cable.new.port) reader.new.held
         cable.new.desk (log_entries cable.new.log.entries)) }
     ensures paths { P.paths cable.new.port ≡ P.paths cable.old.port }
     ensures cause { HasCause (P.faults cable.old.port) (P.faults cable.new.port)
@@ -63,9 +63,9 @@ fn read<P: Port>(cable: &mut Cable<P>, reader: &mut SlpReader) -> Result<Turn, P
     requires none { scan reader.old.held ≡ [] }
     requires room { length reader.old.held < 1040 }
     ensures happens { Happens result
-        (scene (P.given cable.old.port) (P.taken cable.old.port) reader.old.held
+        (scene (P.given cable.old.port) (P.taken cable.old.port) (P.palm cable.old.port) reader.old.held
         cable.old.desk (log_entries cable.old.log.entries))
-        (scene (P.given cable.new.port) (P.taken cable.new.port) reader.new.held
+        (scene (P.given cable.new.port) (P.taken cable.new.port) (P.palm cable.new.port) reader.new.held
         cable.new.desk (log_entries cable.new.log.entries)) }
     ensures paths { P.paths cable.new.port ≡ P.paths cable.old.port }
     ensures cause { HasCause (P.faults cable.old.port) (P.faults cable.new.port)

@@ -1,5 +1,6 @@
 //! A link over a port.
 ghost use Rattle.std.specs.Prelude.{◌≡◌, ◌≤◌, IfErr, IfOk};
+ghost use Rattle.port_laws.specs.Palms.{IsFirstTold};
 ghost use Rattle.port_link.specs.Calls.{LeavesWith, first_link};
 ghost use Rattle.port_link.specs.Logs.{log_entries};
 
@@ -30,11 +31,12 @@ impl<P: Port> Model for PortLink<P> {
     ghost use Rattle.port_link.specs.Calls.{LinkValue};
     ghost use Rattle.port_link.specs.Courses.{scene};
     ghost use Rattle.port_link.specs.Logs.{log_entries};
+    ghost use Rattle.port_link.specs.Standing.{IsStanding};
 
     ghost Value = { LinkValue };
 
     ghost view = { λ link. record {
-      scene = scene (P.given link.cable.port) (P.taken link.cable.port) link.reader.held
+      scene = scene (P.given link.cable.port) (P.taken link.cable.port) (P.palm link.cable.port) link.reader.held
           link.cable.desk (log_entries link.cable.log.entries);
       paths = P.paths link.cable.port;
       faults = P.faults link.cable.port;
@@ -42,13 +44,19 @@ impl<P: Port> Model for PortLink<P> {
       begun = link.begun;
       cause = link.cause;
     } };
+
+    ghost invariant = { λ link. IsStanding link.cause link.begun link.cable.desk.end
+        link.reader.held link.id (P.palm link.cable.port) };
 }
 
 impl<P: Port> PortLink<P> {
-    /// A link over this port, which is open. For want of memory the port comes back.
+    /// A link over this port, which is open, and over which nothing was said. For want of memory the port
+    /// comes back.
+    #[tactic(auto, using(crate::proofs::LinkLaws::standing_first))]
     pub fn new(alloc: Global, port: P) -> Result<PortLink<P>, (AllocError, P)>
+        requires { IsFirstTold (P.palm port) }
         ensures link { IfOk result (λ link. link
-            ≡ first_link (P.given port) (P.taken port) (P.paths port) (P.faults port)) }
+            ≡ first_link (P.given port) (P.taken port) (P.palm port) (P.paths port) (P.faults port)) }
         ensures back { IfErr result (λ refused. refused.1 ≡ port) }
     {
         match Desk::new(alloc) {
@@ -79,8 +87,8 @@ impl<P: Port> PortLink<P> {
     /// until three ticks in a row brought nothing, or ten in all, since its last acknowledgement may be
     /// lost.
     pub fn into_parts(self) -> (P, Vec<Entry>, Option<PortCause>)
-        ensures leaves { LeavesWith self.begun self.cause self.scene
-            (P.given result.0) (P.taken result.0) (log_entries result.1) }
+        ensures leaves { LeavesWith self.begun self.cause self.scene (P.given result.0)
+            (P.taken result.0) (P.palm result.0) (log_entries result.1) }
         ensures cause { result.2 ≡ self.cause }
         ensures paths { P.paths result.0 ≡ self.paths }
         ensures later { self.faults ≤ P.faults result.0 }

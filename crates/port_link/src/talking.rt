@@ -26,9 +26,9 @@ const TICKS: u32 = 10;
 /// Awaits a wake and says the init until it is acknowledged. Answers the wake's rate.
 pub(crate) fn greet<P: Port>(cable: &mut Cable<P>, reader: &mut SlpReader) -> Result<u32, PortCause>
     ensures greets { Greets
-        (scene (P.given cable.old.port) (P.taken cable.old.port) reader.old.held
+        (scene (P.given cable.old.port) (P.taken cable.old.port) (P.palm cable.old.port) reader.old.held
         cable.old.desk (log_entries cable.old.log.entries))
-        (scene (P.given cable.new.port) (P.taken cable.new.port) reader.new.held
+        (scene (P.given cable.new.port) (P.taken cable.new.port) (P.palm cable.new.port) reader.new.held
         cable.new.desk (log_entries cable.new.log.entries)) result }
     ensures paths { P.paths cable.new.port ≡ P.paths cable.old.port }
     ensures cause { HasCause (P.faults cable.old.port) (P.faults cable.new.port)
@@ -44,9 +44,9 @@ pub(crate) fn greet<P: Port>(cable: &mut Cable<P>, reader: &mut SlpReader) -> Re
 // A first message is whole: where it is a wake the init is said until it is acknowledged.
 fn answer_wake<P: Port>(cable: &mut Cable<P>, reader: &mut SlpReader) -> Result<u32, PortCause>
     ensures goes_on { GoesOnFrom None
-        (scene (P.given cable.old.port) (P.taken cable.old.port) reader.old.held
+        (scene (P.given cable.old.port) (P.taken cable.old.port) (P.palm cable.old.port) reader.old.held
         cable.old.desk (log_entries cable.old.log.entries))
-        (scene (P.given cable.new.port) (P.taken cable.new.port) reader.new.held
+        (scene (P.given cable.new.port) (P.taken cable.new.port) (P.palm cable.new.port) reader.new.held
         cable.new.desk (log_entries cable.new.log.entries)) result }
     ensures paths { P.paths cable.new.port ≡ P.paths cable.old.port }
     ensures cause { HasCause (P.faults cable.old.port) (P.faults cable.new.port)
@@ -71,10 +71,11 @@ pub(crate) fn converse<P: Port>(
     request: &Message,
     reply: &mut Message,
 ) -> Result<(), PortCause>
+    ensures short { length request.now ≤ 65535 }
     ensures converses { Converses id request.now reply.new
-        (scene (P.given cable.old.port) (P.taken cable.old.port) reader.old.held
+        (scene (P.given cable.old.port) (P.taken cable.old.port) (P.palm cable.old.port) reader.old.held
         cable.old.desk (log_entries cable.old.log.entries))
-        (scene (P.given cable.new.port) (P.taken cable.new.port) reader.new.held
+        (scene (P.given cable.new.port) (P.taken cable.new.port) (P.palm cable.new.port) reader.new.held
         cable.new.desk (log_entries cable.new.log.entries)) (result_err result) }
     ensures paths { P.paths cable.new.port ≡ P.paths cable.old.port }
     ensures cause { HasCause (P.faults cable.old.port) (P.faults cable.new.port)
@@ -95,9 +96,9 @@ pub(crate) fn converse<P: Port>(
 /// all.
 pub(crate) fn linger<P: Port>(cable: &mut Cable<P>, reader: &mut SlpReader)
     ensures lingers { Lingers
-        (scene (P.given cable.old.port) (P.taken cable.old.port) reader.old.held
+        (scene (P.given cable.old.port) (P.taken cable.old.port) (P.palm cable.old.port) reader.old.held
         cable.old.desk (log_entries cable.old.log.entries))
-        (scene (P.given cable.new.port) (P.taken cable.new.port) reader.new.held
+        (scene (P.given cable.new.port) (P.taken cable.new.port) (P.palm cable.new.port) reader.new.held
         cable.new.desk (log_entries cable.new.log.entries)) }
     ensures paths { P.paths cable.new.port ≡ P.paths cable.old.port }
     ensures later { P.faults cable.old.port ≤ P.faults cable.new.port }
@@ -127,9 +128,9 @@ fn say<P: Port>(
 ) -> Result<Turn, PortFault>
     requires { length message.now ≤ 65535 }
     ensures says { Says awaited (Begins id message.now ∷ [])
-        (scene (P.given cable.old.port) (P.taken cable.old.port) reader.old.held
+        (scene (P.given cable.old.port) (P.taken cable.old.port) (P.palm cable.old.port) reader.old.held
         cable.old.desk (log_entries cable.old.log.entries))
-        (scene (P.given cable.new.port) (P.taken cable.new.port) reader.new.held
+        (scene (P.given cable.new.port) (P.taken cable.new.port) (P.palm cable.new.port) reader.new.held
         cable.new.desk (log_entries cable.new.log.entries)) result }
     ensures paths { P.paths cable.new.port ≡ P.paths cable.old.port }
     ensures cause { HasCause (P.faults cable.old.port) (P.faults cable.new.port)

@@ -1,15 +1,5 @@
-use Rattle.std.proofs.Common.{◌≡◌, ℕ, zero, suc, ◌+◌, ◌%◌, arith, refl, add-one}
-use Rattle.std.proofs.lemmas.Bool.Decides.{nat_tests}
-use Rattle.padp_link.specs.Neighbours.{session_id}
-use Rattle.port_link.specs.Greetings.{id_behind}
+use Rattle.port_link.proofs.RoundLaws.{round}
 use Rattle.port_link.proofs.laws.transactions_come_round.Goals as goal
-
-next : (number : ℕ) → (number + 1) % 254 + 1 ≡ id_behind (number % 254 + 1)
-next number = grind (arith, nat_tests)
-
-round : (number : ℕ) → session_id (number + 1) ≡ id_behind (session_id number)
-round zero = refl
-round (suc number) = rw (add-one) (rw (← add-one) (next number))
 
 pub returns : goal.returns
 returns c number = round number

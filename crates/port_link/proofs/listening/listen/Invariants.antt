@@ -10,8 +10,8 @@ abbrev pub invariant-loop-count : goal.invariant-loop-count
 invariant-loop-count g l = record {
   course : (events : List Event)
       × Course events None
-      (scene (g.P.Port.given l.initial.cable.port) (g.P.Port.taken l.initial.cable.port) l.initial.reader.held l.initial.cable.desk (log_entries l.initial.cable.log.entries))
-      (scene (g.P.Port.given l.cable.port) (g.P.Port.taken l.cable.port) l.reader.held l.cable.desk (log_entries l.cable.log.entries))
+      (scene (g.P.Port.given l.initial.cable.port) (g.P.Port.taken l.initial.cable.port) (g.P.Port.palm l.initial.cable.port) l.initial.reader.held l.initial.cable.desk (log_entries l.initial.cable.log.entries))
+      (scene (g.P.Port.given l.cable.port) (g.P.Port.taken l.cable.port) (g.P.Port.palm l.cable.port) l.reader.held l.cable.desk (log_entries l.cable.log.entries))
       × GoesThrough l.awaited l.initial.cable.desk events
       × (length events ≡ l.count);
   paths : g.P.Port.paths l.cable.port ≡ g.P.Port.paths l.initial.cable.port;

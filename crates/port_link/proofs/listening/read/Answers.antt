@@ -8,6 +8,8 @@ use Rattle.slp_frames.specs.Histories.{Continues}
 use Rattle.port_link.specs.Courses.{Tells, scene}
 use Rattle.port_link.specs.Desks.{Read, silence}
 use Rattle.port_link.specs.Logs.{Silent, log_entries, said_entries}
+use Rattle.port_laws.specs.Palms.{Gives, IsTold}
+use Rattle.port_link.proofs.BehindLaws.{palm-quiet}
 use Rattle.port_link.proofs.CourseLaws.{course-one, course-unread, happens-one}
 use Rattle.port_link.proofs.TellLaws.{tells-nothing}
 use Rattle.port_link.proofs.listening.read.Goals as goal
@@ -20,7 +22,7 @@ single (byte ∷ other ∷ bytes) one = absurd (omega arith)
 
 pub returns-in-Err-clause-happens : goal.returns-in-Err-clause-happens
 returns-in-Err-clause-happens g c =
-    ([], tt, course-unread c.in-Err.fault c.in-Err.ensures.stays c.read.ensures.taken refl refl refl)
+    ([], tt, course-unread c.in-Err.fault c.in-Err.ensures.stays c.read.ensures.taken refl refl refl c.in-Err.ensures.unread)
 
 pub returns-then-count-eq0-clause-happens : goal.returns-then-count-eq0-clause-happens
 returns-then-count-eq0-clause-happens g c =
@@ -28,19 +30,26 @@ returns-then-count-eq0-clause-happens g c =
     let log = log_entries c.args.cable.now.log.entries in
     let desk = c.args.cable.now.desk in
     let held = c.args.reader.now.held in
-    happens-one c.tick.result (Read []) (scene given (g.P.Port.taken c.args.cable.now.port) held desk log)
-    (scene (g.P.Port.given c.tick.new.self.port) (g.P.Port.taken c.tick.new.self.port) held c.tick.new.self.desk (log_entries c.tick.new.self.log.entries))
+    happens-one c.tick.result (Read []) (scene given (g.P.Port.taken c.args.cable.now.port) (g.P.Port.palm c.args.cable.now.port) held desk log)
+    (scene (g.P.Port.given c.tick.new.self.port) (g.P.Port.taken c.tick.new.self.port) (g.P.Port.palm c.tick.new.self.port) held c.tick.new.self.desk (log_entries c.tick.new.self.log.entries))
     tt (c.requires.none, subst (λ (s : List ℕ). Continues s [] held) (sym (append-nil held)) (continues_start held))
     (c.tick.ensures.given ∙ c.in-Ok.ensures.gave
     ∙ ap (λ (n : ℕ). option_map (λ given. given ++ take n c.read.new.room ∷ []) given) c.if-count-eq0.true)
     c.tick.ensures.desk c.tick.ensures.turn
     (subst (λ (t : Option (List ℕ)). Tells (result_err c.tick.result) t (g.P.Port.taken c.tick.new.self.port) log (log_entries c.tick.new.self.log.entries)
     (Silent ∷ said_entries (silence desk).said)) c.read.ensures.taken c.tick.ensures.tells)
+    (record {
+      between = g.P.Port.palm c.read.new.self;
+      comes = subst (λ (bytes : List ℕ). IsTold (Gives bytes) (g.P.Port.palm c.args.cable.now.port) (g.P.Port.palm c.read.new.self))
+          (ap (λ (n : ℕ). take n c.read.new.room) c.if-count-eq0.true) c.in-Ok.ensures.palm;
+      hears = c.tick.ensures.palm;
+    })
 
 pub returns-clause-happens : goal.returns-clause-happens
 returns-clause-happens g c =
     let given = g.P.Port.given c.args.cable.now.port in
     let taken = g.P.Port.taken c.args.cable.now.port in
+    let palm = g.P.Port.palm c.args.cable.now.port in
     let log = log_entries c.args.cable.now.log.entries in
     let held = c.args.reader.now.held in
     let room = c.read.new.room in
@@ -56,5 +65,8 @@ returns-clause-happens g c =
           (c.requires.none, subst (λ (s : List ℕ). Continues (held ++ s) [] c.feed.new.self.held) (is c.feed.result fed) (c.feed.ensures.continues held [] (continues_start held)))
           (c.in-Ok.ensures.gave ∙ ap (λ (s : List ℕ). option_map (λ given. given ++ s ∷ []) given) (is c.in-Ok.count count))
           refl
-          (subst (λ (t : Option (List ℕ)). Tells None taken t log log []) (sym c.read.ensures.taken) (tells-nothing taken log)),
+          (subst (λ (t : Option (List ℕ)). Tells None taken t log log []) (sym c.read.ensures.taken) (tells-nothing taken log))
+          (palm-quiet c.args.cable.now.desk (Read (byte.0 ∷ [])) (g.P.Port.palm c.args.cable.now.port) (g.P.Port.palm c.read.new.self)
+          (subst (λ (bytes : List ℕ). IsTold (Gives bytes) (g.P.Port.palm c.args.cable.now.port) (g.P.Port.palm c.read.new.self)) (is c.in-Ok.count count)
+          c.in-Ok.ensures.palm) refl),
     )

@@ -12,12 +12,13 @@ pub returns-in-Ok-clause-converses : goal.returns-in-Ok-clause-converses
 returns-in-Ok-clause-converses g c =
     let given = g.P.Port.given c.args.cable.now.port in
     let taken = g.P.Port.taken c.args.cable.now.port in
+    let palm = g.P.Port.palm c.args.cable.now.port in
     let log = log_entries c.args.cable.now.log.entries in
     let held = c.args.reader.now.held in
-    let old = scene given taken held c.args.cable.now.desk log in
-    let mid = scene given taken held c.expect.new.self log in
+    let old = scene given taken palm held c.args.cable.now.desk log in
+    let mid = scene given taken palm held c.expect.new.self log in
     let after = c.say-answer.new.cable in
-    let new = scene (g.P.Port.given after.port) (g.P.Port.taken after.port) c.say-answer.new.reader.held after.desk (log_entries after.log.entries) in
+    let new = scene (g.P.Port.given after.port) (g.P.Port.taken after.port) (g.P.Port.palm after.port) c.say-answer.new.reader.held after.desk (log_entries after.log.entries) in
     let says = subst (λ (text : List ℕ). Says Message (Begins c.args.id text ∷ []) mid new c.say-answer.result) c.bytes.ensures.bytes c.say-answer.ensures.says in
     record {
       answer = c.say-answer.result;
@@ -32,12 +33,13 @@ pub returns-in-Err-clause-converses : goal.returns-in-Err-clause-converses
 returns-in-Err-clause-converses g c =
     let given = g.P.Port.given c.args.cable.now.port in
     let taken = g.P.Port.taken c.args.cable.now.port in
+    let palm = g.P.Port.palm c.args.cable.now.port in
     let log = log_entries c.args.cable.now.log.entries in
     let held = c.args.reader.now.held in
-    let old = scene given taken held c.args.cable.now.desk log in
-    let mid = scene given taken held c.expect.new.self log in
+    let old = scene given taken palm held c.args.cable.now.desk log in
+    let mid = scene given taken palm held c.expect.new.self log in
     let after = c.say-answer.new.cable in
-    let new = scene (g.P.Port.given after.port) (g.P.Port.taken after.port) c.say-answer.new.reader.held after.desk (log_entries after.log.entries) in
+    let new = scene (g.P.Port.given after.port) (g.P.Port.taken after.port) (g.P.Port.palm after.port) c.say-answer.new.reader.held after.desk (log_entries after.log.entries) in
     let says = subst (λ (text : List ℕ). Says Message (Begins c.args.id text ∷ []) mid new c.say-answer.result) c.bytes.ensures.bytes c.say-answer.ensures.says in
     record {
       answer = c.say-answer.result;

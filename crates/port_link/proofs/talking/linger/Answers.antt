@@ -10,10 +10,10 @@ loop-tick-preserved g c =
     let before = c.loop-tick.invariant in
     let at = c.loop-tick.cable in
     let after = c.listen.new.cable in
-    let first = scene (g.P.Port.given c.args.cable.now.port) (g.P.Port.taken c.args.cable.now.port) c.args.reader.now.held c.linger.new.self
+    let first = scene (g.P.Port.given c.args.cable.now.port) (g.P.Port.taken c.args.cable.now.port) (g.P.Port.palm c.args.cable.now.port) c.args.reader.now.held c.linger.new.self
     (log_entries c.args.cable.now.log.entries) in
-    let old = scene (g.P.Port.given at.port) (g.P.Port.taken at.port) c.loop-tick.reader.held at.desk (log_entries at.log.entries) in
-    let new = scene (g.P.Port.given after.port) (g.P.Port.taken after.port) c.listen.new.reader.held after.desk (log_entries after.log.entries) in
+    let old = scene (g.P.Port.given at.port) (g.P.Port.taken at.port) (g.P.Port.palm at.port) c.loop-tick.reader.held at.desk (log_entries at.log.entries) in
+    let new = scene (g.P.Port.given after.port) (g.P.Port.taken after.port) (g.P.Port.palm after.port) c.listen.new.reader.held after.desk (log_entries after.log.entries) in
     let more : c.bears.result ≡ true = search rules in
     record {
       bears = (

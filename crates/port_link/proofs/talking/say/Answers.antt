@@ -10,10 +10,11 @@ use Rattle.port_link.proofs.talking.say.Goals as goal
 pub returns-in-Ok-clause-says : goal.returns-in-Ok-clause-says
 returns-in-Ok-clause-says g c =
     inl (
-      scene (g.P.Port.given c.begin.new.self.port) (g.P.Port.taken c.begin.new.self.port) c.args.reader.now.held c.begin.new.self.desk
+      scene (g.P.Port.given c.begin.new.self.port) (g.P.Port.taken c.begin.new.self.port) (g.P.Port.palm c.begin.new.self.port) c.args.reader.now.held c.begin.new.self.desk
           (log_entries c.begin.new.self.log.entries),
       course-one (Begins c.args.id c.args.message.now) (continues_start c.args.reader.now.held)
-          (c.begin.ensures.given ∙ written-none (g.P.Port.given c.args.cable.now.port)) c.begin.ensures.desk c.in-Ok.ensures.tells,
+          (c.begin.ensures.given ∙ written-none (g.P.Port.given c.args.cable.now.port)) c.begin.ensures.desk c.in-Ok.ensures.tells
+          (record { between = g.P.Port.palm c.args.cable.now.port; comes = refl; hears = c.begin.ensures.palm }),
       c.listen.ensures.listens,
     )
 
@@ -23,5 +24,6 @@ returns-in-Err-clause-says g c =
       c.in-Err.fault,
       refl,
       course-one (Begins c.args.id c.args.message.now) (continues_start c.args.reader.now.held)
-          (c.begin.ensures.given ∙ written-none (g.P.Port.given c.args.cable.now.port)) c.begin.ensures.desk c.in-Err.ensures.tells,
+          (c.begin.ensures.given ∙ written-none (g.P.Port.given c.args.cable.now.port)) c.begin.ensures.desk c.in-Err.ensures.tells
+          (record { between = g.P.Port.palm c.args.cable.now.port; comes = refl; hears = c.begin.ensures.palm }),
     )

@@ -1,5 +1,11 @@
-use Rattle.std.proofs.Common.{refl, subst}
+use Rattle.std.proofs.Common.{refl, subst, sym}
 use Rattle.std.specs.Prelude.{Some, None}
+use Rattle.std.specs.Option.{option_map}
+use Rattle.dlp_commands.specs.Links.{MayExchange}
+use Rattle.dlp_commands.specs.Talks.{Answered, Unanswered}
+use Rattle.port_link.specs.Causes.{link_fault}
+use Rattle.port_link.specs.Standing.{talk_of}
+use Rattle.port_link.proofs.LinkLaws.{asks_told, begun_is}
 use Rattle.port_link.specs.Calls.{Exchange, LinkValue, Since}
 use Rattle.port_link.specs.Courses.{scene}
 use Rattle.port_link.specs.Logs.{log_entries}
@@ -10,7 +16,7 @@ pub returns-in-Ok-clause-since : goal.returns-in-Ok-clause-since
 returns-in-Ok-clause-since g c =
     let w = c.self.inside in
     let old : LinkValue = record {
-      scene = scene (g.P.Port.given w.cable.port) (g.P.Port.taken w.cable.port) w.reader.held w.cable.desk (log_entries w.cable.log.entries);
+      scene = scene (g.P.Port.given w.cable.port) (g.P.Port.taken w.cable.port) (g.P.Port.palm w.cable.port) w.reader.held w.cable.desk (log_entries w.cable.log.entries);
       paths = g.P.Port.paths w.cable.port;
       faults = g.P.Port.faults w.cable.port;
       id = w.id;
@@ -19,25 +25,28 @@ returns-in-Ok-clause-since g c =
     } in
     let v = c.converse.new in
     let new : LinkValue = record {
-      scene = scene (g.P.Port.given v.cable.port) (g.P.Port.taken v.cable.port) v.reader.held v.cable.desk (log_entries v.cable.log.entries);
+      scene = scene (g.P.Port.given v.cable.port) (g.P.Port.taken v.cable.port) (g.P.Port.palm v.cable.port) v.reader.held v.cable.desk (log_entries v.cable.log.entries);
       paths = g.P.Port.paths v.cable.port;
       faults = g.P.Port.faults v.cable.port;
       id = c.id_of_next-self-inside.result;
       begun = w.begun;
       cause = w.cause;
     } in
+    let may = subst (λ (value : LinkValue). MayExchange value.begun (option_map link_fault value.cause)) (sym c.self.view_is) c.requires in
     subst (λ (value : LinkValue). Since value new) c.self.view_is
-    (since-one (Exchange c.args.request.now) old new None c.in_default.is (
-      v.reply,
-      asks-by c.args.request.now v.reply old new None c.in_default.is c.id_of_next-self-inside.ensures refl c.converse.ensures.paths
-          c.in-Ok.ensures.converses c.in-Ok.ensures.cause,
-    ))
+    (since-one (Exchange c.args.request.now) old new None c.in_default.is (record {
+      greeted = begun_is old.begun old.cause c.in_default.is may;
+      short = c.converse.ensures.short;
+      reply = v.reply;
+      asks = asks-by c.args.request.now v.reply old new None c.in_default.is c.id_of_next-self-inside.ensures refl c.converse.ensures.paths
+          c.in-Ok.ensures.converses c.in-Ok.ensures.cause;
+    }))
 
 pub returns-in-Err-clause-since : goal.returns-in-Err-clause-since
 returns-in-Err-clause-since g c =
     let w = c.self.inside in
     let old : LinkValue = record {
-      scene = scene (g.P.Port.given w.cable.port) (g.P.Port.taken w.cable.port) w.reader.held w.cable.desk (log_entries w.cable.log.entries);
+      scene = scene (g.P.Port.given w.cable.port) (g.P.Port.taken w.cable.port) (g.P.Port.palm w.cable.port) w.reader.held w.cable.desk (log_entries w.cable.log.entries);
       paths = g.P.Port.paths w.cable.port;
       faults = g.P.Port.faults w.cable.port;
       id = w.id;
@@ -46,16 +55,97 @@ returns-in-Err-clause-since g c =
     } in
     let v = c.converse.new in
     let new : LinkValue = record {
-      scene = scene (g.P.Port.given v.cable.port) (g.P.Port.taken v.cable.port) v.reader.held v.cable.desk (log_entries v.cable.log.entries);
+      scene = scene (g.P.Port.given v.cable.port) (g.P.Port.taken v.cable.port) (g.P.Port.palm v.cable.port) v.reader.held v.cable.desk (log_entries v.cable.log.entries);
       paths = g.P.Port.paths v.cable.port;
       faults = g.P.Port.faults v.cable.port;
       id = c.id_of_next-self-inside.result;
       begun = w.begun;
       cause = Some c.in-Err.cause;
     } in
+    let may = subst (λ (value : LinkValue). MayExchange value.begun (option_map link_fault value.cause)) (sym c.self.view_is) c.requires in
     subst (λ (value : LinkValue). Since value new) c.self.view_is
-    (since-one (Exchange c.args.request.now) old new None c.in_default.is (
-      v.reply,
-      asks-by c.args.request.now v.reply old new (Some c.in-Err.cause) refl c.id_of_next-self-inside.ensures refl c.converse.ensures.paths
-          c.in-Err.ensures.converses c.in-Err.ensures.cause,
-    ))
+    (since-one (Exchange c.args.request.now) old new None c.in_default.is (record {
+      greeted = begun_is old.begun old.cause c.in_default.is may;
+      short = c.converse.ensures.short;
+      reply = v.reply;
+      asks = asks-by c.args.request.now v.reply old new (Some c.in-Err.cause) refl c.id_of_next-self-inside.ensures refl c.converse.ensures.paths
+          c.in-Err.ensures.converses c.in-Err.ensures.cause;
+    }))
+
+pub returns-in-Ok-clause-answered : goal.returns-in-Ok-clause-answered
+returns-in-Ok-clause-answered g c =
+    let w = c.self.inside in
+    let old : LinkValue = record {
+      scene = scene (g.P.Port.given w.cable.port) (g.P.Port.taken w.cable.port) (g.P.Port.palm w.cable.port) w.reader.held w.cable.desk (log_entries w.cable.log.entries);
+      paths = g.P.Port.paths w.cable.port;
+      faults = g.P.Port.faults w.cable.port;
+      id = w.id;
+      begun = w.begun;
+      cause = w.cause;
+    } in
+    let v = c.converse.new in
+    let new : LinkValue = record {
+      scene = scene (g.P.Port.given v.cable.port) (g.P.Port.taken v.cable.port) (g.P.Port.palm v.cable.port) v.reader.held v.cable.desk (log_entries v.cable.log.entries);
+      paths = g.P.Port.paths v.cable.port;
+      faults = g.P.Port.faults v.cable.port;
+      id = c.id_of_next-self-inside.result;
+      begun = w.begun;
+      cause = w.cause;
+    } in
+    let may = subst (λ (value : LinkValue). MayExchange value.begun (option_map link_fault value.cause)) (sym c.self.view_is) c.requires in
+    let asks = asks-by c.args.request.now v.reply old new None c.in_default.is c.id_of_next-self-inside.ensures refl c.converse.ensures.paths
+    c.in-Ok.ensures.converses c.in-Ok.ensures.cause in
+    let told = asks_told c.args.request.now v.reply old new c.converse.ensures.short c.in_default.is (begun_is old.begun old.cause c.in_default.is may) c.self.invariant asks in
+    subst (λ (value : LinkValue). Answered (talk_of value) c.args.request.now v.reply (talk_of new)) c.self.view_is (told.answered c.in_default.is)
+
+pub returns-in-Err-clause-unanswered : goal.returns-in-Err-clause-unanswered
+returns-in-Err-clause-unanswered g c =
+    let w = c.self.inside in
+    let old : LinkValue = record {
+      scene = scene (g.P.Port.given w.cable.port) (g.P.Port.taken w.cable.port) (g.P.Port.palm w.cable.port) w.reader.held w.cable.desk (log_entries w.cable.log.entries);
+      paths = g.P.Port.paths w.cable.port;
+      faults = g.P.Port.faults w.cable.port;
+      id = w.id;
+      begun = w.begun;
+      cause = w.cause;
+    } in
+    let v = c.converse.new in
+    let new : LinkValue = record {
+      scene = scene (g.P.Port.given v.cable.port) (g.P.Port.taken v.cable.port) (g.P.Port.palm v.cable.port) v.reader.held v.cable.desk (log_entries v.cable.log.entries);
+      paths = g.P.Port.paths v.cable.port;
+      faults = g.P.Port.faults v.cable.port;
+      id = c.id_of_next-self-inside.result;
+      begun = w.begun;
+      cause = Some c.in-Err.cause;
+    } in
+    let may = subst (λ (value : LinkValue). MayExchange value.begun (option_map link_fault value.cause)) (sym c.self.view_is) c.requires in
+    let asks = asks-by c.args.request.now v.reply old new (Some c.in-Err.cause) refl c.id_of_next-self-inside.ensures refl c.converse.ensures.paths
+    c.in-Err.ensures.converses c.in-Err.ensures.cause in
+    let told = asks_told c.args.request.now v.reply old new c.converse.ensures.short c.in_default.is (begun_is old.begun old.cause c.in_default.is may) c.self.invariant asks in
+    subst (λ (value : LinkValue). Unanswered (talk_of value) c.args.request.now (talk_of new)) c.self.view_is (told.unanswered (λ none. cc))
+
+pub invariant_of-self : goal.invariant_of-self
+invariant_of-self g c =
+    let w = c.self.inside in
+    let old : LinkValue = record {
+      scene = scene (g.P.Port.given w.cable.port) (g.P.Port.taken w.cable.port) (g.P.Port.palm w.cable.port) w.reader.held w.cable.desk (log_entries w.cable.log.entries);
+      paths = g.P.Port.paths w.cable.port;
+      faults = g.P.Port.faults w.cable.port;
+      id = w.id;
+      begun = w.begun;
+      cause = w.cause;
+    } in
+    let v = c.converse.new in
+    let new : LinkValue = record {
+      scene = scene (g.P.Port.given v.cable.port) (g.P.Port.taken v.cable.port) (g.P.Port.palm v.cable.port) v.reader.held v.cable.desk (log_entries v.cable.log.entries);
+      paths = g.P.Port.paths v.cable.port;
+      faults = g.P.Port.faults v.cable.port;
+      id = c.id_of_next-self-inside.result;
+      begun = w.begun;
+      cause = w.cause;
+    } in
+    let may = subst (λ (value : LinkValue). MayExchange value.begun (option_map link_fault value.cause)) (sym c.self.view_is) c.requires in
+    let asks = asks-by c.args.request.now v.reply old new None c.in_default.is c.id_of_next-self-inside.ensures refl c.converse.ensures.paths
+    c.in-Ok.ensures.converses c.in-Ok.ensures.cause in
+    let told = asks_told c.args.request.now v.reply old new c.converse.ensures.short c.in_default.is (begun_is old.begun old.cause c.in_default.is may) c.self.invariant asks in
+    told.stands

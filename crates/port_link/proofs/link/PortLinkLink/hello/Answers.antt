@@ -1,4 +1,6 @@
-use Rattle.std.proofs.Common.{refl, subst, true}
+use Rattle.std.proofs.Common.{◌≡◌, refl, subst, sym, true, false}
+use Rattle.port_link.specs.Standing.{talk_of}
+use Rattle.port_link.proofs.LinkLaws.{hello_told}
 use Rattle.std.specs.Prelude.{Some, None, Ok, Err}
 use Rattle.port_link.specs.Calls.{Hello, LinkValue, Since}
 use Rattle.port_link.specs.Courses.{scene}
@@ -10,7 +12,7 @@ pub returns-in-Ok-clause-since : goal.returns-in-Ok-clause-since
 returns-in-Ok-clause-since g c =
     let w = c.self.inside in
     let old : LinkValue = record {
-      scene = scene (g.P.Port.given w.cable.port) (g.P.Port.taken w.cable.port) w.reader.held w.cable.desk (log_entries w.cable.log.entries);
+      scene = scene (g.P.Port.given w.cable.port) (g.P.Port.taken w.cable.port) (g.P.Port.palm w.cable.port) w.reader.held w.cable.desk (log_entries w.cable.log.entries);
       paths = g.P.Port.paths w.cable.port;
       faults = g.P.Port.faults w.cable.port;
       id = w.id;
@@ -19,7 +21,7 @@ returns-in-Ok-clause-since g c =
     } in
     let v = c.greet.new in
     let new : LinkValue = record {
-      scene = scene (g.P.Port.given v.cable.port) (g.P.Port.taken v.cable.port) v.reader.held v.cable.desk (log_entries v.cable.log.entries);
+      scene = scene (g.P.Port.given v.cable.port) (g.P.Port.taken v.cable.port) (g.P.Port.palm v.cable.port) v.reader.held v.cable.desk (log_entries v.cable.log.entries);
       paths = g.P.Port.paths v.cable.port;
       faults = g.P.Port.faults v.cable.port;
       id = w.id;
@@ -27,17 +29,18 @@ returns-in-Ok-clause-since g c =
       cause = w.cause;
     } in
     subst (λ (value : LinkValue). Since value new) c.self.view_is
-    (since-one Hello old new None c.in_default.is (
-      Ok c.in-Ok.rate,
-      hello-by (Ok c.in-Ok.rate) old new c.in_default.is (λ none. refl) (λ not. absurd (not c.in_default.is)) refl c.greet.ensures.paths
-          c.in-Ok.ensures.greets c.in-Ok.ensures.cause,
-    ))
+    (since-one Hello old new None c.in_default.is (record {
+      first = subst (λ (value : LinkValue). value.begun ≡ false) (sym c.self.view_is) c.requires;
+      answer = Ok c.in-Ok.rate;
+      says = hello-by (Ok c.in-Ok.rate) old new c.in_default.is (λ none. refl) (λ not. absurd (not c.in_default.is)) refl c.greet.ensures.paths
+          c.in-Ok.ensures.greets c.in-Ok.ensures.cause;
+    }))
 
 pub returns-in-Err-clause-since : goal.returns-in-Err-clause-since
 returns-in-Err-clause-since g c =
     let w = c.self.inside in
     let old : LinkValue = record {
-      scene = scene (g.P.Port.given w.cable.port) (g.P.Port.taken w.cable.port) w.reader.held w.cable.desk (log_entries w.cable.log.entries);
+      scene = scene (g.P.Port.given w.cable.port) (g.P.Port.taken w.cable.port) (g.P.Port.palm w.cable.port) w.reader.held w.cable.desk (log_entries w.cable.log.entries);
       paths = g.P.Port.paths w.cable.port;
       faults = g.P.Port.faults w.cable.port;
       id = w.id;
@@ -46,7 +49,7 @@ returns-in-Err-clause-since g c =
     } in
     let v = c.greet.new in
     let new : LinkValue = record {
-      scene = scene (g.P.Port.given v.cable.port) (g.P.Port.taken v.cable.port) v.reader.held v.cable.desk (log_entries v.cable.log.entries);
+      scene = scene (g.P.Port.given v.cable.port) (g.P.Port.taken v.cable.port) (g.P.Port.palm v.cable.port) v.reader.held v.cable.desk (log_entries v.cable.log.entries);
       paths = g.P.Port.paths v.cable.port;
       faults = g.P.Port.faults v.cable.port;
       id = w.id;
@@ -54,8 +57,83 @@ returns-in-Err-clause-since g c =
       cause = Some c.in-Err.cause;
     } in
     subst (λ (value : LinkValue). Since value new) c.self.view_is
-    (since-one Hello old new None c.in_default.is (
-      Err c.in-Err.cause,
-      hello-by (Err c.in-Err.cause) old new refl (λ none. cc) (λ not. refl) refl c.greet.ensures.paths
-          c.in-Err.ensures.greets c.in-Err.ensures.cause,
-    ))
+    (since-one Hello old new None c.in_default.is (record {
+      first = subst (λ (value : LinkValue). value.begun ≡ false) (sym c.self.view_is) c.requires;
+      answer = Err c.in-Err.cause;
+      says = hello-by (Err c.in-Err.cause) old new refl (λ none. cc) (λ not. refl) refl c.greet.ensures.paths
+          c.in-Err.ensures.greets c.in-Err.ensures.cause;
+    }))
+
+pub returns-in-Ok-clause-talk : goal.returns-in-Ok-clause-talk
+returns-in-Ok-clause-talk g c =
+    let w = c.self.inside in
+    let old : LinkValue = record {
+      scene = scene (g.P.Port.given w.cable.port) (g.P.Port.taken w.cable.port) (g.P.Port.palm w.cable.port) w.reader.held w.cable.desk (log_entries w.cable.log.entries);
+      paths = g.P.Port.paths w.cable.port;
+      faults = g.P.Port.faults w.cable.port;
+      id = w.id;
+      begun = w.begun;
+      cause = w.cause;
+    } in
+    let v = c.greet.new in
+    let new : LinkValue = record {
+      scene = scene (g.P.Port.given v.cable.port) (g.P.Port.taken v.cable.port) (g.P.Port.palm v.cable.port) v.reader.held v.cable.desk (log_entries v.cable.log.entries);
+      paths = g.P.Port.paths v.cable.port;
+      faults = g.P.Port.faults v.cable.port;
+      id = w.id;
+      begun = true;
+      cause = w.cause;
+    } in
+    let fresh = subst (λ (value : LinkValue). value.begun ≡ false) (sym c.self.view_is) c.requires in
+    let says = hello-by (Ok c.in-Ok.rate) old new c.in_default.is (λ none. refl) (λ not. absurd (not c.in_default.is)) refl c.greet.ensures.paths c.in-Ok.ensures.greets c.in-Ok.ensures.cause in
+    subst (λ (value : LinkValue). talk_of new ≡ talk_of value) c.self.view_is
+    (hello_told (Ok c.in-Ok.rate) old new c.in_default.is fresh c.self.invariant says).talk
+
+pub returns-in-Err-clause-talk : goal.returns-in-Err-clause-talk
+returns-in-Err-clause-talk g c =
+    let w = c.self.inside in
+    let old : LinkValue = record {
+      scene = scene (g.P.Port.given w.cable.port) (g.P.Port.taken w.cable.port) (g.P.Port.palm w.cable.port) w.reader.held w.cable.desk (log_entries w.cable.log.entries);
+      paths = g.P.Port.paths w.cable.port;
+      faults = g.P.Port.faults w.cable.port;
+      id = w.id;
+      begun = w.begun;
+      cause = w.cause;
+    } in
+    let v = c.greet.new in
+    let new : LinkValue = record {
+      scene = scene (g.P.Port.given v.cable.port) (g.P.Port.taken v.cable.port) (g.P.Port.palm v.cable.port) v.reader.held v.cable.desk (log_entries v.cable.log.entries);
+      paths = g.P.Port.paths v.cable.port;
+      faults = g.P.Port.faults v.cable.port;
+      id = w.id;
+      begun = w.begun;
+      cause = Some c.in-Err.cause;
+    } in
+    let fresh = subst (λ (value : LinkValue). value.begun ≡ false) (sym c.self.view_is) c.requires in
+    let says = hello-by (Err c.in-Err.cause) old new refl (λ none. cc) (λ not. refl) refl c.greet.ensures.paths c.in-Err.ensures.greets c.in-Err.ensures.cause in
+    subst (λ (value : LinkValue). talk_of new ≡ talk_of value) c.self.view_is
+    (hello_told (Err c.in-Err.cause) old new c.in_default.is fresh c.self.invariant says).talk
+
+pub invariant_of-self : goal.invariant_of-self
+invariant_of-self g c =
+    let w = c.self.inside in
+    let old : LinkValue = record {
+      scene = scene (g.P.Port.given w.cable.port) (g.P.Port.taken w.cable.port) (g.P.Port.palm w.cable.port) w.reader.held w.cable.desk (log_entries w.cable.log.entries);
+      paths = g.P.Port.paths w.cable.port;
+      faults = g.P.Port.faults w.cable.port;
+      id = w.id;
+      begun = w.begun;
+      cause = w.cause;
+    } in
+    let v = c.greet.new in
+    let new : LinkValue = record {
+      scene = scene (g.P.Port.given v.cable.port) (g.P.Port.taken v.cable.port) (g.P.Port.palm v.cable.port) v.reader.held v.cable.desk (log_entries v.cable.log.entries);
+      paths = g.P.Port.paths v.cable.port;
+      faults = g.P.Port.faults v.cable.port;
+      id = w.id;
+      begun = true;
+      cause = w.cause;
+    } in
+    let fresh = subst (λ (value : LinkValue). value.begun ≡ false) (sym c.self.view_is) c.requires in
+    let says = hello-by (Ok c.in-Ok.rate) old new c.in_default.is (λ none. refl) (λ not. absurd (not c.in_default.is)) refl c.greet.ensures.paths c.in-Ok.ensures.greets c.in-Ok.ensures.cause in
+    (hello_told (Ok c.in-Ok.rate) old new c.in_default.is fresh c.self.invariant says).stands

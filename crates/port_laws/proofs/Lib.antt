@@ -1,0 +1,6 @@
+pub mod LossLaws
+pub mod SaidLaws
+pub mod HandLaws
+pub mod MoveLaws
+pub mod DeskLaws
+pub mod StageLaws

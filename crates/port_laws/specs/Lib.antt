@@ -1,0 +1,2 @@
+pub mod Palms
+pub mod Talking
