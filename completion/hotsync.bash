@@ -1,87 +1,96 @@
 # Completion of hotsync's words for bash: source it, or put it into ~/.local/share/bash-completion/completions/hotsync.
+
+# Answers with these words, or with the files or folders that compgen names by this flag.
+_hotsync_words() { mapfile -t COMPREPLY < <(compgen -W "$1" -- "$word"); }
+_hotsync_files() {
+    compopt -o filenames
+    mapfile -t COMPREPLY < <(compgen "$1" -- "$word")
+}
+
+# Answers with these options. Behind one that wants a value no space is set.
+_hotsync_options() {
+    _hotsync_words "$1"
+    if [ "${#COMPREPLY[@]}" -eq 1 ] && [ "${COMPREPLY[0]%[=:]}" != "${COMPREPLY[0]}" ]; then
+        compopt -o nospace
+    fi
+}
+
 _hotsync() {
-    local word=${COMP_WORDS[COMP_CWD]}
+    local word=${COMP_WORDS[COMP_CWORD]}
+    local commands='run check show export import verify picture packet install backup restore device categories sync make'
+    local option=
     COMPREPLY=()
-    if [ "$COMP_CWD" -eq 1 ]; then
-        COMPREPLY=($(compgen -W 'run check show export import verify picture packet install backup restore device categories sync make help --help --version' -- "$word"))
+    if [ "$COMP_CWORD" -eq 1 ]; then
+        _hotsync_words "$commands help --help --version"
         return
     fi
+
+    # The shell parts an option from its value at the equals sign.
+    if [ "$word" = = ]; then
+        option=${COMP_WORDS[COMP_CWORD - 1]}
+        word=
+    elif [ "${COMP_WORDS[COMP_CWORD - 1]}" = = ]; then
+        option=${COMP_WORDS[COMP_CWORD - 2]}
+    fi
+    case ${COMP_WORDS[1]}$option in
+    import--as) _hotsync_words txt ;;
+    *--as) _hotsync_words 'txt vcf csv ics' ;;
+    *--date) _hotsync_words now ;;
+    *--script | *--trace | *--in | *--out | *--port) _hotsync_files -f ;;
+    esac
+    if [ -n "$option" ]; then return; fi
+
     case ${COMP_WORDS[1]} in
     run)
         case $word in
-        -*)
-            COMPREPLY=($(compgen -W '--date=now --date= --script= --trace= --slow --actions= --actions=*: --add-user --dry-run' -- "$word"))
-            if [ "${#COMPREPLY[@]}" -eq 1 ] && [ "${COMPREPLY[0]%[=:]}" != "${COMPREPLY[0]}" ]; then
-                compopt -o nospace
-            fi
-            ;;
-        *) COMPREPLY=($(compgen -d -- "$word")) ;;
+        -*) _hotsync_options '--date=now --date= --script= --trace= --only= --slow --actions= --actions=*: --add-user --dry-run' ;;
+        *) _hotsync_files -d ;;
         esac
         ;;
     export)
         case $word in
-        -*) COMPREPLY=($(compgen -W '--as=txt --as=vcf --as=csv --as=ics --date=now --without-private --keep-broken' -- "$word")) ;;
-        *) COMPREPLY=($(compgen -f -- "$word")) ;;
+        -*) _hotsync_options '--as=txt --as=vcf --as=csv --as=ics --date=now --without-private --keep-broken' ;;
+        *) _hotsync_files -f ;;
         esac
         ;;
     import)
         case $word in
-        -*) COMPREPLY=($(compgen -W '--as=txt' -- "$word")) ;;
-        *) COMPREPLY=($(compgen -f -- "$word")) ;;
+        -*) _hotsync_options '--as=txt' ;;
+        *) _hotsync_files -f ;;
         esac
         ;;
     install)
         case $word in
-        -*)
-            COMPREPLY=($(compgen -W '--trace=' -- "$word"))
-            if [ "${#COMPREPLY[@]}" -eq 1 ]; then
-                compopt -o nospace
-            fi
-            ;;
-        *) COMPREPLY=($(compgen -f -- "$word")) ;;
+        -*) _hotsync_options '--trace=' ;;
+        *) _hotsync_files -f ;;
         esac
         ;;
     backup | restore | categories)
         case $word in
-        -*)
-            COMPREPLY=($(compgen -W '--script= --trace=' -- "$word"))
-            if [ "${#COMPREPLY[@]}" -eq 1 ]; then
-                compopt -o nospace
-            fi
-            ;;
-        *) COMPREPLY=($(compgen -f -- "$word")) ;;
+        -*) _hotsync_options '--script= --trace=' ;;
+        *) _hotsync_files -f ;;
         esac
         ;;
     device)
         case $word in
-        -*)
-            COMPREPLY=($(compgen -W '--in= --out=' -- "$word"))
-            if [ "${#COMPREPLY[@]}" -eq 1 ]; then
-                compopt -o nospace
-            fi
-            ;;
-        *) COMPREPLY=($(compgen -d -- "$word")) ;;
+        -*) _hotsync_options '--in= --out= --port= --trace=' ;;
+        *) _hotsync_files -d ;;
         esac
         ;;
     sync)
         case $word in
-        -*)
-            COMPREPLY=($(compgen -W '--date=now --date= --only= --trace= --slow --actions= --actions=*: --add-user' -- "$word"))
-            if [ "${#COMPREPLY[@]}" -eq 1 ] && [ "${COMPREPLY[0]%[=:]}" != "${COMPREPLY[0]}" ]; then
-                compopt -o nospace
-            fi
-            ;;
-        *) COMPREPLY=($(compgen -f -- "$word")) ;;
+        -*) _hotsync_options '--date=now --date= --only= --trace= --slow --actions= --actions=*: --add-user' ;;
+        *) _hotsync_files -f ;;
         esac
         ;;
     show)
         case $word in
-        -*) COMPREPLY=($(compgen -W '--records' -- "$word")) ;;
-        *) COMPREPLY=($(compgen -f -- "$word")) ;;
+        -*) _hotsync_options '--records' ;;
+        *) _hotsync_files -f ;;
         esac
         ;;
-    help) COMPREPLY=($(compgen -W 'run check show export import verify picture packet install backup restore device categories sync make' -- "$word")) ;;
-    check | verify | picture) COMPREPLY=($(compgen -f -- "$word")) ;;
+    help) _hotsync_words "$commands" ;;
+    check | verify | picture) _hotsync_files -f ;;
     esac
 }
-complete -o filenames -F _hotsync hotsync
+complete -F _hotsync hotsync

@@ -15,7 +15,7 @@ _hotsync() {
         'backup:put the databases of a handheld into a folder of files'
         'restore:put the databases of a folder of files onto a handheld'
         'categories:give both sides one table of categories'
-        'device:answer captured bytes as a handheld does'
+        'device:answer as a handheld does, at a port or to captured bytes'
         'sync:synchronise a folder with a handheld behind a serial port'
         'make:print what a run over made folders does'
         'help:print how the program or a command is called'
@@ -31,33 +31,33 @@ _hotsync() {
     case ${words[1]} in
     run)
         _arguments '1:handheld:_files -/' '2:desktop:_files -/' \
-            '--date=[the date of the session]:date:(now)' '--script=[the line script]:file:_files' \
-            '--trace=[the file for the trace]:file:_files' '--slow[read all records]' \
-            '--actions=[what is done with each database]:actions:' \
+            '--date=-[the date of the session]:date:(now)' '--script=-[the line script]:file:_files' \
+            '--trace=-[the file for the trace]:file:_files' '--only=-[the databases that are touched]:stems:' \
+            '--slow[read all records]' '--actions=-[what is done with each database]:actions:' \
             '--add-user[give the handheld a user of its own on the desktop]' \
             '--dry-run[print what the run would do, and change neither folder]'
         ;;
     export)
-        _arguments '1:file:_files' '--as=[the form]:form:(txt vcf csv ics)' \
-            '--date=[the time at which the calendar is made]:date:(now)' \
+        _arguments '1:file:_files' '--as=-[the form]:form:(txt vcf csv ics)' \
+            '--date=-[the time at which the calendar is made]:date:(now)' \
             '--without-private[leave private records out]' '--keep-broken[keep records that are out of their form]'
         ;;
-    import) _arguments '1:file:_files' '--as=[the form]:form:(txt)' ;;
-    install) _arguments '1:handheld:_files -/' '2:file:_files' '--trace=[the file for the trace]:file:_files' ;;
+    import) _arguments '1:file:_files' '--as=-[the form]:form:(txt)' ;;
+    install) _arguments '1:handheld:_files -/' '2:file:_files' '--trace=-[the file for the trace]:file:_files' ;;
     backup | restore)
-        _arguments '1:handheld:_files -/' '2:folder:_files -/' '--script=[the line script]:file:_files' \
-            '--trace=[the file for the trace]:file:_files'
+        _arguments '1:handheld:_files -/' '2:folder:_files -/' '--script=-[the line script]:file:_files' \
+            '--trace=-[the file for the trace]:file:_files'
         ;;
     categories)
-        _arguments '1:handheld:_files -/' '2:desktop:_files -/' '--script=[the line script]:file:_files' \
-            '--trace=[the file for the trace]:file:_files'
+        _arguments '1:handheld:_files -/' '2:desktop:_files -/' '--script=-[the line script]:file:_files' \
+            '--trace=-[the file for the trace]:file:_files'
         ;;
-    device) _arguments '1:handheld:_files -/' '--in=[the captured bytes]:file:_files' '--out=[the file for what is said]:file:_files' ;;
+    device) _arguments '1:handheld:_files -/' '--in=-[the captured bytes]:file:_files' '--out=-[the file for what is said]:file:_files' '--port=-[the port that it stands at]:port:_files' '--trace=-[the file for the trace]:file:_files' ;;
     sync)
         _arguments '1:port:_files' '2:desktop:_files -/' \
-            '--date=[the date of the session]:date:(now)' '--only=[the databases that are touched]:stems:' \
-            '--trace=[the file for the trace]:file:_files' '--slow[read all records]' \
-            '--actions=[what is done with each database]:actions:' \
+            '--date=-[the date of the session]:date:(now)' '--only=-[the databases that are touched]:stems:' \
+            '--trace=-[the file for the trace]:file:_files' '--slow[read all records]' \
+            '--actions=-[what is done with each database]:actions:' \
             '--add-user[give the handheld a user of its own on the desktop]'
         ;;
     show) _arguments '1:file:_files' '--records[show the bytes of each entry]' ;;

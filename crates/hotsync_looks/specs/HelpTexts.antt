@@ -7,7 +7,7 @@ use Rattle.run_words.specs.declared.topic.Topic.{Topic}
 use Rattle.run_words.specs.declared.topic.Topic.TheVariants.{Program, Version, Of}
 use Rattle.hotsync_looks.specs.Lines.{line_feed}
 use Rattle.hotsync_looks.specs.declared.help_text.OptionLine.{OptionLine}
-use Rattle.hotsync_looks.specs.declared.help_text.OptionLine.TheVariants.{Date, DateNow, Script, Trace, Input, Output, Slow, Actions, Only, AddUser, DryRun, AsText, AsCards, AsTable, AsCalendar, WithoutPrivate, KeepBroken, Records}
+use Rattle.hotsync_looks.specs.declared.help_text.OptionLine.TheVariants.{Date, DateNow, Script, Trace, Input, Output, Port, Slow, Actions, Only, AddUser, DryRun, AsText, AsCards, AsTable, AsCalendar, WithoutPrivate, KeepBroken, Records}
 
 -- the commands, in the order in which help tells them
 abbrev pub commands : List CommandWord
@@ -18,7 +18,7 @@ commands =
 -- how a command is called
 abbrev pub synopsis : CommandWord → List ℕ
 synopsis Run =
-    codes "hotsync run HANDHELD DESKTOP --date=D [--script=F] [--trace=F] [--slow] [--actions=L] [--add-user] [--dry-run]"
+    codes "hotsync run HANDHELD DESKTOP --date=D [--script=F] [--trace=F] [--only=L] [--slow] [--actions=L] [--add-user] [--dry-run]"
 synopsis Check = codes "hotsync check FILE"
 synopsis Show = codes "hotsync show FILE [--records]"
 synopsis Export =
@@ -30,7 +30,8 @@ synopsis Packet = codes "hotsync packet HEX"
 synopsis Install = codes "hotsync install HANDHELD FILE [--trace=F]"
 synopsis Backup = codes "hotsync backup HANDHELD FOLDER [--script=F] [--trace=F]"
 synopsis Restore = codes "hotsync restore HANDHELD FOLDER [--script=F] [--trace=F]"
-synopsis Device = codes "hotsync device HANDHELD --in=F --out=F"
+synopsis Device =
+    codes "hotsync device HANDHELD {--in=F --out=F | --port=PORT [--trace=F]}"
 synopsis Categories = codes "hotsync categories HANDHELD DESKTOP [--script=F] [--trace=F]"
 synopsis Sync =
     codes "hotsync sync PORT DESKTOP --date=D [--only=L] [--trace=F] [--slow] [--actions=L] [--add-user]"
@@ -39,7 +40,7 @@ synopsis Make = codes "hotsync make SEED N"
 -- the options of a command
 abbrev pub options : CommandWord → List OptionLine
 options Run =
-    Date ∷ DateNow ∷ Script ∷ Trace ∷ Slow ∷ Actions ∷ AddUser ∷ DryRun ∷ []
+    Date ∷ DateNow ∷ Script ∷ Trace ∷ Only ∷ Slow ∷ Actions ∷ AddUser ∷ DryRun ∷ []
 options Check = []
 options Show = Records ∷ []
 options Export = AsText ∷ AsCards ∷ AsTable ∷ AsCalendar ∷ WithoutPrivate ∷ KeepBroken ∷ []
@@ -50,7 +51,7 @@ options Packet = []
 options Install = Trace ∷ []
 options Backup = Script ∷ Trace ∷ []
 options Restore = Script ∷ Trace ∷ []
-options Device = Input ∷ Output ∷ []
+options Device = Input ∷ Output ∷ Port ∷ Trace ∷ []
 options Categories = Script ∷ Trace ∷ []
 options Sync = Date ∷ DateNow ∷ Only ∷ Trace ∷ Slow ∷ Actions ∷ AddUser ∷ []
 options Make = []
@@ -63,9 +64,10 @@ option_words Script = codes "--script=F         what the line does to each frame
 option_words Trace = codes "--trace=F          writes each frame that went over the line"
 option_words Input = codes "--in=F             the bytes that a handheld hears"
 option_words Output = codes "--out=F            the file F for the bytes that it says"
+option_words Port = codes "--port=PORT        the port at which device stands"
 option_words Slow = codes "--slow             reads every record of the handheld"
 option_words Actions = codes "--actions=L        what is done with single databases"
-option_words Only = codes "--only=L           the databases that sync touches"
+option_words Only = codes "--only=L           the databases that are touched"
 option_words AddUser =
     codes "--add-user         where the handheld's user is unknown to the desktop, a place of its own is made"
 option_words DryRun =

@@ -41,7 +41,7 @@ line_feed = 10 ∷ []
 
 -- how the program is called
 abbrev pub usage_line : List ℕ
-usage_line = codes "usage: hotsync run HANDHELD DESKTOP --date=D [--script=F] [--trace=F] [--slow] [--actions=L] [--add-user]" ++ line_feed
+usage_line = codes "usage: hotsync run HANDHELD DESKTOP --date=D [--script=F] [--trace=F] [--only=L] [--slow] [--actions=L] [--add-user]" ++ line_feed
 
 -- what is wrong with the word that stands behind it
 abbrev pub fault_words : FaultKind → List ℕ

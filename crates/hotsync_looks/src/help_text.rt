@@ -43,6 +43,8 @@ pub enum OptionLine {
     Input,
     /// `--out=F`.
     Output,
+    /// `--port=PORT`.
+    Port,
     /// `--slow`.
     Slow,
     /// `--actions=L`.
@@ -75,7 +77,7 @@ fn synopsis(command: CommandWord) -> &'static str
 {
     match command {
         CommandWord::Run => {
-            "hotsync run HANDHELD DESKTOP --date=D [--script=F] [--trace=F] [--slow] [--actions=L] [--add-user] [--dry-run]"
+            "hotsync run HANDHELD DESKTOP --date=D [--script=F] [--trace=F] [--only=L] [--slow] [--actions=L] [--add-user] [--dry-run]"
         }
         CommandWord::Check => "hotsync check FILE",
         CommandWord::Show => "hotsync show FILE [--records]",
@@ -89,7 +91,9 @@ fn synopsis(command: CommandWord) -> &'static str
         CommandWord::Install => "hotsync install HANDHELD FILE [--trace=F]",
         CommandWord::Backup => "hotsync backup HANDHELD FOLDER [--script=F] [--trace=F]",
         CommandWord::Restore => "hotsync restore HANDHELD FOLDER [--script=F] [--trace=F]",
-        CommandWord::Device => "hotsync device HANDHELD --in=F --out=F",
+        CommandWord::Device => {
+            "hotsync device HANDHELD {--in=F --out=F | --port=PORT [--trace=F]}"
+        }
         CommandWord::Categories => "hotsync categories HANDHELD DESKTOP [--script=F] [--trace=F]",
         CommandWord::Sync => {
             "hotsync sync PORT DESKTOP --date=D [--only=L] [--trace=F] [--slow] [--actions=L] [--add-user]"
@@ -108,6 +112,7 @@ fn options(command: CommandWord) -> &'static [OptionLine]
             OptionLine::DateNow,
             OptionLine::Script,
             OptionLine::Trace,
+            OptionLine::Only,
             OptionLine::Slow,
             OptionLine::Actions,
             OptionLine::AddUser,
@@ -130,7 +135,12 @@ fn options(command: CommandWord) -> &'static [OptionLine]
         CommandWord::Install => &[OptionLine::Trace],
         CommandWord::Backup => &[OptionLine::Script, OptionLine::Trace],
         CommandWord::Restore => &[OptionLine::Script, OptionLine::Trace],
-        CommandWord::Device => &[OptionLine::Input, OptionLine::Output],
+        CommandWord::Device => &[
+            OptionLine::Input,
+            OptionLine::Output,
+            OptionLine::Port,
+            OptionLine::Trace,
+        ],
         CommandWord::Categories => &[OptionLine::Script, OptionLine::Trace],
         CommandWord::Sync => &[
             OptionLine::Date,
@@ -156,9 +166,10 @@ fn option_words(option: OptionLine) -> &'static str
         OptionLine::Trace => "--trace=F          writes each frame that went over the line",
         OptionLine::Input => "--in=F             the bytes that a handheld hears",
         OptionLine::Output => "--out=F            the file F for the bytes that it says",
+        OptionLine::Port => "--port=PORT        the port at which device stands",
         OptionLine::Slow => "--slow             reads every record of the handheld",
         OptionLine::Actions => "--actions=L        what is done with single databases",
-        OptionLine::Only => "--only=L           the databases that sync touches",
+        OptionLine::Only => "--only=L           the databases that are touched",
         OptionLine::AddUser => {
             "--add-user         where the handheld's user is unknown to the desktop, a place of its own is made"
         }

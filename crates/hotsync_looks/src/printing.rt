@@ -21,7 +21,7 @@ use trace_text::End;
 
 /// How the program is called.
 pub(crate) const USAGE: &str =
-    "usage: hotsync run HANDHELD DESKTOP --date=D [--script=F] [--trace=F] [--slow] [--actions=L] [--add-user]\n";
+    "usage: hotsync run HANDHELD DESKTOP --date=D [--script=F] [--trace=F] [--only=L] [--slow] [--actions=L] [--add-user]\n";
 
 const NO_MEMORY: &[u8] = b"no memory\n";
 

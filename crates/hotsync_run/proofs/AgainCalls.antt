@@ -3,6 +3,7 @@ use Rattle.std.proofs.Common.{◌≡◌, ◌⊎◌, ◌∙◌, ap, refl, sym, su
 use Rattle.std.specs.Prelude.{Option, IfSome}
 use Rattle.std.specs.Option.{option_map}
 use Rattle.hs_folders.specs.FileMaps.{FileMap}
+use Rattle.run_words.specs.Runs.{run_actions}
 use Rattle.handheld_files.specs.Openings.{HoldsAll}
 use Rattle.desk_journal.specs.Overlays.{FinishesAs, finished}
 use Rattle.desk_store.specs.Desks.{IsDesk}
@@ -15,7 +16,6 @@ use Rattle.hotsync_run.specs.Meetings.{Meets}
 use Rattle.hotsync_run.specs.Runs.{SessionRan, run_command}
 use Rattle.hotsync_run.specs.SessionCalls.{SentNothing}
 use Rattle.hotsync_run.specs.Told.{CallTold}
-use Rattle.hotsync_run.specs.Wishes.{actions_by}
 use Rattle.hotsync_run.specs.declared.report.SessionEnd.{SessionEnd}
 use Rattle.hotsync_run.specs.declared.report.SessionEnd.TheVariants.{Ended, NotStarted, Stopped}
 use Rattle.hotsync_run.proofs.AgainLaws.{AllPrecede, Ran, ended-behind, given_in, last_ran, laters, taken-up}
@@ -55,7 +55,7 @@ record AreSessions (call : RunCall) (later : List RunCall) : Type 0 where
   told : AreTold ran.before
   palm : ran.before.palm.contents ≡ call.before.palm.contents
   desk : FinishesAs call.before.desk.contents ran.before.desk.contents
-  actions : first.run.actions ≡ call.run.actions
+  actions : run_actions first.run ≡ run_actions call.run
   slow : first.run.slow ≡ call.run.slow
   last_given : given_in (last_ran ran others) ≡ (log_in (last_call call later).report).given
   last_after : (last_ran ran others).after ≡ (last_call call later).after
@@ -137,7 +137,7 @@ module _ (call next : RunCall) (later : List RunCall) (did : DidRun call) (repea
             told = did.0;
             next_told = behind.told;
             asks = record {
-              actions = asked.actions ∙ ap actions_by (behind.actions ∙ repeat.actions) ∙ sym session.meets.asked.actions;
+              actions = asked.actions ∙ behind.actions ∙ repeat.actions ∙ sym session.meets.asked.actions;
               slow = asked.slow ∙ behind.slow ∙ repeat.slow ∙ sym session.meets.asked.slow;
             };
             palm = behind.palm ∙ repeat.palm;

@@ -46,7 +46,7 @@ as_run words = record {
   date = 0;
   script = words.script;
   trace = words.trace;
-  actions = None;
+  choice = record { only = None; actions = None };
   slow = false;
   add_user = false;
 }

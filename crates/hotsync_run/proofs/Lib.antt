@@ -59,6 +59,7 @@ pub mod QuietRuns
 pub mod RefusedCalls
 pub mod RefusedRuns
 pub mod RestoreActLaws
+pub mod BackupPromises
 pub mod RestorePromises
 pub mod RestoreRefused
 pub mod RestoreRuns

@@ -3,6 +3,7 @@ use Rattle.std.specs.Prelude.{◌≡◌, ℕ, List, [], ◌∷◌, IsSome}
 use Rattle.handheld_files.specs.Openings.{Stands}
 use Rattle.desk_store.specs.Desks.{IsDesk}
 use Rattle.desk_store.specs.Shelves.{slot_at}
+use Rattle.run_words.specs.Runs.{run_actions}
 use Rattle.session_plan.specs.Merges.{merged_device, merged_slot, merged_slots}
 use Rattle.session_plan.specs.Tasks.{Meeting}
 use Rattle.repeat_laws.specs.Meetings.{IsActive, action_at, found_of, holding_after, ids_at}
@@ -38,7 +39,7 @@ DidRun call = AreTold call.before × IsAnsweredRun call
 -- nothing is edited between two calls, and the words ask the same, but for date, script, trace and
 -- whether a user may be added
 pub record IsRepeat (call next : RunCall) : Type 0 where
-  pub actions : next.run.actions ≡ call.run.actions
+  pub actions : run_actions next.run ≡ run_actions call.run
   pub slow : next.run.slow ≡ call.run.slow
   pub palm : next.before.palm.contents ≡ call.after.palm.contents
   pub desk : next.before.desk.contents ≡ call.after.desk.contents

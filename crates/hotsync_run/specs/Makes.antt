@@ -9,6 +9,7 @@ use Rattle.desk_store.specs.Desks.{IsDesk}
 use Rattle.desk_store.specs.Shelves.{SlotValue}
 use Rattle.trace_text.specs.Fates.{Lost}
 use Rattle.line_script.specs.Rules.{RuleValue, rule_text}
+use Rattle.run_words.specs.Choices.{Choice}
 use Rattle.run_words.specs.Runs.{Run}
 use Rattle.session_parts.specs.declared.report.Counts.{Counts}
 use Rattle.session_parts.specs.declared.report.DbReport.{DbReport}
@@ -31,6 +32,10 @@ use Rattle.hotsync_looks.specs.declared.status.Status.TheVariants.{Done, OutWrit
 
 -- ---- what is asked of it
 
+-- each database, with the action that it has where no word says another
+abbrev pub every_database : Choice
+every_database = record { only = None; actions = None }
+
 -- the words of the session: a run under the date 2001-09-09T01:46:40, without an option
 abbrev pub made_run : Run
 made_run = record {
@@ -39,7 +44,7 @@ made_run = record {
   date = 3082844800;
   script = None;
   trace = None;
-  actions = None;
+  choice = every_database;
   slow = false;
   add_user = false;
 }

@@ -8,7 +8,7 @@ use hotsync_looks::{Status, push_name};
 use hs_folders::Folder;
 use pdb_values::DbName;
 use run_clap::{Command, RunWords, read_command};
-use run_words::{NamedAction, Target, read_actions};
+use run_words::{NamedAction, Target, read_actions, run_actions};
 use session_parts::{Counts, DbReport, Did, Skip};
 use std::alloc::{AllocError, Global};
 
@@ -31,7 +31,8 @@ pub fn hint_words<R: Eprint + AllocGlobal>(
     };
     if let Ok(Command::Run(run) | Command::DryRun(run)) = read_command(rt.alloc(), now, words) {
         hint_date(rt, &run, report);
-        hint_actions(rt, run.actions, report);
+        hint_actions(rt, &run, report);
+        hint_only(rt, &run, report);
     }
 }
 
@@ -55,20 +56,44 @@ fn seconds_of_last(reply: &[u8]) -> u32 {
     }
 }
 
-// Items whose name no database has.
-fn hint_actions<R: Eprint + AllocGlobal>(rt: &R, actions: Option<&str>, report: &Report) {
-    let Some(text) = actions else {
+// Actions of databases that neither side has.
+fn hint_actions<R: Eprint + AllocGlobal>(rt: &R, run: &RunWords<'_>, report: &Report) {
+    let Some(text) = run.choice.actions else {
         return;
     };
-    let Ok(items) = read_actions(rt.alloc(), text) else {
-        return;
-    };
-    for item in &items {
-        hint_action(rt, item, &report.databases);
+    if let Ok(items) = read_actions(rt.alloc(), text) {
+        hint_items(rt, "--actions", &items, &report.databases);
     }
 }
 
-fn hint_action<R: Eprint + AllocGlobal>(rt: &R, item: &NamedAction, databases: &[DbReport]) {
+// Stems of databases that neither side has.
+fn hint_only<R: Eprint + AllocGlobal>(rt: &R, run: &RunWords<'_>, report: &Report) {
+    if run.choice.only.is_none() {
+        return;
+    }
+    if let Ok(items) = run_actions(rt.alloc(), run) {
+        hint_items(rt, "--only", &items, &report.databases);
+    }
+}
+
+// Items of an option whose name no database has.
+fn hint_items<R: Eprint + AllocGlobal>(
+    rt: &R,
+    option: &str,
+    items: &[NamedAction],
+    databases: &[DbReport],
+) {
+    for item in items {
+        hint_item(rt, option, item, databases);
+    }
+}
+
+fn hint_item<R: Eprint + AllocGlobal>(
+    rt: &R,
+    option: &str,
+    item: &NamedAction,
+    databases: &[DbReport],
+) {
     let Target::One(name) = &item.target else {
         return;
     };
@@ -77,7 +102,7 @@ fn hint_action<R: Eprint + AllocGlobal>(rt: &R, item: &NamedAction, databases: &
     }
     if let Ok(stem) = name.file_stem(rt.alloc()) {
         let _ = eprintln!(rt;
-            "hint: no database is called {stem}, so its item of --actions did nothing"
+            "hint: no database is called {stem}, so its item of {option} did nothing"
         );
     }
 }

@@ -47,5 +47,5 @@ pub use hotsync_looks::{FileSide, Status};
 pub use program::{Ended, arguments, run_on_system, run_program};
 pub use report::{Report, SessionEnd};
 pub use session_parts::{Counts, DbReport, Did, FiledCounts, Skip};
-pub use sides::open_desktop;
+pub use sides::{open_desktop, open_handheld};
 pub use tracing::{open_trace, write_text};

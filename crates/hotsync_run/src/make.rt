@@ -6,8 +6,8 @@ ghost use Rattle.handheld_files.specs.Openings.{AreKept, HoldsAll, Stands, opene
 ghost use Rattle.made_folders.specs.Items.{made};
 ghost use Rattle.made_folders.specs.Sides.{desktop_files, handheld_files};
 ghost use Rattle.palm_device.specs.Bounds.{IsBounded};
-ghost use Rattle.run_words.specs.Views.{run_view};
-ghost use Rattle.hotsync_run.specs.Makes.{HasMade, IsMake, made_run, made_script, script_text};
+ghost use Rattle.run_words.specs.Views.{choice_view, run_view};
+ghost use Rattle.hotsync_run.specs.Makes.{HasMade, IsMake, every_database, made_run, made_script, script_text};
 ghost use Rattle.hotsync_looks.specs.Told.{sink_told};
 
 use crate::answer::Answer;
@@ -21,7 +21,7 @@ use hs_folders::{Folder, Sink};
 use line_script::{Script, read_script};
 use made_folders::{MadeFolders, make_folders};
 use pdb_values::PalmDate;
-use run_clap::RunWords;
+use run_clap::{ChoiceWords, RunWords};
 use std::alloc::{AllocError, Global};
 use std::fmt::Write;
 
@@ -33,6 +33,12 @@ const EACH: u32 = 20;
 
 /// How many it loses at most.
 const LOSSES: u32 = 1000;
+
+/// Each database, with the action that it has where no word says another.
+const EVERY_DATABASE: ChoiceWords<'static> = ChoiceWords {
+    only: None,
+    actions: None,
+};
 
 /// Makes the folders of a seed and a count, has the session between them, and prints what was done.
 pub fn make<O: Sink>(alloc: Global, seed: u64, count: u32, out: &mut O) -> (Status, Report)
@@ -60,7 +66,7 @@ fn made_session(alloc: Global, seed: u64, count: u32) -> (Status, Report)
                 desk,
                 script,
             } = sides;
-            let words = made_words();
+            let words = made_words(EVERY_DATABASE);
             let answer = talk(alloc, &words, store, desk, script);
             let Answer {
                 status,
@@ -121,9 +127,9 @@ fn made_sides(alloc: Global, seed: u64, count: u32) -> Result<MadeSides, AllocEr
     })
 }
 
-// The words of the session.
-fn made_words() -> RunWords<'static>
-    ensures { run_view result ≡ made_run }
+// The words of the session, with this choice of databases.
+fn made_words(choice: ChoiceWords<'static>) -> RunWords<'static>
+    ensures { choice_view choice.entry ≡ every_database → run_view result ≡ made_run }
 {
     RunWords {
         handheld: "",
@@ -131,7 +137,7 @@ fn made_words() -> RunWords<'static>
         date: PalmDate::of_seconds(DATE),
         script: None,
         trace: None,
-        actions: None,
+        choice,
         slow: false,
         add_user: false,
     }

@@ -8,7 +8,7 @@ ghost use Rattle.line_script.specs.Rules.{RuleValue};
 ghost use Rattle.trace_check.specs.Judging.{IsProperTrace};
 ghost use Rattle.run_words.specs.Betweens.{Between};
 ghost use Rattle.run_words.specs.Captures.{Capture};
-ghost use Rattle.run_words.specs.Commands.{DryRun, Emulate, Categories, Install, LookAt, Make, Restore};
+ghost use Rattle.run_words.specs.Commands.{Backup, DryRun, Emulate, Categories, Install, LookAt, Make, Restore};
 ghost use Rattle.run_words.specs.declared.look.Look.{Look};
 ghost use Rattle.run_words.specs.Runs.{Run};
 ghost use Rattle.desk_journal.specs.Overlays.{finished};
@@ -19,6 +19,7 @@ ghost use Rattle.category_mirror.specs.FilingEnds.{StandsFiled};
 ghost use Rattle.category_mirror.specs.Sides.{block_writes, filing_of};
 ghost use Rattle.front_laws.specs.Answered.{IsAnsweredExchange};
 ghost use Rattle.hotsync_run.specs.Again.{AllRan, AreOfOneKind, AreTold, EndsAsOne, IsRepeat};
+ghost use Rattle.hotsync_run.specs.Backups.{BackupLeft, BackupRan, backup_command};
 ghost use Rattle.hotsync_run.specs.Besides.{StandsBeside};
 ghost use Rattle.hotsync_run.specs.Calls.{Call, IsAnsweredCall, IsNothing};
 ghost use Rattle.hotsync_run.specs.Causes.{HasBegun};
@@ -39,7 +40,7 @@ ghost use Rattle.hotsync_looks.specs.declared.status.Status.TheVariants.{Done};
 ghost use Rattle.hotsync_run.specs.Runs.{IsRun, run_command};
 ghost use Rattle.hotsync_run.specs.Scripts.{IsScripted};
 ghost use Rattle.hotsync_run.specs.SessionCalls.{SentNothing, StaysAsItWas};
-ghost use Rattle.hotsync_run.specs.Told.{CallTold};
+ghost use Rattle.hotsync_run.specs.Told.{CallTold, sides_of};
 ghost use Rattle.hotsync_run.specs.Undisturbed.{AreGood, EndsWell, IsCalm, IsUndisturbed};
 ghost use Rattle.hotsync_run.specs.declared.report.SessionEnd.TheVariants.{Ended, NotStarted, Stopped};
 
@@ -199,6 +200,19 @@ pub fn an_install_keeps_what_it_promises()
         → (ran : InstallRan words call.before call.after call.status call.report)
         × EachMomentSince (StandsBeside ran.device (ran.database ∷ []))
         call.before.palm.moments call.after.palm.moments }
+{}
+
+/// A backup that is refused before its session changes nothing. However it went, the handheld stands at each moment for what it
+/// was, and the folder has the files of a first part of its databases, each as the handheld has it, over those that were there. Once
+/// it ended, that is all of them.
+pub fn a_backup_keeps_what_it_promises()
+    ensures refused { (call : Call) (words : Between) → IsAnsweredCall call
+        → call.task ≡ Some (Backup words) → call.report.end ≡ NotStarted
+        → SentNothing (backup_command words) call.before call.after call.status call.report }
+    ensures left { (call : Call) (words : Between) → IsAnsweredCall call
+        → call.task ≡ Some (Backup words) → HasBegun call.report.end
+        → (ran : BackupRan words call.before call.after call.status call.report)
+        × BackupLeft ran.device (sides_of call.before) (sides_of call.after) call.report }
 {}
 
 /// A restore that is refused before its session changes nothing, and however it goes nothing in its folder is changed. Once it ended,

@@ -16,8 +16,8 @@
 //!   its bytes in hexadecimal.
 //! - `words WORDS` prints what these words are read as: `usage` where they are out of the form, `help` and the
 //!   command or `version` where they ask for these, and else each word, the date in
-//!   seconds and an option that isn't given as `-`; behind `actions` the names with their actions, and what is done with
-//!   `MemoDB`.
+//!   seconds and an option that isn't given as `-`; behind `actions` the names with their actions, those of `--only` too, and
+//!   what is done with `MemoDB`.
 //! - `system WORDS` calls over the folders, files and standard output of the system, and prints the words behind `$ hotsync`, and
 //!   then what that call prints. These are the calls of the folder `examples`, and some over files that other software wrote.
 //! - `moments` prints how often each folder changed, and `at palm N` takes it as it was after N changes.

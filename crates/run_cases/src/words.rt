@@ -4,7 +4,10 @@ use run_clap::{
     BetweenWords, CaptureWords, Command, ExportForm, ImportForm, Look, LookWords, RunWords, Topic,
     WordsFault, read_command,
 };
-use run_words::{ActionWord, CommandWord, Target, action_of, command_of, read_actions};
+use run_words::{
+    ActionWord, CommandWord, DockWords, Target, action_of, command_of, docking_words, is_docking,
+    run_actions,
+};
 use std::alloc::{AllocError, Global};
 use std::fmt::Write;
 
@@ -13,6 +16,9 @@ pub fn words_text(alloc: Global, now: Option<u32>, line: &str) -> Result<String,
     let mut words = Vec::new(alloc);
     for word in line.split(' ') {
         words.push(String::from_str(alloc, word)?)?;
+    }
+    if is_docking(&words) {
+        return docking_text(alloc, docking_words(&words));
     }
     let in_form = command_of(now, &words).is_some();
     match read_command(alloc, now, &words) {
@@ -102,6 +108,19 @@ fn device_text(alloc: Global, words: &CaptureWords<'_>) -> Result<String, AllocE
     )
 }
 
+// A handheld at a port.
+fn docking_text(alloc: Global, words: Option<DockWords<'_>>) -> Result<String, AllocError> {
+    match words {
+        Some(dock) => format!(in alloc;
+            "device handheld {} port {} trace {}\n",
+            dock.handheld,
+            dock.port,
+            dock.trace.unwrap_or("-")
+        ),
+        None => String::from_str(alloc, "usage\n"),
+    }
+}
+
 fn look_text(alloc: Global, words: &LookWords<'_>) -> Result<String, AllocError> {
     let file = words.file;
     match words.look {
@@ -131,27 +150,28 @@ fn form_text(alloc: Global, form: ExportForm) -> Result<String, AllocError> {
 }
 
 fn run_text(alloc: Global, command: &str, run: &RunWords<'_>) -> Result<String, AllocError> {
-    let actions = actions_text(alloc, run.actions)?;
+    let actions = actions_text(alloc, run)?;
     format!(in alloc;
-        "{command} handheld {} desktop {} date {} script {} trace {} slow {} add-user {} actions{actions}\n",
+        "{command} handheld {} desktop {} date {} script {} trace {} only {} slow {} add-user {} actions{actions}\n",
         run.handheld,
         run.desktop,
         run.date.seconds(),
         run.script.unwrap_or("-"),
         run.trace.unwrap_or("-"),
+        run.choice.only.unwrap_or("-"),
         run.slow,
         run.add_user
     )
 }
 
 // The names with their actions, and what is done with `MemoDB`.
-fn actions_text(alloc: Global, text: Option<&str>) -> Result<String, AllocError> {
+fn actions_text(alloc: Global, run: &RunWords<'_>) -> Result<String, AllocError> {
     let mut said = String::new(alloc);
-    let Some(text) = text else {
+    let actions = run_actions(alloc, run)?;
+    if actions.is_empty() {
         said.push_str(" -")?;
         return Ok(said);
-    };
-    let actions = read_actions(alloc, text)?;
+    }
     for item in &actions {
         let target = target_text(alloc, &item.target)?;
         write!(said, " {target} {}", action_word(item.action))?;

@@ -11,6 +11,6 @@ mod values;
 
 pub use read::{WordsFault, read_command};
 pub use run_words::{
-    BetweenWords, CaptureWords, Command, Export, ExportForm, ImportForm, Look, LookWords,
-    MakeWords, PacketWords, RunWords, Topic,
+    BetweenWords, CaptureWords, ChoiceWords, Command, Export, ExportForm, ImportForm, Look,
+    LookWords, MakeWords, PacketWords, RunWords, Topic,
 };

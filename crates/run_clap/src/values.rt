@@ -4,15 +4,16 @@ ghost use Rattle.clap.specs.Words.{found_of};
 ghost use Rattle.run_clap.specs.Reads.{HoldsWords};
 ghost use Rattle.run_words.specs.Betweens.{between_form, between_in as between_of_words};
 ghost use Rattle.run_words.specs.Captures.{capture_form, capture_in as capture_of_words};
+ghost use Rattle.run_words.specs.Choices.{choice_in as choice_of_words};
 ghost use Rattle.run_words.specs.Commands.{Make, export_form, import_form, make_form, make_in as make_of_words, show_form, show_look, sync_in as sync_of_words};
 ghost use Rattle.run_words.specs.Exports.{export_in as export_of_words, import_in as import_of_words};
 ghost use Rattle.run_words.specs.Runs.{run_form, run_in as run_of_words};
-ghost use Rattle.run_words.specs.Views.{between_view, capture_view, run_view, task_view};
+ghost use Rattle.run_words.specs.Views.{between_view, capture_view, choice_view, run_view, task_view};
 
 use clap::ArgMatches;
 use run_words::{
-    BetweenWords, CaptureWords, Command, Export, ImportForm, Look, MakeWords, RunWords, count_in,
-    date_in, export_form_in, import_form_in, number_in,
+    BetweenWords, CaptureWords, ChoiceWords, Command, Export, ImportForm, Look, MakeWords,
+    RunWords, count_in, date_in, export_form_in, import_form_in, number_in,
 };
 
 // The run that matches hold, at the date now: a dry one where they hold that flag.
@@ -41,10 +42,21 @@ fn run_in<'a>(now: Option<u32>, matches: &ArgMatches<'a>) -> Option<RunWords<'a>
         date,
         script: matches.get_str("script"),
         trace: matches.get_str("trace"),
-        actions: matches.get_str("actions"),
+        choice: choice_in(matches),
         slow: matches.get_flag("slow"),
         add_user: matches.get_flag("add-user"),
     })
+}
+
+// The choice of databases that the matches of a run hold.
+fn choice_in<'a>(matches: &ArgMatches<'a>) -> ChoiceWords<'a>
+    ensures { (words : List (List ℕ)) → HoldsWords run_form words (found_of matches.now)
+        → choice_view result ≡ choice_of_words words }
+{
+    ChoiceWords {
+        only: matches.get_str("only"),
+        actions: matches.get_str("actions"),
+    }
 }
 
 // What the words that matches hold want shown of a file.

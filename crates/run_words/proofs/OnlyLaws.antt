@@ -3,7 +3,7 @@ use Rattle.std.proofs.Common.{◌≡◌, Bool, true, false, List, [], ◌∷◌,
 use Rattle.std.specs.Prelude.{bytes_eq, is_some}
 use Rattle.pdb_values.proofs.NamedLaws.{bytes_eq-is}
 use Rattle.run_words.specs.Actions.{action_for}
-use Rattle.run_words.specs.Cables.{action_among, restricted}
+use Rattle.run_words.specs.Choices.{action_among, restricted}
 use Rattle.run_words.specs.StemNames.{name_of}
 use Rattle.run_words.specs.declared.action.NamedAction.{NamedAction}
 

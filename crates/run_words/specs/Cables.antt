@@ -1,16 +1,10 @@
 -- Which words ask for a session over a cable, and what they give.
-use Rattle.std.specs.Prelude.{◌&&◌, ℕ, Bool, false, not, true, List, [], ◌∷◌, ◌++◌, map, Option, Some, None, codes, bytes_eq, is_none, is_some}
-use Rattle.std.specs.Prelude.{option_map, option_and_then, if◌then◌else◌}
-use Rattle.std.specs.List.{filter_map, list_all, list_any}
-use Rattle.std.specs.Option.{option_map_or, option_or}
-use Rattle.run_words.specs.Actions.{action_for, actions_in, aimed, items_of}
+use Rattle.std.specs.Prelude.{◌&&◌, ℕ, Bool, false, not, true, List, [], ◌∷◌, Option, Some, None, codes, bytes_eq, is_none, option_map, option_and_then, if◌then◌else◌}
+use Rattle.std.specs.Option.{option_or}
+use Rattle.run_words.specs.Choices.{given_actions, is_only_right, restricted_to}
 use Rattle.run_words.specs.Forms.{Form, has_flag, is_of_form, plain_at, value_of}
 use Rattle.run_words.specs.Runs.{are_actions_right, date_of}
-use Rattle.run_words.specs.StemNames.{name_of}
-use Rattle.run_words.specs.declared.action.ActionWord.{ActionWord}
-use Rattle.run_words.specs.declared.action.ActionWord.TheVariants.{Nothing}
 use Rattle.run_words.specs.declared.action.NamedAction.{NamedAction}
-use Rattle.run_words.specs.declared.action.Target.TheVariants.{Others, One}
 
 -- ---- the words
 
@@ -60,14 +54,6 @@ cable_in now words =
     (λ desktop. option_map (cable_between words port desktop) (date_of now words))
     (plain_at 1 words)) (plain_at 0 words)
 
--- stems, with one comma between them
-abbrev pub are_stems : List ℕ → Bool
-are_stems text = list_all (λ stem. is_some (name_of stem)) (items_of (Some text))
-
--- what `--only` gives, where it stands, are stems
-abbrev pub is_only_right : List (List ℕ) → Bool
-is_only_right words = option_map_or are_stems (value_of (codes "only") words) true
-
 -- the session that the words behind `sync` ask for, in any order, at the date now
 unfoldable pub cable_of : Option ℕ → List (List ℕ) → Option Cable
 cable_of now words =
@@ -88,10 +74,6 @@ sync_of now (command ∷ words) =
 
 -- ---- which databases it touches
 
--- the names of these stems
-abbrev pub names_in : List ℕ → List (List ℕ)
-names_in text = filter_map name_of (items_of (Some text))
-
 -- the four databases of a handheld's own applications, where the words name none
 abbrev pub own_stems : List ℕ
 own_stems = codes "MemoDB,AddressDB,DatebookDB,ToDoDB"
@@ -102,29 +84,6 @@ abbrev pub only_of : Cable → Option (List ℕ)
 only_of cable =
     option_or cable.only (if is_none cable.actions then Some own_stems else None)
 
--- the action of each of these names, and nothing for all other databases
-abbrev pub restricted : List (List ℕ) → List NamedAction → List NamedAction
-restricted names actions =
-    map (λ name. aimed (One name) (action_for name actions)) names ++ aimed Others Nothing ∷ []
-
-abbrev pub restricted_to : Option (List ℕ) → List NamedAction → List NamedAction
-restricted_to None actions = actions
-restricted_to (Some stems) actions = restricted (names_in stems) actions
-
--- the actions that the words give
-abbrev pub given_actions : Option (List ℕ) → List NamedAction
-given_actions None = []
-given_actions (Some text) = actions_in text
-
 -- what is done with the databases: what the words say, and nothing with those that they don't touch
 abbrev pub cable_actions : Cable → List NamedAction
 cable_actions cable = restricted_to (only_of cable) (given_actions cable.actions)
-
--- one of these names
-abbrev pub is_among : List (List ℕ) → List ℕ → Bool
-is_among names name = list_any (λ other. bytes_eq other name) names
-
--- what is done with the database of a name, where these alone are touched
-abbrev pub action_among : List (List ℕ) → List NamedAction → List ℕ → ActionWord
-action_among names actions name =
-    if is_among names name then action_for name actions else Nothing

@@ -4,8 +4,9 @@ use Rattle.std.specs.List.{find, list_any}
 use Rattle.std.specs.Option.{option_map_or, option_or}
 use Rattle.run_words.specs.Actions.{is_actions_text}
 use Rattle.run_words.specs.Betweens.{between_form}
-use Rattle.run_words.specs.Cables.{are_stems, cable_form}
+use Rattle.run_words.specs.Cables.{cable_form}
 use Rattle.run_words.specs.Captures.{capture_form}
+use Rattle.run_words.specs.Choices.{are_stems}
 use Rattle.run_words.specs.Commands.{export_form, file_form, import_form, make_form, packet_form, show_form}
 use Rattle.run_words.specs.Exports.{is_form_word}
 use Rattle.run_words.specs.Forms.{Form, NamedOption, flag_count, is_flag, is_option, is_word, option_count, plain_at, plain_words, value_of}

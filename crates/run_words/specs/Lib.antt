@@ -2,7 +2,9 @@ pub mod Actions
 pub mod Betweens
 pub mod Cables
 pub mod Captures
+pub mod Choices
 pub mod Commands
+pub mod Docks
 pub mod Exports
 pub mod Faults
 pub mod Forms

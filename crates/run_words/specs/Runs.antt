@@ -3,15 +3,17 @@ use Rattle.std.specs.Prelude.{ℕ, Bool, true, false, ◌&&◌, List, [], ◌∷
 use Rattle.std.specs.Option.{option_map_or}
 use Rattle.pdb_values.specs.PalmDates.{if_later, read_text}
 use Rattle.run_words.specs.Actions.{is_actions_text}
+use Rattle.run_words.specs.Choices.{Choice, choice_in, chosen_actions, is_only_right}
 use Rattle.run_words.specs.Forms.{Form, has_flag, is_of_form, plain_at, value_of}
+use Rattle.run_words.specs.declared.action.NamedAction.{NamedAction}
 
 -- the seconds of a date word, where these are the seconds of the date now: `now`, unless they are
 -- 0, or a date that is written
 abbrev pub date_at : Option ℕ → List ℕ → Option ℕ
 date_at now word = if bytes_eq word (codes "now") then if_later now else read_text word
 
--- `HANDHELD DESKTOP --date=D [--script=F] [--trace=F] [--actions=L] [--slow] [--add-user]
--- [--dry-run]`
+-- `HANDHELD DESKTOP --date=D [--script=F] [--trace=F] [--only=L] [--actions=L] [--slow]
+-- [--add-user] [--dry-run]`
 abbrev pub run_form : Form
 run_form = record {
   plain = codes "handheld" ∷ codes "desktop" ∷ [];
@@ -20,6 +22,7 @@ run_form = record {
     is_required = false;
   }
       ∷ record { name = codes "trace"; is_required = false }
+      ∷ record { name = codes "only"; is_required = false }
       ∷ record { name = codes "actions"; is_required = false } ∷ [];
   flags = codes "slow" ∷ codes "add-user" ∷ codes "dry-run" ∷ [];
 }
@@ -31,7 +34,7 @@ pub record Run : Type 0 where
   pub date : ℕ
   pub script : Option (List ℕ)
   pub trace : Option (List ℕ)
-  pub actions : Option (List ℕ)
+  pub choice : Choice
   pub slow : Bool
   pub add_user : Bool
 
@@ -43,7 +46,7 @@ run_between words handheld desktop date = record {
   date = date;
   script = value_of (codes "script") words;
   trace = value_of (codes "trace") words;
-  actions = value_of (codes "actions") words;
+  choice = choice_in words;
   slow = has_flag (codes "slow") words;
   add_user = has_flag (codes "add-user") words;
 }
@@ -67,4 +70,9 @@ are_actions_right words = option_map_or is_actions_text (value_of (codes "action
 -- the run that the words behind `run` ask for, in any order, at the date now
 unfoldable pub run_of : Option ℕ → List (List ℕ) → Option Run
 run_of now words =
-    if is_of_form run_form words && are_actions_right words then run_in now words else None
+    if is_of_form run_form words && (are_actions_right words && is_only_right words)
+    then run_in now words else None
+
+-- what the run does with the databases
+abbrev pub run_actions : Run → List NamedAction
+run_actions run = chosen_actions run.choice

@@ -3,17 +3,21 @@ use Rattle.std.specs.Prelude.{map, option_copied}
 use Rattle.run_words.specs.Betweens.{Between}
 use Rattle.run_words.specs.Cables.{Cable}
 use Rattle.run_words.specs.Captures.{Capture}
+use Rattle.run_words.specs.Choices.{Choice}
 use Rattle.run_words.specs.Commands.{Task, Sync, DryRun, LookAt, Scan, Make, Install, Backup, Restore, Emulate, Categories, Help}
 use Rattle.run_words.specs.Faults.{Fault}
+use Rattle.run_words.specs.Docks.{Dock}
 use Rattle.run_words.specs.Forms.{Form, NamedOption}
 use Rattle.run_words.specs.Runs.{Run}
 use Rattle.run_words.specs.Words.{bytes_of}
 use Rattle.run_words.specs.declared.between.BetweenWords.{BetweenWords}
 use Rattle.run_words.specs.declared.cable.CableWords.{CableWords}
 use Rattle.run_words.specs.declared.capture.CaptureWords.{CaptureWords}
+use Rattle.run_words.specs.declared.choice.ChoiceWords.{ChoiceWords}
 use Rattle.run_words.specs.declared.command.Command.{Command}
 use Rattle.run_words.specs.declared.command.Command.TheVariants as commands
 use Rattle.run_words.specs.declared.fault.WordFault.{WordFault}
+use Rattle.run_words.specs.declared.dock.DockWords.{DockWords}
 use Rattle.run_words.specs.declared.form.ValueOption.{ValueOption}
 use Rattle.run_words.specs.declared.form.WordForm.{WordForm}
 use Rattle.run_words.specs.declared.run.RunWords.{RunWords}
@@ -30,6 +34,13 @@ form_view form = record {
   flags = map (λ name. name.now) form.flags.now;
 }
 
+-- the choice of the words
+abbrev pub choice_view : ChoiceWords → Choice
+choice_view choice = record {
+  only = option_copied choice.only;
+  actions = option_copied choice.actions;
+}
+
 -- the run of the words
 abbrev pub run_view : RunWords → Run
 run_view run = record {
@@ -38,7 +49,7 @@ run_view run = record {
   date = run.date;
   script = option_copied run.script;
   trace = option_copied run.trace;
-  actions = option_copied run.actions;
+  choice = choice_view run.choice;
   slow = run.slow;
   add_user = run.add_user;
 }
@@ -71,6 +82,14 @@ capture_view words = record {
   handheld = words.handheld.now;
   input = words.input.now;
   output = words.output.now;
+}
+
+-- the handheld at a port of the words
+abbrev pub dock_view : DockWords → Dock
+dock_view dock = record {
+  handheld = dock.handheld.now;
+  port = dock.port.now;
+  trace = option_copied dock.trace;
 }
 
 -- what the words ask for

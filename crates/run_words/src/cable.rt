@@ -1,10 +1,10 @@
 // The words of a session over a cable.
 ghost use Rattle.std.specs.Prelude.{◌≡◌, map, string_bytes, option_map};
-ghost use Rattle.run_words.specs.Cables.{begins_sync, cable_in as cable_of_words, cable_of, is_only_right as is_right, sync_of};
+ghost use Rattle.run_words.specs.Cables.{begins_sync, cable_in as cable_of_words, cable_of, sync_of};
 ghost use Rattle.run_words.specs.Views.{cable_view};
 
+use crate::choice::is_only_right;
 use crate::form::{ValueOption, WordForm, has_flag, is_of_form, plain_at, value_of};
-use crate::only::are_stems;
 use crate::run::{are_actions_right, date_in};
 use pdb_values::PalmDate;
 
@@ -51,16 +51,6 @@ pub struct CableWords<'a> {
     pub slow: bool,
     /// Whether a user that the desktop doesn't know is added.
     pub add_user: bool,
-}
-
-// Whether what `--only` gives, where it stands, are stems.
-fn is_only_right(words: &[String]) -> bool
-    ensures { result ≡ is_right (map string_bytes words.now) }
-{
-    match value_of(words, "only") {
-        Some(only) => are_stems(only),
-        None => true,
-    }
 }
 
 // The session that words of the form give, at the date now.

@@ -1,12 +1,12 @@
 //! The words of a command line: which are in the form, what they ask for, and which of them is at fault where they ask for
 //! nothing.
 //!
-//! The first word is the command: `run HANDHELD DESKTOP --date=D [--script=F] [--trace=F] [--slow] [--actions=L] [--add-user]
-//! [--dry-run]`, `check FILE`, `show FILE [--records]`, `export FILE --as=FORM [--date=D] [--without-private] [--keep-broken]`,
+//! The first word is the command: `run HANDHELD DESKTOP --date=D [--script=F] [--trace=F] [--only=L] [--slow] [--actions=L]
+//! [--add-user] [--dry-run]`, `check FILE`, `show FILE [--records]`, `export FILE --as=FORM [--date=D] [--without-private] [--keep-broken]`,
 //! `import FILE --as=txt`, `verify FILE`, `picture FILE`, `packet HEX`, `make SEED N`,
 //! `install HANDHELD FILE [--trace=F]`, `backup` or `restore HANDHELD FOLDER [--script=F] [--trace=F]`,
 //! `device HANDHELD --in=F --out=F` or `categories HANDHELD DESKTOP [--script=F] [--trace=F]`; and `sync PORT DESKTOP
-//! --date=D [--only=L] [--trace=F] [--slow] [--actions=L] [--add-user]`, which has a call of its own. `help [COMMAND]`,
+//! --date=D [--only=L] [--trace=F] [--slow] [--actions=L] [--add-user]` and `device HANDHELD --port=PORT [--trace=F]`, which have calls of their own. `help [COMMAND]`,
 //! `--help`, `COMMAND .. --help` and `--version` ask for help. The form of the words behind a command is a table, and they
 //! stand in any order. A plain word is not empty and does not begin with `-`. A date is written, or it is `now`, the date
 //! that the caller hands over. No call takes memory but for the list of actions.
@@ -17,7 +17,9 @@ mod action_list;
 mod between;
 mod cable;
 mod capture;
+mod choice;
 mod command;
+mod dock;
 mod fault;
 mod form;
 mod hexadecimal;
@@ -34,13 +36,15 @@ pub use action_list::{is_actions, read_actions};
 pub use between::{BETWEEN, BetweenWords};
 pub use cable::{CABLE, CableWords, is_sync, sync_words};
 pub use capture::{CAPTURE, CaptureWords};
+pub use choice::ChoiceWords;
 pub use command::{
     Command, EXPORT, FILE, IMPORT, MAKE, MakeWords, PACKET, PacketWords, SHOW, command_of, deed_of,
 };
+pub use dock::{DOCK, DockWords, docking_words, is_docking};
 pub use fault::{FaultKind, INSTALL, WordFault, fault_of};
 pub use form::{ValueOption, WordForm};
 pub use look::{Export, ExportForm, ImportForm, Look, LookWords, export_form_in, import_form_in};
 pub use number::{count_in, number_in};
-pub use only::{cable_actions, only_these_are_touched};
+pub use only::{cable_actions, only_these_are_touched, run_actions};
 pub use run::{RUN, RunWords, date_in};
 pub use topic::{CommandWord, Topic, command_word, help_of};

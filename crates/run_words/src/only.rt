@@ -1,13 +1,16 @@
 // The databases of `--only=L`.
 ghost use Rattle.std.specs.Prelude.{◌≡◌, IfOk, List, ℕ, option_copied};
 ghost use Rattle.run_words.specs.Actions.{action_for};
-ghost use Rattle.run_words.specs.Cables.{action_among, are_stems as are_stems_in, cable_actions as actions_of_cable, given_actions as given_by, names_in, only_of, restricted as restricted_actions, restricted_to as restricted_by};
-ghost use Rattle.run_words.specs.Views.{cable_view};
+ghost use Rattle.run_words.specs.Cables.{cable_actions as actions_of_cable, only_of};
+ghost use Rattle.run_words.specs.Choices.{action_among, are_stems as are_stems_in, given_actions as given_by, names_in, restricted as restricted_actions, restricted_to as restricted_by};
+ghost use Rattle.run_words.specs.Runs.{run_actions as actions_of_run};
+ghost use Rattle.run_words.specs.Views.{cable_view, run_view};
 ghost use Rattle.run_words.specs.declared.action.NamedAction.{NamedAction as ActionValue};
 
 use crate::action::{ActionWord, NamedAction, Target, action_of};
 use crate::action_list::{first_item, read_actions};
 use crate::cable::CableWords;
+use crate::run::RunWords;
 use crate::stem::name_of;
 use pdb_values::DbName;
 use std::alloc::{AllocError, Global};
@@ -105,6 +108,14 @@ fn only_stems<'a>(words: &CableWords<'a>) -> Option<&'a str>
         None if words.actions.is_none() => Some(OWN_STEMS),
         None => None,
     }
+}
+
+/// What a run does with the databases: what its words say, and where these name some by `--only`, nothing with all others.
+pub fn run_actions(alloc: Global, words: &RunWords<'_>) -> Result<Vec<NamedAction>, AllocError>
+    ensures { IfOk result (λ actions. actions.items ≡ actions_of_run (run_view words.now)) }
+{
+    let actions = given_actions(alloc, words.choice.actions)?;
+    restricted_to(alloc, words.choice.only, actions)
 }
 
 /// What is done with the databases: what these words say, and nothing with those that they don't touch.

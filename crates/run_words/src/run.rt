@@ -5,6 +5,7 @@ ghost use Rattle.run_words.specs.Runs.{are_actions_right as are_right, date_at, 
 ghost use Rattle.run_words.specs.Views.{run_view};
 
 use crate::action_list::is_actions;
+use crate::choice::{ChoiceWords, choice_in, is_only_right};
 use crate::form::{ValueOption, WordForm, has_flag, is_of_form, plain_at, value_of};
 use pdb_values::PalmDate;
 
@@ -22,6 +23,10 @@ pub const RUN: WordForm<'static> = WordForm {
         },
         ValueOption {
             name: "trace",
+            is_required: false,
+        },
+        ValueOption {
+            name: "only",
             is_required: false,
         },
         ValueOption {
@@ -45,8 +50,8 @@ pub struct RunWords<'a> {
     pub script: Option<&'a str>,
     /// The path of the trace that is written.
     pub trace: Option<&'a str>,
-    /// The text of the actions.
-    pub actions: Option<&'a str>,
+    /// The choice of databases.
+    pub choice: ChoiceWords<'a>,
     /// Whether each database is read whole.
     pub slow: bool,
     /// Whether a user that the desktop doesn't know is added.
@@ -100,7 +105,7 @@ fn run_in<'a>(now: Option<u32>, words: &'a [String]) -> Option<RunWords<'a>>
         date,
         script: value_of(words, "script"),
         trace: value_of(words, "trace"),
-        actions: value_of(words, "actions"),
+        choice: choice_in(words),
         slow: has_flag(words, "slow"),
         add_user: has_flag(words, "add-user"),
     })
@@ -111,7 +116,7 @@ fn run_in<'a>(now: Option<u32>, words: &'a [String]) -> Option<RunWords<'a>>
 pub fn run_words<'a>(now: Option<u32>, words: &'a [String]) -> Option<RunWords<'a>>
     ensures { option_map run_view result ≡ run_of now (map string_bytes words.entry.now) }
 {
-    if is_of_form(&RUN, words) && are_actions_right(words) {
+    if is_of_form(&RUN, words) && are_actions_right(words) && is_only_right(words) {
         run_in(now, words)
     } else {
         None

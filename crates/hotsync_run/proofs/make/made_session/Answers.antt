@@ -10,7 +10,7 @@ returns-in-Ok-clause-made c =
     let sides = c.in-Ok.sides in
     let told = c.in-Ok.ensures in
     made_talk _ (made_items c.args.seed c.args.count c.requires) (made_merge c.args.seed c.args.count c.requires) told.held refl told.slots
-    (made_given items c.made_words-words.ensures told.script (told_alone told.palm) (told_alone told.desk) c.talk-answer.ensures.talk)
+    (made_given items (c.made_words-words.ensures refl) told.script (told_alone told.palm) (told_alone told.desk) c.talk-answer.ensures.talk)
 
 pub returns-in-Ok-clause-ends : goal.returns-in-Ok-clause-ends
 returns-in-Ok-clause-ends c =
@@ -19,5 +19,5 @@ returns-in-Ok-clause-ends c =
     let told = c.in-Ok.ensures in
     made_ends _ c.talk-answer.result.report (made_items c.args.seed c.args.count c.requires) (made_merge c.args.seed c.args.count c.requires)
     refl refl told.held refl told.slots
-    (made_given items c.made_words-words.ensures told.script (told_alone told.palm) (told_alone told.desk) c.talk-answer.ensures.talk)
+    (made_given items (c.made_words-words.ensures refl) told.script (told_alone told.palm) (told_alone told.desk) c.talk-answer.ensures.talk)
     c.talk-answer.ensures.unsaid
