@@ -1,13 +1,14 @@
-//! The program `hotsync`: the call of the same name over real folders, files and standard output, and the one over a port.
+//! The program `hotsync`: the call of the same name over real folders, files and standard output, and those over a port.
 #![tactic(auto)]
 
 use hotsync_run::{arguments, run_on_system};
-use port_run::{asks_sync, sync_on_system};
+use port_run::{asks_docking, asks_sync, serve_on_system, sync_on_system};
 use std::process::ExitCode;
 
 fn main(rt: HostRuntime) -> ExitCode {
     match arguments(&rt) {
         Ok(args) if asks_sync(&args) => sync_on_system(&rt, &args),
+        Ok(args) if asks_docking(&args) => serve_on_system(&rt, &args),
         _ => run_on_system(&rt),
     }
 }

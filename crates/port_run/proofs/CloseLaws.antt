@@ -4,7 +4,7 @@ use Rattle.std.proofs.Common.{◌≡◌, Option, Some, Result, Ok, Err, sym, sub
 use Rattle.std.specs.Global.{Vec}
 use Rattle.std.specs.Prelude.{IsErrOf}
 use Rattle.hotsync_run.specs.Causes.{IsUnsaid}
-use Rattle.hotsync_run.specs.Closings.{left_end}
+use Rattle.hotsync_run.specs.Closings.{left_databases, left_end}
 use Rattle.hotsync_looks.specs.declared.status.Status.{Status}
 use Rattle.hotsync_looks.specs.declared.status.Status.TheVariants.{PortFailed, DesktopFolder}
 use Rattle.port_link.specs.declared.port_cause.PortCause.{PortCause}
@@ -29,6 +29,7 @@ stop_blames down why = grind (arith, common_steps)
 -- the same by what a session answered
 pub record Closing (down : Option PortCause) (answer : Result (Vec DbReport) Stop) (closed : Closed) : Type 0 where
   pub end : closed.end ≡ left_end answer
+  pub databases : closed.databases.items ≡ left_databases answer
   pub over : IsOver closed.end down closed.status
   pub port : closed.status ≡ PortFailed → down ≡ Some cause.PortFailed
   pub desktop : closed.status ≡ DesktopFolder → IsErrOf answer stop.DeskFault
@@ -37,6 +38,7 @@ pub record Closing (down : Option PortCause) (answer : Result (Vec DbReport) Sto
 pub closing : (down : Option PortCause) (answer : Result (Vec DbReport) Stop) (closed : Closed) → IsClosed down answer closed → Closing down answer closed
 closing down (Ok databases) closed is = record {
   end = is.1;
+  databases = ap (λ (made : Vec DbReport). made.items) is.2;
   over = subst (λ end. IsOver end down closed.status) (sym is.1) is.0;
   port = λ e. absurd cc;
   desktop = λ e. absurd cc;
@@ -46,6 +48,7 @@ closing down (Err why) closed is =
     let blames = subst (Blames down why) (sym is.0) (stop_blames down why) in
     record {
       end = is.1;
+      databases = is.2;
       over = subst (λ end. IsOver end down closed.status) (sym is.1) (why, is.0);
       port = blames.port;
       desktop = λ e. ap Err (blames.desktop e);

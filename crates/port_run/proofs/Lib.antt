@@ -1,5 +1,10 @@
 pub mod LinkLaws
+pub mod DockLaws
 pub mod LogLaws
 pub mod CloseLaws
+pub mod TalkedLaws
+pub mod LeftLaws
+pub mod BehindLaws
 pub mod TalkLaws
 pub mod SyncLaws
+pub mod EqualLaws

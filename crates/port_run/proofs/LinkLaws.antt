@@ -16,8 +16,8 @@ calls-still (call ∷ calls) cause old new is it =
     calls-still calls cause it.0 new (ap (λ (link : LinkValue). link.cause) same ∙ is) it.2 ∙ same
 
 call-goes : (call : Call) (old new : LinkValue) → old.cause ≡ None → IsCall old.cause call old new → GoesOn old new
-call-goes Hello old new is it = (subst (λ (o : Option PortCause). IsCall o Hello old new) is it).1.goes_on
-call-goes (Exchange request) old new is it = (subst (λ (o : Option PortCause). IsCall o (Exchange request) old new) is it).1.goes_on
+call-goes Hello old new is it = (subst (λ (o : Option PortCause). IsCall o Hello old new) is it).says.goes_on
+call-goes (Exchange request) old new is it = (subst (λ (o : Option PortCause). IsCall o (Exchange request) old new) is it).asks.goes_on
 
 goes-same : (old : LinkValue) → old.cause ≡ None → GoesOn old old
 goes-same old none = record { paths = refl; faults = record { later = omega arith; rose = λ e. absurd cc; still = λ no. refl } }

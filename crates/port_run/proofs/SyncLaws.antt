@@ -1,11 +1,23 @@
 -- What is known of a call over a cable with a session, from before its objects were opened on.
 use Rattle.std.proofs.lemmas.Grind.{common_steps}
-use Rattle.std.proofs.Common.{◌≡◌, ◌∙◌, ◌-◌, ◌^◌, ◌≤◌, inl, inr, Option, sym, subst, ap, arith}
+use Rattle.std.proofs.Common.{◌≡◌, ◌⊎◌, ◌∙◌, ◌-◌, ◌^◌, ◌≤◌, inl, inr, List, Option, Some, None, refl, sym, subst, ap, arith}
+use Rattle.std.specs.Prelude.{IfSome}
 use Rattle.std.specs.Option.{option_map}
 use Rattle.hs_folders.specs.FileMaps.{FileMap}
 use Rattle.hs_folders.specs.Moments.{EachMomentSince}
 use Rattle.hs_folders.proofs.MomentLaws.{moments_go_on, moments_weaken}
 use Rattle.desk_journal.specs.Overlays.{FinishesAs, finished, put_all}
+use Rattle.desk_store.specs.Desks.{IsDesk}
+use Rattle.desk_store.specs.Shelves.{SlotValue}
+use Rattle.device_stream.specs.Hands.{Hand}
+use Rattle.dlp_commands.specs.Talks.{Talk}
+use Rattle.palm_device.specs.Devices.{Device}
+use Rattle.port_laws.specs.Palms.{Palm}
+use Rattle.port_link.specs.Calls.{LinkValue}
+use Rattle.session_parts.specs.Rests.{IsAtRest}
+use Rattle.session_plan.specs.Merges.{merged_slots}
+use Rattle.session_plan.specs.Tasks.{Meeting, meeting_of}
+use Rattle.sync_session.specs.Outcomes.{StandsForSlots}
 use Rattle.run_words.specs.Cables.{Cable}
 use Rattle.trace_text.specs.declared.frame.End.{End}
 use Rattle.port_link.specs.declared.port_cause.PortCause.{PortCause}
@@ -23,6 +35,7 @@ use Rattle.hotsync_run.specs.declared.report.SessionEnd.TheVariants.{NotStarted,
 use Rattle.hotsync_run.proofs.RetoldLaws.{by_end_both, by_end_then}
 use Rattle.hotsync_run.proofs.SessionRuns.{rose_earlier, traced_from}
 use Rattle.port_run.specs.Causes.{stop_status}
+use Rattle.port_run.specs.Ends.{BothLeft, LeftFor, SessionLeft}
 use Rattle.port_run.specs.Reports.{IsOver}
 use Rattle.port_run.specs.Syncs.{HasSynced, SentNothing, SessionRan, TracesTalk}
 use Rattle.port_run.specs.Talks.{DesktopRan, KeptSilent, StaysUnsaid, Talked}
@@ -73,15 +86,57 @@ over_not_in_use NotStarted cause status end over e = absurd over
 over_not_in_use Ended cause status end over e = absurd cc
 over_not_in_use Stopped cause status end over e = stop_not_in_use cause over.0 end (sym over.1 ∙ e)
 
+-- ---- both sides
+
+-- what is left of them, from before the journal was finished on
+left_from : {meeting : Meeting} {talk : Talk} {hand : Hand} {first before after : FolderTold} {report : CableReport} → StandsAsItDid first before
+    → SessionLeft meeting talk hand before after report → SessionLeft meeting talk hand first after report
+left_from {meeting} {talk} {hand} {first} {before} {after} {report} stood left = record {
+  sound = left.sound;
+  issued = left.issued;
+  ran = left.ran;
+  front = left.front;
+  ended = left.ended;
+  stopped = λ e. elim (left.stopped e) [
+    | inl before ↦ inl (record { stands = before.stands ∙ stood.stands; writes = before.writes })
+    | inr behind ↦ inr behind
+  ];
+  given = left.given;
+  moments = moments_go_on Stood first.moments before.moments after.moments
+      (moments_weaken (FinishesAs first.contents) Stood first.moments before.moments stood.each_moment (λ told stands. inl stands))
+      (moments_weaken (λ told. FinishesAs before.contents told ⊎ StandsForSlots (merged_slots meeting left.given) told) Stood before.moments after.moments
+      left.moments weaker);
+} where
+  Stood : Option FileMap → Type 0
+  Stood told = FinishesAs first.contents told ⊎ StandsForSlots (merged_slots meeting left.given) told
+
+  weaker : (told : Option FileMap) → FinishesAs before.contents told ⊎ StandsForSlots (merged_slots meeting left.given) told → Stood told
+  weaker told (inl stands) = inl (stands ∙ stood.stands)
+  weaker told (inr stands) = inr stands
+
+both_from : {cable : Cable} {device : Device} {slots : List SlotValue} {after : Option Palm} {first before later : FolderTold} {last : LinkValue}
+    {report : CableReport} → IsDesk (option_map finished first.contents) slots → StandsAsItDid first before
+    → LeftFor cable device slots after before later last report → BothLeft cable device after first later last report
+both_from {device = device} {slots} desk stood left = record {
+  meeting = meeting_of device slots left.wishes;
+  meets = record { handheld = refl; desktop = desk; picked = refl; asked = left.asked };
+  talk = left.talk;
+  told = left.told;
+  palm = left.palm;
+  palm_is = left.palm_is;
+  left = left_from stood left.left;
+}
+
 -- ---- the whole call
 
 -- what stands between the opening of all objects and their session
-pub record AreOpened (cable : Cable) (before : SyncTold) (port : PortTold) (desk : FolderTold) (trace : SinkTold) : Type 0 where
+pub record AreOpened (cable : Cable) (slots : List SlotValue) (before : SyncTold) (port : PortTold) (desk : FolderTold) (trace : SinkTold) : Type 0 where
   pub unsaid : StaysUnsaid before.port port
   pub port_opened : Opens cable.port before.port.paths port.paths
   pub port_later : before.port.faults ≤ port.faults
   pub desktop : HasDesktop before.desk.contents
   pub finished_is : desk.contents ≡ option_map finished before.desk.contents
+  pub slots_are : IsDesk (option_map finished before.desk.contents) slots
   pub stands : StandsAsItDid before.desk desk
   pub desk_opened : Opens cable.desktop before.desk.paths desk.paths
   pub desk_later : before.desk.faults ≤ desk.faults
@@ -90,8 +145,8 @@ pub record AreOpened (cable : Cable) (before : SyncTold) (port : PortTold) (desk
   pub trace_taken : trace.taken ≡ before.trace.taken
   pub trace_later : before.trace.faults ≤ trace.faults
 
-module _ {cable : Cable} (before after : SyncTold) {port : PortTold} {desk : FolderTold} {trace : SinkTold} {status : Status} {report : CableReport}
-    (opened : AreOpened cable before port desk trace) (talk : TracesTalk cable port desk trace after status report) where
+module _ {cable : Cable} {slots : List SlotValue} (before after : SyncTold) {port : PortTold} {desk : FolderTold} {trace : SinkTold} {status : Status}
+    {report : CableReport} (opened : AreOpened cable slots before port desk trace) (talk : TracesTalk cable slots port desk trace after status report) where
   silent_sync : KeptSilent port after.port desk after.desk talk.said report → SentNothing cable before after status report
   silent_sync kept =
       let memory = traced_memory talk.said status talk.traces.stands.status_is kept.memory in
@@ -104,7 +159,15 @@ module _ {cable : Cable} (before after : SyncTold) {port : PortTold} {desk : Fol
         trace = talk.silent kept.silent.log ∙ opened.trace_taken;
       }
 
-  session_sync : Talked port after.port desk after.desk talk.said report → SessionRan cable before after status report
+  both_sync : (last : LinkValue) (told : Option Palm)
+      → IfSome told (λ (palm : Palm). IsAtRest palm.hand.device
+      → LeftFor cable palm.hand.device slots after.port.palm desk after.desk last report)
+      → IfSome told (λ (palm : Palm). IsAtRest palm.hand.device
+      → BothLeft cable palm.hand.device after.port.palm before.desk after.desk last report)
+  both_sync last None both = tt
+  both_sync last (Some palm) both = λ rests. both_from opened.slots_are opened.stands (both rests)
+
+  session_sync : Talked cable slots port after.port desk after.desk talk.said report → SessionRan cable before after status report
   session_sync had = record {
     desktop = opened.desktop;
     opened = port;
@@ -113,13 +176,14 @@ module _ {cable : Cable} (before after : SyncTold) {port : PortTold} {desk : Fol
     changed = desktop_ran opened.finished_is opened.stands had.changed;
     tells = record { said = talk.said; over = had.over; traced = talk.traces.stands.status_is };
     traced = traced_from before.trace opened.trace_taken opened.trace_later talk.traces.traced_is;
+    both = both_sync had.link.last port.palm had.both;
   }
 
   not_in_use : (end : End) → status ≡ InUse end → ⊥
   not_in_use end e =
       let same = traced_in_use talk.said status end talk.traces.stands.status_is e in
-      by_end_both report.end {A = KeptSilent port after.port desk after.desk talk.said report} {B = Talked port after.port desk after.desk talk.said report}
-      {C = ⊥} (λ kept. let memory = kept.memory in absurd cc) (λ had. over_not_in_use report.end report.cause talk.said end had.over same) talk.talked.shown
+      by_end_both report.end {A = KeptSilent port after.port desk after.desk talk.said report}
+      {B = Talked cable slots port after.port desk after.desk talk.said report} {C = ⊥} (λ kept. let memory = kept.memory in absurd cc) (λ had. over_not_in_use report.end report.cause talk.said end had.over same) talk.talked.shown
 
   -- a call with a session
   pub by_session : HasSynced cable before after status report
@@ -127,7 +191,7 @@ module _ {cable : Cable} (before after : SyncTold) {port : PortTold} {desk : Fol
       let said = talk.traces.stands in
       record {
         shown = by_end_then report.end {A = KeptSilent port after.port desk after.desk talk.said report}
-            {B = Talked port after.port desk after.desk talk.said report} {C = SentNothing cable before after status report}
+            {B = Talked cable slots port after.port desk after.desk talk.said report} {C = SentNothing cable before after status report}
             {D = SessionRan cable before after status report} silent_sync session_sync talk.talked.shown;
         blames = record {
           port = λ e. rose_earlier (2 ^ 64 - 1) before.port.faults port.faults after.port.faults opened.port_later

@@ -1,30 +1,47 @@
 -- What is known of a session over a cable, by all that its calls answered.
-use Rattle.std.proofs.Common.{◌≡◌, ◌∙◌, ◌≤◌, ℕ, List, Option, Vec, Global, refl, sym, subst, ap, arith}
+use Rattle.std.proofs.Common.{◌≡◌, ◌∙◌, ◌<◌, ◌≤◌, ◌^◌, ℕ, true, List, Option, Some, None, Vec, Global, refl, sym, subst, ap, arith}
+use Rattle.std.specs.Prelude.{IfSome, Result}
 use Rattle.hs_folders.specs.Causes.{Rose}
 use Rattle.hs_folders.specs.FileMaps.{FileMap}
 use Rattle.hs_folders.specs.Moments.{Moments}
 use Rattle.hs_folders.proofs.MomentLaws.{no_moment}
 use Rattle.desk_journal.specs.Overlays.{FinishesAs}
+use Rattle.desk_store.specs.Bounds.{AreBounded}
+use Rattle.desk_store.specs.Shelves.{SlotValue}
+use Rattle.dlp_commands.specs.Talks.{Talk, fresh}
+use Rattle.dlp_commands.specs.declared.link.LinkFault.{LinkFault}
 use Rattle.sync_session.specs.Leaving.{LeavesFolder}
+use Rattle.session_parts.specs.Rests.{IsAtRest}
 use Rattle.session_parts.specs.declared.outcome.Outcome.{Outcome}
+use Rattle.session_parts.specs.declared.report.DbReport.{DbReport}
+use Rattle.session_parts.specs.declared.stop.Stop.{Stop}
+use Rattle.session_plan.specs.Tasks.{meeting_of}
+use Rattle.session_plan.specs.declared.wishes.Wishes.{Wishes}
+use Rattle.port_laws.specs.Palms.{IsFirstTold, Palm, is_first}
+use Rattle.run_words.specs.Cables.{Cable}
 use Rattle.port_link.specs.Calls.{LeavesWith, LinkValue, Since}
 use Rattle.port_link.specs.Logs.{log_entries}
+use Rattle.port_link.specs.Standing.{talk_of}
 use Rattle.port_link.specs.declared.entry.Entry.{Entry}
 use Rattle.port_link.specs.declared.port_cause.PortCause.{PortCause}
 use Rattle.hotsync_run.specs.Causes.{ByEnd}
-use Rattle.hotsync_run.specs.Closings.{left_end}
+use Rattle.hotsync_run.specs.Closings.{left_databases, left_end}
 use Rattle.hotsync_run.specs.Told.{FolderTold, folder_told}
 use Rattle.hotsync_run.specs.declared.report.SessionEnd.{SessionEnd}
 use Rattle.hotsync_run.proofs.SpokeLaws.{by_left, ended_ok}
 use Rattle.hotsync_looks.specs.declared.status.Status.{Status}
 use Rattle.hotsync_looks.specs.declared.status.Status.TheVariants.{NoMemory}
+use Rattle.port_run.specs.Ends.{LeftFor}
 use Rattle.port_run.specs.Links.{LinkRan, link_over, port_of}
 use Rattle.port_run.specs.Reports.{IsOver, IsSilent}
 use Rattle.port_run.specs.Talks.{DesktopRan, HasTalked, KeptSilent, Talked}
 use Rattle.port_run.specs.Told.{PortTold}
 use Rattle.port_run.specs.declared.closing.Closed.{Closed}
 use Rattle.port_run.specs.declared.synced.CableReport.{CableReport}
+use Rattle.port_run.specs.Wishes.{AsksFor}
+use Rattle.port_run.proofs.BehindLaws.{fresh-told, left_for}
 use Rattle.port_run.proofs.CloseLaws.{Closing}
+use Rattle.port_run.proofs.LeftLaws.{EndsOver}
 use Rattle.port_run.proofs.LinkLaws.{calls-go}
 
 rose_later : (a b c : ℕ) → Rose a b → b ≤ c → Rose a c
@@ -32,11 +49,12 @@ rose_later a b c rose later = grind arith
 
 -- what was said and heard
 pub link_ran : {first last : LinkValue} {after : PortTold} {cause : Option PortCause} (log : Vec Entry Global) → first ≡ link_over (port_of first)
-    → Since first last → LeavesWith last.begun last.cause last.scene after.given after.taken (log_entries log) → cause ≡ last.cause → after.paths ≡ last.paths
-    → last.faults ≤ after.faults → LinkRan (port_of first) after cause (log_entries log)
+    → Since first last → LeavesWith last.begun last.cause last.scene after.given after.taken after.palm (log_entries log) → cause ≡ last.cause
+    → after.paths ≡ last.paths → last.faults ≤ after.faults
+    → (ran : LinkRan (port_of first) after cause (log_entries log)) × (ran.last ≡ last)
 link_ran {first} {last} {after} {cause} log fresh since leaves is paths later =
     let goes = calls-go since.0 first last (ap (λ (link : LinkValue). link.cause) fresh) since.1 in
-    record {
+    let ran : LinkRan (port_of first) after cause (log_entries log) = record {
       last = last;
       since = subst (λ (link : LinkValue). Since link last) fresh since;
       leaves = leaves;
@@ -44,7 +62,7 @@ link_ran {first} {last} {after} {cause} log fresh since leaves is paths later =
       paths = paths ∙ goes.paths;
       later = omega (arith, goes.faults.later, later);
       failed = λ e. rose_later first.faults last.faults after.faults (goes.faults.rose (sym is ∙ e)) later;
-    }
+    } in (ran, refl)
 
 -- how the desktop's folder was changed
 desk_ran : {L D : Type 0} {contents : D → Option FileMap} {moments : D → Moments} {paths : D → Option (List (List ℕ))} {faults : D → ℕ} {folder : D}
@@ -61,14 +79,45 @@ desk_ran {contents = contents} {moments} {folder = folder} {outcome} is left = r
   changed = left.each_moment;
 }
 
+-- what is left of both sides, where the port told a handheld
+both_left : (fault : LinkValue → Option LinkFault) (downs : LinkValue → ℕ) {cable : Cable} {wishes : Wishes} (slots : List SlotValue) (link last : LinkValue)
+    (after : PortTold) (desk desk_after : FolderTold) (report : CableReport) (answer : Result (Vec DbReport Global) Stop) → link ≡ link_over (port_of link)
+    → IsFirstTold link.scene.palm → AsksFor cable wishes → AreBounded slots → wishes.date < 2 ^ 32 → report.end ≡ left_end answer
+    → report.databases.items ≡ left_databases answer
+    → ((told : Talk) → talk_of link ≡ Some told → IsAtRest told.device
+    → EndsOver fault downs (meeting_of told.device slots wishes) link last desk desk_after answer)
+    → (ran : LinkRan (port_of link) after report.cause (log_entries report.log)) → ran.last ≡ last
+    → IfSome (port_of link).palm (λ (palm : Palm). IsAtRest palm.hand.device
+    → LeftFor cable palm.hand.device slots after.palm desk desk_after ran.last report)
+both_left fault downs {cable} {wishes} slots link last after desk desk_after report answer was first asked bounded date end databases ends ran same =
+    go (port_of link).palm refl where
+      go : (told : Option Palm) → (port_of link).palm ≡ told → IfSome told (λ (palm : Palm). IsAtRest palm.hand.device
+          → LeftFor cable palm.hand.device slots after.palm desk desk_after ran.last report)
+      go None is = tt
+      go (Some palm) is = λ rests.
+          let woken : is_first palm ≡ true = subst IsFirstTold is first in
+          let told : talk_of link ≡ Some (fresh palm.hand.device) = ap (λ (l : LinkValue). talk_of l) was ∙ fresh-told (port_of link) palm is woken in
+          let over = ends (fresh palm.hand.device) told rests in
+          left_for fault downs slots (port_of link) after palm desk desk_after report (log_entries report.log) answer is woken rests asked bounded date end databases ran
+          (subst (λ (l : LinkValue). EndsOver fault downs (meeting_of palm.hand.device slots wishes) l ran.last desk desk_after answer) was
+          (subst (λ (l : LinkValue). EndsOver fault downs (meeting_of palm.hand.device slots wishes) link l desk desk_after answer) (sym same) over))
+
 -- what is known of a session over a link that was fresh
 pub has_talked : {D : Type 0} {contents : D → Option FileMap} {moments : D → Moments} {paths : D → Option (List (List ℕ))} {faults : D → ℕ}
-    {folder : D} (link : LinkValue) {outcome : Outcome LinkValue D} {after : PortTold} {closed : Closed} {report : CableReport}
-    → LinkRan (port_of link) after report.cause (log_entries report.log) → LeavesFolder contents moments paths faults folder outcome
-    → Closing report.cause outcome.end closed → report.end ≡ closed.end
-    → HasTalked (port_of link) after (folder_told contents moments paths faults folder) (folder_told contents moments paths faults outcome.folder)
-    closed.status report
-has_talked {contents = contents} {moments} {paths} {faults} {folder} link {outcome} {after} {closed} {report} ran left closing is =
+    (fault : LinkValue → Option LinkFault) (downs : LinkValue → ℕ) {cable : Cable} {wishes : Wishes} (slots : List SlotValue) {folder : D} (link : LinkValue)
+    {outcome : Outcome LinkValue D} {after : PortTold} {closed : Closed} {report : CableReport} → link ≡ link_over (port_of link)
+    → IsFirstTold link.scene.palm → AsksFor cable wishes → AreBounded slots → wishes.date < 2 ^ 32
+    → (ran : LinkRan (port_of link) after report.cause (log_entries report.log)) × (ran.last ≡ outcome.link)
+    → LeavesFolder contents moments paths faults folder outcome
+    → ((told : Talk) → talk_of link ≡ Some told → IsAtRest told.device
+    → EndsOver fault downs (meeting_of told.device slots wishes) link outcome.link (folder_told contents moments paths faults folder)
+    (folder_told contents moments paths faults outcome.folder) outcome.end)
+    → Closing report.cause outcome.end closed → report.end ≡ closed.end → report.databases.items ≡ closed.databases.items
+    → HasTalked cable slots (port_of link) after (folder_told contents moments paths faults folder)
+    (folder_told contents moments paths faults outcome.folder) closed.status report
+has_talked {contents = contents} {moments} {paths} {faults} fault downs {cable} {wishes} slots {folder} link {outcome} {after} {closed} {report}
+    was first asked bounded date went left ends closing is databases =
+    let ran = went.0 in
     let before = folder_told contents moments paths faults folder in
     let later = folder_told contents moments paths faults outcome.folder in
     record {
@@ -76,6 +125,8 @@ has_talked {contents = contents} {moments} {paths} {faults} {folder} link {outco
         link = ran;
         changed = desk_ran (is ∙ closing.end) left;
         over = subst (λ end. IsOver end report.cause closed.status) (sym is) closing.over;
+        both = both_left fault downs slots link outcome.link after before later report outcome.end was first asked bounded date (is ∙ closing.end)
+            (databases ∙ closing.databases) ends ran went.1;
       });
       port = λ e. ran.failed (closing.port e);
       desktop = λ e. left.cause.rose (closing.desktop e);
@@ -84,10 +135,11 @@ has_talked {contents = contents} {moments} {paths} {faults} {folder} link {outco
     }
 
 -- what is known where memory ran out before anything was said
-pub kept_silent : {before after : PortTold} {desk desk_after : FolderTold} {status : Status} {report : CableReport} → status ≡ NoMemory → IsSilent report
-    → after ≡ before → desk_after ≡ desk → HasTalked before after desk desk_after status report
-kept_silent {before} {after} {desk} {desk_after} {status} {report} memory silent port desktop = record {
-  shown = subst (λ end. ByEnd end (KeptSilent before after desk desk_after status report) (Talked before after desk desk_after status report)) (sym silent.end)
+pub kept_silent : (cable : Cable) (slots : List SlotValue) {before after : PortTold} {desk desk_after : FolderTold} {status : Status} {report : CableReport}
+    → status ≡ NoMemory → IsSilent report → after ≡ before → desk_after ≡ desk → HasTalked cable slots before after desk desk_after status report
+kept_silent cable slots {before} {after} {desk} {desk_after} {status} {report} memory silent port desktop = record {
+  shown = subst (λ end. ByEnd end (KeptSilent before after desk desk_after status report)
+      (Talked cable slots before after desk desk_after status report)) (sym silent.end)
       (record { memory = memory; silent = silent; port = port; desktop = desktop });
   port = λ e. absurd cc;
   desktop = λ e. absurd cc;

@@ -2,9 +2,14 @@ pub mod Causes
 pub mod Refusals
 pub mod Reports
 pub mod Wishes
+pub mod DockSystems
+pub mod DockTalks
+pub mod Docks
 pub mod LogTexts
 pub mod Told
 pub mod Links
+pub mod Ends
+pub mod Equal
 pub mod Talks
 pub mod Syncs
 pub mod Systems

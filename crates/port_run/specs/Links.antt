@@ -9,13 +9,14 @@ use Rattle.port_run.specs.Told.{PortTold}
 
 -- a link over a port that tells this, before its first call
 abbrev pub link_over : PortTold → LinkValue
-link_over port = first_link port.given port.taken port.paths port.faults
+link_over port = first_link port.given port.taken port.palm port.paths port.faults
 
 -- what the port of a link tells
 abbrev pub port_of : LinkValue → PortTold
 port_of link = record {
   given = link.scene.given;
   taken = link.scene.taken;
+  palm = link.scene.palm;
   paths = link.paths;
   faults = link.faults;
 }
@@ -27,7 +28,7 @@ pub record LinkRan (before after : PortTold) (cause : Option PortCause) (log : L
     : Type 0 where
   pub last : LinkValue
   pub since : Since (link_over before) last
-  pub leaves : LeavesWith last.begun last.cause last.scene after.given after.taken log
+  pub leaves : LeavesWith last.begun last.cause last.scene after.given after.taken after.palm log
   pub cause_is : last.cause ≡ cause
   pub paths : after.paths ≡ before.paths
   pub later : before.faults ≤ after.faults

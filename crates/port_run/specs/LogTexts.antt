@@ -20,18 +20,26 @@ abbrev pub bytes_line : ℕ → List ℕ → List ℕ → List ℕ
 bytes_line number end bytes =
     decimal number ++ codes " " ++ end ++ codes " " ++ encode_lower bytes ++ codes "\n"
 
--- `NUMBER D HEX`, `NUMBER H HEX` or `NUMBER silent`, and a line feed
-abbrev pub entry_line : ℕ → EntryValue → List ℕ
-entry_line number (Said text) = bytes_line number (codes "D") text
-entry_line number (Heard packet) = bytes_line number (codes "H") (heard_text packet)
-entry_line number Silent = decimal number ++ codes " silent\n"
+-- by the letters of the end that kept it and of the other one: `NUMBER LETTER HEX` or
+-- `NUMBER silent`, and a line feed
+abbrev pub entry_line : List ℕ → List ℕ → ℕ → EntryValue → List ℕ
+entry_line own other number (Said text) = bytes_line number own text
+entry_line own other number (Heard packet) = bytes_line number other (heard_text packet)
+entry_line own other number Silent = decimal number ++ codes " silent\n"
 
 -- a line for each entry, numbered from here on
-abbrev pub lines_from : ℕ → List EntryValue → List ℕ
-lines_from number [] = []
-lines_from number (entry ∷ entries) =
-    entry_line number entry ++ lines_from (number + 1) entries
+abbrev pub lines_from : List ℕ → List ℕ → ℕ → List EntryValue → List ℕ
+lines_from own other number [] = []
+lines_from own other number (entry ∷ entries) =
+    entry_line own other number entry ++ lines_from own other (number + 1) entries
 
 -- the text of all that was said and heard
-abbrev pub log_text : List EntryValue → List ℕ
-log_text entries = lines_from 1 entries
+abbrev pub log_text : List ℕ → List ℕ → List EntryValue → List ℕ
+log_text own other entries = lines_from own other 1 entries
+
+-- where a desktop kept it, and where a handheld did
+abbrev pub cable_text : List EntryValue → List ℕ
+cable_text entries = log_text (codes "D") (codes "H") entries
+
+abbrev pub dock_text : List EntryValue → List ℕ
+dock_text entries = log_text (codes "H") (codes "D") entries

@@ -1,8 +1,11 @@
 -- What holds of every call over a cable, whatever stands behind the port.
-use Rattle.std.specs.Prelude.{◌≡◌, ◌⊎◌, Option, None, Some, []}
+use Rattle.std.specs.Prelude.{◌≡◌, ◌⊎◌, List, Option, None, Some, [], IfSome}
 use Rattle.std.specs.Option.{option_map}
 use Rattle.hs_folders.specs.Causes.{Rose}
 use Rattle.desk_journal.specs.Overlays.{finished}
+use Rattle.desk_store.specs.Shelves.{SlotValue}
+use Rattle.port_laws.specs.Palms.{Palm}
+use Rattle.session_parts.specs.Rests.{IsAtRest}
 use Rattle.run_words.specs.Cables.{Cable}
 use Rattle.trace_text.specs.declared.frame.End.TheVariants as end
 use Rattle.port_link.specs.Logs.{log_entries}
@@ -20,8 +23,9 @@ use Rattle.hotsync_run.specs.SessionCalls.{StaysAsItWas}
 use Rattle.hotsync_run.specs.Told.{FolderTold}
 use Rattle.hotsync_run.specs.Traces.{IsTraced, TracesFrames}
 use Rattle.hotsync_run.specs.declared.report.SessionEnd.{SessionEnd}
+use Rattle.port_run.specs.Ends.{BothLeft}
 use Rattle.port_run.specs.Links.{LinkRan}
-use Rattle.port_run.specs.LogTexts.{log_text}
+use Rattle.port_run.specs.LogTexts.{cable_text}
 use Rattle.port_run.specs.Refusals.{IsRefused}
 use Rattle.port_run.specs.Reports.{IsOver, IsSilent}
 use Rattle.port_run.specs.Talks.{DesktopRan, HasTalked, StaysUnsaid}
@@ -50,7 +54,8 @@ pub record TellsSession (report : CableReport) (status : Status) : Type 0 where
   pub traced : IsTracedStatus said status
 
 -- What was said over the port that was opened, what became of the desktop's folder, what the status
--- says of both, and what the trace took.
+-- says of both, and what the trace took; and where the opened port tells a handheld on which nothing
+-- is open, what is left of both sides.
 pub record SessionRan (cable : Cable) (before after : SyncTold) (status : Status)
     (report : CableReport) : Type 0 where
   pub desktop : HasDesktop before.desk.contents
@@ -60,15 +65,18 @@ pub record SessionRan (cable : Cable) (before after : SyncTold) (status : Status
   pub changed : DesktopRan (option_map finished before.desk.contents) before.desk after.desk
       report.end
   pub tells : TellsSession report status
-  pub traced : IsTraced cable.trace (log_text (log_entries report.log)) before.trace after.trace
+  pub traced : IsTraced cable.trace (cable_text (log_entries report.log)) before.trace after.trace
       status
+  pub both : IfSome opened.palm (λ (palm : Palm). IsAtRest palm.hand.device
+      → BothLeft cable palm.hand.device after.port.palm before.desk after.desk link.last report)
 
--- a session over an opened port, whose trace was to be written then
-pub record TracesTalk (cable : Cable) (port : PortTold) (desk : FolderTold) (trace : SinkTold)
-    (after : SyncTold) (status : Status) (report : CableReport) : Type 0 where
+-- a session over an opened port with a desktop of these slots, whose trace was to be written then
+pub record TracesTalk (cable : Cable) (slots : List SlotValue) (port : PortTold)
+    (desk : FolderTold) (trace : SinkTold) (after : SyncTold) (status : Status)
+    (report : CableReport) : Type 0 where
   pub said : Status
-  pub talked : HasTalked port after.port desk after.desk said report
-  pub traces : TracesFrames cable.trace (log_text (log_entries report.log)) trace after.trace said
+  pub talked : HasTalked cable slots port after.port desk after.desk said report
+  pub traces : TracesFrames cable.trace (cable_text (log_entries report.log)) trace after.trace said
       status
   pub silent : report.log.items ≡ [] → after.trace.taken ≡ trace.taken
 

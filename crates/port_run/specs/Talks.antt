@@ -1,5 +1,5 @@
 -- A session over a cable, whatever is written of it.
-use Rattle.std.specs.Prelude.{◌≡◌, ◌⊎◌, ℕ, List, Option}
+use Rattle.std.specs.Prelude.{◌≡◌, ◌⊎◌, ℕ, List, Option, IfSome}
 use Rattle.std.specs.List.{AllByRecursion}
 use Rattle.std.specs.Option.{option_map}
 use Rattle.hs_folders.specs.Causes.{Rose}
@@ -7,6 +7,10 @@ use Rattle.hs_folders.specs.FileMaps.{FileMap}
 use Rattle.hs_folders.specs.Moments.{EachMomentSince, Moments}
 use Rattle.desk_journal.specs.Entries.{EntryValue}
 use Rattle.desk_journal.specs.Overlays.{FinishesAs, put_all}
+use Rattle.desk_store.specs.Shelves.{SlotValue}
+use Rattle.port_laws.specs.Palms.{Palm}
+use Rattle.run_words.specs.Cables.{Cable}
+use Rattle.session_parts.specs.Rests.{IsAtRest}
 use Rattle.sync_session.specs.Leaving.{IsSlotsFile}
 use Rattle.port_link.specs.Logs.{log_entries}
 use Rattle.hotsync_looks.specs.declared.status.Status.{Status}
@@ -15,6 +19,7 @@ use Rattle.hotsync_run.specs.Causes.{ByEnd}
 use Rattle.hotsync_run.specs.Told.{FolderTold}
 use Rattle.hotsync_run.specs.declared.report.SessionEnd.{SessionEnd}
 use Rattle.hotsync_run.specs.declared.report.SessionEnd.TheVariants.{Ended}
+use Rattle.port_run.specs.Ends.{LeftFor}
 use Rattle.port_run.specs.Links.{LinkRan}
 use Rattle.port_run.specs.Reports.{IsOver, IsSilent}
 use Rattle.port_run.specs.Told.{PortTold}
@@ -50,18 +55,22 @@ pub record KeptSilent (before after : PortTold) (desk desk_after : FolderTold) (
   pub port : after ≡ before
   pub desktop : desk_after ≡ desk
 
--- what was said and heard, what became of the desktop's folder, and what the status says of both
-pub record Talked (before after : PortTold) (desk desk_after : FolderTold) (status : Status)
-    (report : CableReport) : Type 0 where
+-- What was said and heard, what became of the desktop's folder, and what the status says of both;
+-- and where the port tells a handheld on which nothing is open, what is left of both sides.
+pub record Talked (cable : Cable) (slots : List SlotValue) (before after : PortTold)
+    (desk desk_after : FolderTold) (status : Status) (report : CableReport) : Type 0 where
   pub link : LinkRan before after report.cause (log_entries report.log)
   pub changed : DesktopRan desk.contents desk desk_after report.end
   pub over : IsOver report.end report.cause status
+  pub both : IfSome before.palm (λ (palm : Palm). IsAtRest palm.hand.device
+      → LeftFor cable palm.hand.device slots after.palm desk desk_after link.last report)
 
--- what is known of a session over an opened port: it kept silent, or it had the session
-pub record HasTalked (before after : PortTold) (desk desk_after : FolderTold) (status : Status)
-    (report : CableReport) : Type 0 where
+-- what is known of a session over an opened port, with a desktop of these slots: it kept silent, or
+-- it had the session
+pub record HasTalked (cable : Cable) (slots : List SlotValue) (before after : PortTold)
+    (desk desk_after : FolderTold) (status : Status) (report : CableReport) : Type 0 where
   pub shown : ByEnd report.end (KeptSilent before after desk desk_after status report)
-      (Talked before after desk desk_after status report)
+      (Talked cable slots before after desk desk_after status report)
   pub port : status ≡ PortFailed → Rose before.faults after.faults
   pub desktop : status ≡ DesktopFolder → Rose desk.faults desk_after.faults
   pub port_paths : after.paths ≡ before.paths

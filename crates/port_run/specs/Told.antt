@@ -2,6 +2,7 @@
 use Rattle.std.specs.Prelude.{ℕ, List, Option}
 use Rattle.hs_folders.specs.declared.folder.Folder.{Ghosts as FolderMembers}
 use Rattle.hs_folders.specs.declared.sink.Sink.{Ghosts as SinkMembers}
+use Rattle.port_laws.specs.Palms.{Palm}
 use Rattle.port_line.specs.declared.port.Port.{Ghosts as PortMembers}
 use Rattle.hotsync_looks.specs.Told.{SinkTold, sink_told}
 use Rattle.hotsync_run.specs.Told.{FolderTold, folder_told}
@@ -10,6 +11,7 @@ use Rattle.hotsync_run.specs.Told.{FolderTold, folder_told}
 pub record PortTold : Type 0 where
   pub given : Option (List (List ℕ))
   pub taken : Option (List ℕ)
+  pub palm : Option Palm
   pub paths : Option (List (List ℕ))
   pub faults : ℕ
 
@@ -24,6 +26,7 @@ abbrev pub port_told : {P : Type 0} → PortMembers P → P → PortTold
 port_told ports port = record {
   given = ports.given port;
   taken = ports.taken port;
+  palm = ports.palm port;
   paths = ports.paths port;
   faults = ports.faults port;
 }
@@ -33,11 +36,26 @@ abbrev pub desk_told : {D : Type 0} → FolderMembers D → D → FolderTold
 desk_told desks desk =
     folder_told desks.contents desks.moments desks.paths desks.faults desk
 
+-- what the objects of a call with a handheld at a port tell before it, or after it
+pub record DockTold : Type 0 where
+  pub palm : FolderTold
+  pub port : PortTold
+  pub trace : SinkTold
+
 -- what the objects of a call tell, by the members of their traits
 abbrev pub sync_told : {P D T : Type 0} → PortMembers P → FolderMembers D → SinkMembers T
     → P → D → T → SyncTold
 sync_told ports desks traces port desk trace = record {
   port = port_told ports port;
   desk = desk_told desks desk;
+  trace = sink_told traces.taken traces.paths traces.faults trace;
+}
+
+-- likewise of a call with a handheld at a port
+abbrev pub dock_told : {H P T : Type 0} → FolderMembers H → PortMembers P → SinkMembers T
+    → H → P → T → DockTold
+dock_told palms ports traces palm port trace = record {
+  palm = folder_told palms.contents palms.moments palms.paths palms.faults palm;
+  port = port_told ports port;
   trace = sink_told traces.taken traces.paths traces.faults trace;
 }

@@ -8,15 +8,21 @@ use port_link::{Entry, HeardPacket};
 use slp_frames::{MAX_BODY, MAX_PACKET, Packet, write_packet};
 use std::alloc::{AllocError, Global};
 
-/// A line for each entry: its number from 1 on, `D` with the bytes that the desktop said, `H` with those of a packet that
-/// came, or `silent`.
-pub fn write_log(alloc: Global, log: &[Entry]) -> Result<Vec<u8>, AllocError>
-    ensures { IfOk result (λ text. text.items ≡ text_of_log (map entry_value log.now)) }
+/// A line for each entry: its number from 1 on, the letter of the end that kept it with the bytes that it said, that of the
+/// other one with those of a packet that came, or `silent`.
+pub fn write_log(
+    alloc: Global,
+    own: &str,
+    other: &str,
+    log: &[Entry],
+) -> Result<Vec<u8>, AllocError>
+    ensures { IfOk result (λ text. text.items
+        ≡ text_of_log own.now other.now (map entry_value log.now)) }
 {
     let mut text = Vec::new(alloc);
     let mut number = 1u64;
     for entry in log {
-        let line = entry_line(alloc, number, entry)?;
+        let line = entry_line(alloc, own, other, number, entry)?;
         text.extend_from_slice(line.as_bytes())?;
         number += 1;
     }
@@ -24,12 +30,19 @@ pub fn write_log(alloc: Global, log: &[Entry]) -> Result<Vec<u8>, AllocError>
 }
 
 // The line of an entry of this number.
-fn entry_line(alloc: Global, number: u64, entry: &Entry) -> Result<String, AllocError>
-    ensures { IfOk result (λ line. string_bytes line ≡ line_of_entry number (entry_value entry.now)) }
+fn entry_line(
+    alloc: Global,
+    own: &str,
+    other: &str,
+    number: u64,
+    entry: &Entry,
+) -> Result<String, AllocError>
+    ensures { IfOk result (λ line. string_bytes line
+        ≡ line_of_entry own.now other.now number (entry_value entry.now)) }
 {
     match entry {
-        Entry::Said(text) => bytes_line(alloc, number, "D", text),
-        Entry::Heard(packet) => bytes_line(alloc, number, "H", heard_text(packet).as_slice()),
+        Entry::Said(text) => bytes_line(alloc, number, own, text),
+        Entry::Heard(packet) => bytes_line(alloc, number, other, heard_text(packet).as_slice()),
         Entry::Silent => format!(in alloc; "{number} silent\n"),
     }
 }

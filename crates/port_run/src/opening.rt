@@ -1,8 +1,9 @@
 // The port of a session, opened.
-ghost use Rattle.std.specs.Prelude.{◌≡◌, ◌⊎◌, ◌≤◌, IfErr, OnOk};
+ghost use Rattle.std.specs.Prelude.{◌≡◌, ◌⊎◌, ◌≤◌, IfErr, IfOk, OnOk};
 ghost use Rattle.hs_folders.specs.Causes.{Rose};
 ghost use Rattle.hotsync_looks.specs.Opening.{Opens, OpensAtMost};
 ghost use Rattle.hotsync_run.specs.Views.{folder_in as port_in};
+ghost use Rattle.port_laws.specs.Palms.{IsFirstTold};
 ghost use Rattle.port_run.specs.Refusals.{IsPortRefusal};
 
 use hotsync_looks::Status;
@@ -13,6 +14,8 @@ pub fn open_port<P: Port>(port: P, path: &str) -> Result<P, (Status, P)>
     ensures refused { IfErr result (λ refused. IsPortRefusal refused.0) }
     ensures failed { IfErr result (λ refused. refused.0 ≡ Status.PortFailed
         → Rose (P.faults port) (P.faults refused.1)) }
+
+    ensures first { IfOk result (λ port. IsFirstTold (P.palm port)) }
 
     ensures given { P.given (port_in result) ≡ P.given port }
     ensures taken { P.taken (port_in result) ≡ P.taken port }

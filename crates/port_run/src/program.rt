@@ -27,7 +27,7 @@ pub fn asks_sync(args: &[String]) -> bool
 }
 
 // The words behind the program's name.
-fn words_of(args: &[String]) -> &[String]
+pub(crate) fn words_of(args: &[String]) -> &[String]
     ensures { result.now ≡ drop 1 args.now }
 {
     args.get(1..).unwrap_or(&[])

@@ -1,7 +1,10 @@
 // A session over a cable: what comes before it, and what it prints.
 ghost use Rattle.std.specs.Prelude.{◌≡◌, ◌≢◌, IfSome, None, map, string_bytes};
+ghost use Rattle.desk_store.specs.Bounds.{AreBounded};
+ghost use Rattle.desk_store.specs.Shelves.{AreInOrder};
 ghost use Rattle.hotsync_looks.specs.Misuses.{TellsFault};
 ghost use Rattle.hotsync_looks.specs.Told.{sink_told};
+ghost use Rattle.port_laws.specs.Palms.{IsFirstTold};
 ghost use Rattle.port_run.specs.Syncs.{HasSynced, IsSyncCall, TracesTalk};
 ghost use Rattle.port_run.specs.Told.{desk_told, port_told, sync_told};
 ghost use Rattle.run_words.specs.Cables.{sync_of};
@@ -106,7 +109,10 @@ fn traced_talk<P: Port, D: Folder, T: Sink>(
     desk: Desk<D>,
     trace: &mut T,
 ) -> Synced<P, D>
-    ensures talked { TracesTalk (cable_view words.now) (port_told P.Port port)
+    requires first { IsFirstTold (P.palm port) }
+    requires ordered { AreInOrder desk.slots }
+    requires bounded { AreBounded desk.slots }
+    ensures talked { TracesTalk (cable_view words.now) desk.slots (port_told P.Port port)
         (desk_told D.Folder desk.folder) (sink_told T.taken T.paths T.faults trace.old)
         (sync_told P.Port D.Folder T.Sink result.port result.desk trace.new)
         result.status result.report }
@@ -120,7 +126,7 @@ fn traced_talk<P: Port, D: Folder, T: Sink>(
         port,
         desk,
     } = synced;
-    let status = trace_log(alloc, words.trace, status, &report.log, trace);
+    let status = trace_log(alloc, words.trace, "D", "H", status, &report.log, trace);
     Synced {
         status,
         report,

@@ -1,9 +1,14 @@
 // The session over a cable.
-ghost use Rattle.std.specs.Prelude.{◌≡◌};
+ghost use Rattle.std.specs.Prelude.{◌≡◌, ◌<◌, ◌^◌};
+ghost use Rattle.desk_store.specs.Bounds.{AreBounded};
+ghost use Rattle.desk_store.specs.Shelves.{AreInOrder};
 ghost use Rattle.hotsync_run.specs.Causes.{IsUnsaid};
+ghost use Rattle.port_laws.specs.Palms.{IsFirstTold};
 ghost use Rattle.port_run.specs.Links.{link_over, port_of};
 ghost use Rattle.port_run.specs.Talks.{HasTalked};
 ghost use Rattle.port_run.specs.Told.{desk_told, port_told};
+ghost use Rattle.port_run.specs.Wishes.{AsksFor};
+ghost use Rattle.run_words.specs.Views.{cable_view};
 
 use crate::closing::{Closed, close_session};
 use crate::synced::{CableReport, Synced};
@@ -26,16 +31,19 @@ pub fn talk<P: Port, D: Folder>(
     port: P,
     desk: Desk<D>,
 ) -> Synced<P, D>
-    ensures talked { HasTalked (port_told P.Port port) (port_told P.Port result.port)
-        (desk_told D.Folder desk.folder) (desk_told D.Folder result.desk)
-        result.status result.report }
+    requires first { IsFirstTold (P.palm port) }
+    requires ordered { AreInOrder desk.slots }
+    requires bounded { AreBounded desk.slots }
+    ensures talked { HasTalked (cable_view words.now) desk.slots (port_told P.Port port)
+        (port_told P.Port result.port) (desk_told D.Folder desk.folder)
+        (desk_told D.Folder result.desk) result.status result.report }
     ensures unsaid { IsUnsaid result.status }
 {
     let Ok(wishes) = wishes_of(alloc, words) else {
         return Synced::not_started(alloc, Status::NoMemory, port, desk.into_folder());
     };
     match PortLink::new(alloc, port) {
-        Ok(link) => speak(alloc, &wishes, link, desk),
+        Ok(link) => speak(alloc, words, &wishes, link, desk),
         Err((AllocError, port)) => {
             Synced::not_started(alloc, Status::NoMemory, port, desk.into_folder())
         }
@@ -45,14 +53,20 @@ pub fn talk<P: Port, D: Folder>(
 // The session over a link over which nothing was said.
 fn speak<P: Port, D: Folder>(
     alloc: Global,
+    words: &CableWords<'_>,
     wishes: &Wishes,
     link: PortLink<P>,
     desk: Desk<D>,
 ) -> Synced<P, D>
-    requires { link ≡ link_over (port_of link) }
-    ensures talked { HasTalked (port_of link) (port_told P.Port result.port)
-        (desk_told D.Folder desk.folder) (desk_told D.Folder result.desk)
-        result.status result.report }
+    requires fresh { link ≡ link_over (port_of link) }
+    requires first { IsFirstTold link.scene.palm }
+    requires asked { AsksFor (cable_view words.now) wishes.now }
+    requires ordered { AreInOrder desk.slots }
+    requires bounded { AreBounded desk.slots }
+    requires date { wishes.now.date < 2 ^ 32 }
+    ensures talked { HasTalked (cable_view words.now) desk.slots (port_of link)
+        (port_told P.Port result.port) (desk_told D.Folder desk.folder)
+        (desk_told D.Folder result.desk) result.status result.report }
     ensures unsaid { IsUnsaid result.status }
 {
     let outcome = run_session(alloc, link, desk, wishes);

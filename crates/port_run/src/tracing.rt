@@ -13,16 +13,19 @@ use hs_folders::Sink;
 use port_link::Entry;
 use std::alloc::{AllocError, Global};
 
-/// Writes the text of what was said and heard where the words name a trace, and says which status stands then.
+/// Writes the text of what was said and heard, by the letters of the end that kept it and of the other one, where the words
+/// name a trace, and says which status stands then.
 pub fn trace_log<T: Sink>(
     alloc: Global,
     path: Option<&str>,
+    own: &str,
+    other: &str,
     status: Status,
     log: &[Entry],
     trace: &mut T,
 ) -> Status
     requires { IsUnsaid status }
-    ensures traces { TracesFrames (option_copied path.entry) (log_text (map entry_value log.now))
+    ensures traces { TracesFrames (option_copied path.entry) (log_text own.now other.now (map entry_value log.now))
         (sink_told T.taken T.paths T.faults trace.old)
         (sink_told T.taken T.paths T.faults trace.new) status result }
     ensures untouched { path.entry ≡ None → trace.new ≡ trace.old }
@@ -31,7 +34,7 @@ pub fn trace_log<T: Sink>(
     if path.is_none() || log.is_empty() {
         return status;
     }
-    match write_log(alloc, log) {
+    match write_log(alloc, own, other, log) {
         Ok(text) => write_text(status, &text, trace),
         Err(AllocError) => Status::NoMemory,
     }

@@ -12,6 +12,7 @@ returns-in-Ok-open_trace-clause-ran g c =
       port_later = c.in-Ok.ensures.later;
       desktop = c.in-Ok-open_desktop.ensures.desktop;
       finished_is = c.in-Ok-open_desktop.ensures.finished;
+      slots_are = c.in-Ok-open_desktop.ensures.slots;
       stands = record { stands = c.in-Ok-open_desktop.ensures.stands; each_moment = c.in-Ok-open_desktop.ensures.each_moment };
       desk_opened = c.in-Ok-open_desktop.ensures.opened;
       desk_later = c.in-Ok-open_desktop.ensures.later;

@@ -1,0 +1,4 @@
+pub mod Vigils
+pub mod Ends
+pub mod Courses
+pub mod Runs

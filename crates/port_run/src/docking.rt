@@ -1,0 +1,178 @@
+// A handheld at a port: what comes before its talk, the talk, and what it prints.
+ghost use Rattle.std.specs.Prelude.{◌≡◌, ◌≢◌, IfSome, None, length, map, string_bytes, true};
+ghost use Rattle.handheld_files.specs.Openings.{Stands, opened_device};
+ghost use Rattle.hotsync_looks.specs.Printed.{IsPrinted, IsPrintedStatus};
+ghost use Rattle.hotsync_looks.specs.Served.{served_lines};
+ghost use Rattle.hotsync_looks.specs.Told.{sink_told};
+ghost use Rattle.port_run.specs.DockTalks.{HasDockTalk};
+ghost use Rattle.port_run.specs.Docks.{HasDocked, IsDockCall, dock_status};
+ghost use Rattle.port_run.specs.Told.{dock_told};
+ghost use Rattle.run_words.specs.Docks.{docking_of};
+ghost use Rattle.run_words.specs.Views.{dock_view};
+
+use crate::dock_report::{DockReport, Docked};
+use crate::opening::open_port;
+use crate::tracing::trace_log;
+use device_stream::DeviceReport;
+use dlp_args::MessageText;
+use handheld_server::Server;
+use handheld_store::Store;
+use hotsync_looks::{Status, print_refusal, print_served};
+use hotsync_run::{open_handheld, open_trace};
+use hs_folders::{Folder, Sink};
+use port_device::{AtPort, PortEnd, serve_at_port};
+use port_line::Port;
+use run_words::{DockWords, docking_words};
+use std::alloc::Global;
+use trace_text::End;
+
+/// Stands the handheld of a folder at a port, as the words ask for, and prints how many requests it served.
+///
+/// `words` are those after the program's name, `device` first. The port and the handheld's folder are handed back with every
+/// status.
+pub fn serve_port<H: Folder, P: Port, T: Sink, O: Sink>(
+    alloc: Global,
+    words: &[String],
+    device: H,
+    port: P,
+    trace: &mut T,
+    out: &mut O,
+) -> Docked<H, P>
+    ensures call { IsDockCall (docking_of (map string_bytes words.now))
+        (dock_told H.Folder P.Port T.Sink device port trace.old)
+        (dock_told H.Folder P.Port T.Sink result.device result.port trace.new)
+        (sink_told O.taken O.paths O.faults out.old) (sink_told O.taken O.paths O.faults out.new)
+        result.status result.report }
+
+    // Words out of the form touch nothing, and the trace is touched only where one is named.
+    ensures untraced { IfSome (docking_of (map string_bytes words.now)) (λ dock.
+        dock.trace ≡ None → trace.new ≡ trace.old) }
+    ensures untouched { docking_of (map string_bytes words.now) ≡ None
+        → (result.device ≡ device) × (result.port ≡ port) × (trace.new ≡ trace.old) }
+{
+    let Some(dock) = docking_words(words) else {
+        let status = print_refusal(alloc, Status::Usage, out);
+        return Docked::not_started(alloc, status, device, port);
+    };
+    let docked = judged_dock(alloc, &dock, device, port, trace);
+    let Docked {
+        status,
+        report,
+        device,
+        port,
+    } = docked;
+    let status = print_dock(alloc, status, &report.performed, out);
+    Docked {
+        status,
+        report,
+        device,
+        port,
+    }
+}
+
+// Prints how many requests were served by a talk that ended, or the line of a refusal.
+fn print_dock<O: Sink>(
+    alloc: Global,
+    status: Status,
+    performed: &[MessageText],
+    out: &mut O,
+) -> Status
+    requires { status ≢ Status.OutWrite }
+    ensures status { IsPrintedStatus status result }
+    ensures printed { IsPrinted (λ text. text ≡ served_lines (length performed.now))
+        (sink_told O.taken O.paths O.faults out.old)
+        (sink_told O.taken O.paths O.faults out.new) result }
+{
+    match status {
+        Status::Done => print_served(alloc, performed.len(), out),
+        refusal => print_refusal(alloc, refusal, out),
+    }
+}
+
+// Judges the handheld's folder, opens the port and the trace, in this order, and has the talk.
+fn judged_dock<H: Folder, P: Port, T: Sink>(
+    alloc: Global,
+    dock: &DockWords<'_>,
+    device: H,
+    port: P,
+    trace: &mut T,
+) -> Docked<H, P>
+    ensures ran { HasDocked (dock_view dock.now)
+        (dock_told H.Folder P.Port T.Sink device port trace.old)
+        (dock_told H.Folder P.Port T.Sink result.device result.port trace.new)
+        result.status result.report }
+    ensures unprinted { result.status ≢ Status.OutWrite }
+    ensures untraced { dock.now.trace ≡ None → trace.new ≡ trace.old }
+{
+    let store = match open_handheld(alloc, device, dock.handheld) {
+        Ok(store) => store,
+        Err((refusal, device)) => return Docked::not_started(alloc, refusal, device, port),
+    };
+    let port = match open_port(port, dock.port) {
+        Ok(port) => port,
+        Err((refusal, port)) => {
+            return Docked::not_started(alloc, refusal, store.into_folder(), port)
+        }
+    };
+    match open_trace(trace, dock.trace) {
+        Ok(()) => traced_dock(alloc, dock, store, port, trace),
+        Err(refusal) => Docked::not_started(alloc, refusal, store.into_folder(), port),
+    }
+}
+
+// Has the talk, and writes its trace.
+fn traced_dock<H: Folder, P: Port, T: Sink>(
+    alloc: Global,
+    dock: &DockWords<'_>,
+    store: Store<H>,
+    port: P,
+    trace: &mut T,
+) -> Docked<H, P>
+    requires sound { store.sound ≡ true }
+    requires stands { Stands (H.contents store.folder) store.databases store.user }
+    ensures talked { HasDockTalk (dock_view dock.now)
+        (opened_device store.databases store.user)
+        (dock_told H.Folder P.Port T.Sink store.folder port trace.old)
+        (dock_told H.Folder P.Port T.Sink result.device result.port trace.new)
+        result.status result.report }
+    ensures unprinted { result.status ≢ Status.OutWrite }
+    ensures untraced { dock.now.trace ≡ None → trace.new ≡ trace.old }
+{
+    let left = serve_at_port(alloc, Server::new(store), port);
+    let AtPort {
+        end,
+        report,
+        log,
+        folder,
+        port,
+    } = left;
+    let DeviceReport { performed, replies } = report;
+    let status = trace_log(alloc, dock.trace, "H", "D", status_of(end), &log, trace);
+    Docked {
+        status,
+        report: DockReport {
+            performed,
+            replies,
+            log,
+        },
+        device: folder,
+        port,
+    }
+}
+
+// The status of a talk that ended so.
+fn status_of(end: PortEnd) -> Status
+    ensures { result ≡ dock_status end }
+{
+    match end {
+        PortEnd::Ended => Status::Done,
+        PortEnd::PortFailed => Status::PortFailed,
+        PortEnd::Keeper => Status::HandheldFolder,
+        PortEnd::LineDown => Status::LineDown(End::Handheld),
+        PortEnd::LineSilent => Status::LineSilent,
+        PortEnd::Aborted => Status::StreamAborted,
+        PortEnd::BadHello => Status::BadHello,
+        PortEnd::TooLong => Status::LineEndless,
+        PortEnd::NoMemory => Status::NoMemory,
+    }
+}
