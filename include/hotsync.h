@@ -1,4 +1,4 @@
-/* hotsync.h: the readers of hotsync for C, over libhotsync.a or libhotsync.so.
+/* hotsync.h: the readers and the merge of hotsync for C, over libhotsync.a or libhotsync.so.
  *
  * Pure functions over bytes. Any thread may call them; nothing that is passed is kept, and nothing is to be freed. No
  * function reaches a file, a terminal or a clock; memory comes from malloc.
@@ -90,6 +90,50 @@ int64_t hs_entry(const uint8_t *file, size_t len, uint32_t index, struct hs_entr
    fewer bytes than the parts have. */
 int64_t hs_build(const struct hs_head *head, const struct hs_entry *entries, size_t count, const uint8_t *bytes,
                  size_t len, uint8_t *room, size_t n);
+
+/* ---- both sides of one database ---- */
+
+/* What is asked of a merge. */
+struct hs_how {
+    uint32_t action; /* HS_SYNC, HS_HANDHELD or HS_DESKTOP */
+    uint32_t agree;  /* 1 where the last session of both sides was with each other; 0: it wasn't, or nobody knows */
+    uint32_t date;   /* of the session, in seconds since 1904: rows that are new on the desktop bear it */
+};
+
+enum {
+    HS_SYNC = 0,     /* what changed on either side counts, and no change is lost */
+    HS_HANDHELD = 1, /* the handheld's records are taken as they are */
+    HS_DESKTOP = 2   /* the desktop's */
+};
+
+/* Where each file ends in the room, which begins with the handheld's. A file that is not there has no bytes. */
+struct hs_ends {
+    uint64_t handheld;
+    uint64_t rows;
+    uint64_t base;
+    uint64_t archive;
+};
+
+/* More answers of hs_merge below 0. From HS_RESOURCES on a session leaves the database as it is. */
+enum {
+    HS_FULL = -4,      /* more than 65,535 records on the handheld, rows, base rows, or entries of the archive */
+    HS_RESOURCES = -5, /* the handheld's holds resources */
+    HS_READ_ONLY = -6, /* attribute 0x0002, on either side */
+    HS_STREAM = -7,    /* attribute 0x0080, on either side */
+    HS_DIFFERS = -8,   /* its type or its creator differs between the sides */
+    HS_MISSING = -9    /* the side that the action goes by lacks it, or the handheld lost what both had */
+};
+
+/* What `hotsync run --slow` leaves of one database whose files these are: the handheld's `NAME.pdb`, and the desktop's
+   `NAME.pdb`, `NAME.base` and `NAME.arc`; of length 0 where there is none. All of the handheld's records are looked at.
+   The four files stand in the room one behind the other, each as it is written, and `ends` says where each ends; put into
+   four files again, they are what the next merge takes. All of them are written, or none: where the room is too small it
+   stays as it was, and the answer and `ends` say how much is wanted. An answer below 0 leaves `ends` as it was. HS_FORM
+   also where the files bear several names, where one of the desktop's holds resources, and where `action` is none of the
+   three. */
+int64_t hs_merge(const uint8_t *handheld, size_t handheld_len, const uint8_t *rows, size_t rows_len, const uint8_t *base,
+                 size_t base_len, const uint8_t *archive, size_t archive_len, const struct hs_how *how, uint8_t *room,
+                 size_t n, struct hs_ends *ends);
 
 /* ---- a serial line ---- */
 

@@ -228,6 +228,228 @@ static void large(void)
     free(pdb);
 }
 
+/* ---- both sides ---- */
+
+/* The first file above as a session leaves it: the first record is not marked any more. */
+static const char MERGED[] =
+    "4e6f746500000000000000000000000000000000000000000000000000000000"
+    "0008" "0001" "00000001" "00000002" "00000003" "00000004"
+    "00000060" "00000000" "44415441" "6d656d6f" "00000005" "00000000"
+    "0002" "00000063" "02" "000001" "00000065" "00" "3b1004"
+    "0000" "617070" "4869" "42796521";
+
+/* Rows and base rows of both records, as a session of the date 9 makes them for a desktop that had none. */
+static const char ROWS[] =
+    "4e6f746500000000000000000000000000000000000000000000000000000000"
+    "0008" "0001" "00000009" "00000009" "00000000" "00000000"
+    "00000000" "00000000" "44415441" "6d656d6f" "00000000" "00000000"
+    "0002" "00000060" "02" "000001" "00000062" "00" "3b1004"
+    "0000" "4869" "42796521";
+
+/* Rows of the record that both had, with another content than the base rows have, and of one that is new: id 0, "New". */
+static const char CHANGED[] =
+    "4e6f746500000000000000000000000000000000000000000000000000000000"
+    "0008" "0001" "00000009" "00000009" "00000000" "00000000"
+    "00000000" "00000000" "44415441" "6d656d6f" "00000000" "00000000"
+    "0002" "00000060" "42" "000001" "00000063" "40" "000000"
+    "0000" "486f21" "4e6577";
+
+/* The base rows of these: "Hi" under id 1, and under id 3b1004 what both sides had there. */
+#define BASE ROWS
+
+/* A file of a side. */
+struct side {
+    uint8_t bytes[300];
+    size_t size;
+};
+
+static struct side side_of(const char *hex)
+{
+    struct side side = {.size = 0};
+    side.size = bytes_of(hex, side.bytes);
+    return side;
+}
+
+static const struct side NO_SIDE = {.size = 0};
+
+/* The four files of a merge, and where each ends. */
+struct sides {
+    struct side handheld, rows, base, archive;
+};
+
+static int64_t merge_in(const struct sides *sides, const struct hs_how *how, uint8_t *room, size_t n, struct hs_ends *ends)
+{
+    return hs_merge(sides->handheld.bytes, sides->handheld.size, sides->rows.bytes, sides->rows.size, sides->base.bytes,
+                    sides->base.size, sides->archive.bytes, sides->archive.size, how, room, n, ends);
+}
+
+/* A merge in a room of n bytes that leaves these sides; one with too little room writes none. */
+static void merged_in(const char *what, const struct sides *sides, struct hs_how how, const struct sides *after, size_t n)
+{
+    const struct side *parts[] = {&after->handheld, &after->rows, &after->base, &after->archive};
+    struct hs_ends ends = {99, 99, 99, 99};
+    uint8_t *room = malloc(n > 0 ? n : 1);
+    uint64_t found[4], end = 0;
+    if (room == NULL)
+        exit(2);
+    memset(room, 0xAA, n > 0 ? n : 1);
+    int64_t answer = merge_in(sides, &how, room, n, &ends);
+    found[0] = ends.handheld, found[1] = ends.rows, found[2] = ends.base, found[3] = ends.archive;
+    int64_t wanted = 0;
+    for (int part = 0; part < 4; part++)
+        wanted += (int64_t)parts[part]->size;
+    expect(what, answer, wanted);
+    for (int part = 0; part < 4; part++) {
+        if ((size_t)wanted <= n)
+            expect(what, memcmp(room + end, parts[part]->bytes, parts[part]->size), 0);
+        end += parts[part]->size;
+        expect(what, (int64_t)found[part], (int64_t)end);
+    }
+    for (size_t place = (size_t)wanted <= n ? (size_t)wanted : 0; place < n; place++)
+        expect(what, room[place], 0xAA);
+    free(room);
+}
+
+static void merged(const char *what, const struct sides *sides, struct hs_how how, const struct sides *after)
+{
+    size_t whole = after->handheld.size + after->rows.size + after->base.size + after->archive.size;
+    merged_in(what, sides, how, after, whole);
+    merged_in(what, sides, how, after, 0);
+    merged_in(what, sides, how, after, whole + 7);
+    if (whole > 0)
+        merged_in(what, sides, how, after, whole - 1);
+}
+
+static void unmerged(const char *what, const struct sides *sides, struct hs_how how, int64_t answer)
+{
+    struct hs_ends ends = {99, 99, 99, 99};
+    uint8_t room[3] = {0xAA, 0xAA, 0xAA};
+    expect(what, merge_in(sides, &how, room, 3, &ends), answer);
+    expect(what, room[0] + room[1] + room[2], 3 * 0xAA);
+    expect(what, (int64_t)(ends.handheld + ends.rows + ends.base + ends.archive), 4 * 99);
+}
+
+static void merges(void)
+{
+    struct hs_how how = {HS_SYNC, 0, 9};
+    struct sides none = {NO_SIDE, NO_SIDE, NO_SIDE, NO_SIDE};
+    struct sides new = {side_of(PDB), NO_SIDE, NO_SIDE, NO_SIDE};
+    struct sides whole = {side_of(MERGED), side_of(ROWS), side_of(ROWS), NO_SIDE};
+    merged("hs_merge of nothing", &none, how, &none);
+    merged("hs_merge for a desktop that has none", &new, how, &whole);
+    merged("hs_merge of what was merged", &whole, how, &whole);
+    how.agree = 1;
+    merged("hs_merge of what was merged, both agreeing", &whole, how, &whole);
+    how.action = HS_HANDHELD;
+    merged("hs_merge by the handheld", &new, how, &whole);
+
+    struct sides other = whole;
+    how.action = 3;
+    unmerged("hs_merge by nobody", &whole, how, HS_FORM);
+    how.action = HS_SYNC;
+    other.rows = side_of(PRC);
+    unmerged("hs_merge of two databases", &other, how, HS_FORM);
+    other.rows = whole.rows;
+    other.base.size -= 1;
+    other.base.bytes[81] = 0xFF;
+    unmerged("hs_merge of a part", &other, how, HS_FORM);
+    struct sides lost = {NO_SIDE, whole.rows, whole.base, NO_SIDE};
+    unmerged("hs_merge of one that the handheld lost", &lost, how, HS_MISSING);
+    struct sides resources = {side_of(PRC), NO_SIDE, NO_SIDE, NO_SIDE};
+    unmerged("hs_merge of resources", &resources, how, HS_RESOURCES);
+    other = whole;
+    other.handheld.bytes[33] |= 0x02;
+    unmerged("hs_merge of one that is read-only", &other, how, HS_READ_ONLY);
+    other = whole;
+    other.rows.bytes[33] |= 0x80;
+    unmerged("hs_merge of a stream", &other, how, HS_STREAM);
+    other = whole;
+    other.rows.bytes[60] = 'd';
+    unmerged("hs_merge of two types", &other, how, HS_DIFFERS);
+}
+
+/* The handheld changed "Hi" to "Hey", the desktop to "Ho!", and the desktop has "New": the handheld's change stays under the
+   id, and the desktop's two contents are added. The desktop dropped what stands under id 3b1004, which goes on the
+   handheld, and the base remembers it. */
+static void conflict(void)
+{
+    struct hs_how how = {HS_SYNC, 1, 9};
+    struct sides before = {side_of(PDB), side_of(CHANGED), side_of(BASE), NO_SIDE};
+    before.handheld.bytes[99] = 'Y';
+    struct hs_ends ends;
+    static uint8_t room[2000];
+    int64_t all = merge_in(&before, &how, room, sizeof room, &ends);
+    if (all < 0) {
+        expect("hs_merge of a conflict", all, 0);
+        return;
+    }
+    struct hs_entry found;
+    uint8_t bytes[10];
+    uint32_t first, second;
+    static const char *const contents[] = {"Yi", "Ho!", "New"};
+    static const uint32_t categories[] = {2, 2, 0};
+    for (int side = 0; side < 2; side++) {
+        const uint8_t *file = side == 0 ? room : room + ends.handheld;
+        size_t size = (size_t)(side == 0 ? ends.handheld : ends.rows - ends.handheld);
+        uint32_t kind;
+        uint64_t place;
+        int seen[3] = {0, 0, 0};
+        expect("records of a conflict", hs_check(file, size, &kind, &place), 3);
+        for (uint32_t index = 0; index < 3; index++) {
+            size_t length = (size_t)hs_entry(file, size, index, &found, bytes, sizeof bytes);
+            for (int content = 0; content < 3; content++)
+                if (length == strlen(contents[content]) && memcmp(bytes, contents[content], length) == 0) {
+                    seen[content]++;
+                    expect("attributes", found.attributes, categories[content]);
+                    if (content == 0)
+                        expect("id", found.id, 1);
+                    if (content == 1)
+                        side == 0 ? (void)(first = found.id) : expect("one id on both sides", found.id, first);
+                    if (content == 2)
+                        side == 0 ? (void)(second = found.id) : expect("one id on both sides", found.id, second);
+                }
+        }
+        for (int content = 0; content < 3; content++)
+            expect(contents[content], seen[content], 1);
+    }
+    /* The base has the three rows and the one that went, with the delete bit. */
+    const uint8_t *base = room + ends.rows;
+    size_t size = (size_t)(ends.base - ends.rows);
+    uint32_t kind;
+    uint64_t place;
+    expect("base rows of a conflict", hs_check(base, size, &kind, &place), 4);
+    expect("the row that went", hs_entry(base, size, 3, &found, bytes, sizeof bytes), 4);
+    expect("its id", found.id, 0x3b1004);
+    expect("its delete bit", found.attributes, 0x80);
+    expect("no archive", (int64_t)(ends.archive - ends.base), 0);
+}
+
+/* A handheld with 65,535 records has no room for one of the desktop's. */
+static void full(void)
+{
+    size_t count = 65535, size = 78 + 8 * count + 2 + count;
+    uint8_t *many = calloc(1, size);
+    struct side row = side_of(CHANGED);
+    struct hs_how how = {HS_SYNC, 0, 9};
+    struct hs_ends ends = {99, 99, 99, 99};
+    uint8_t none[1] = {0xAA};
+    if (many == NULL)
+        exit(2);
+    bytes_of(CHANGED, many);
+    many[76] = 0xFF, many[77] = 0xFF;
+    for (size_t index = 0; index < count; index++) {
+        uint8_t *entry = many + 78 + 8 * index;
+        size_t begin = 78 + 8 * count + 2 + index, id = index + 1;
+        entry[0] = (uint8_t)(begin >> 24), entry[1] = (uint8_t)(begin >> 16);
+        entry[2] = (uint8_t)(begin >> 8), entry[3] = (uint8_t)begin;
+        entry[4] = 0, entry[5] = (uint8_t)(id >> 16), entry[6] = (uint8_t)(id >> 8), entry[7] = (uint8_t)id;
+    }
+    memset(many + 78 + 8 * count, 'x', 2 + count);
+    expect("hs_merge for a full handheld", hs_merge(many, size, row.bytes, row.size, none, 0, none, 0, &how, none, 0, &ends), HS_FULL);
+    expect("ends as they were", (int64_t)ends.archive, 99);
+    free(many);
+}
+
 /* ---- a line ---- */
 
 #define WAKE "beefed030302000effaf01c0000a0100010100000000258071ae\n"
@@ -295,6 +517,9 @@ int main(void)
 #endif
     files();
     large();
+    merges();
+    conflict();
+    full();
     lines();
     pictures();
     if (failed == 0)

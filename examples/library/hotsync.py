@@ -1,4 +1,7 @@
-"""What a database's file holds, by the library: hotsync.py FILE.pdb, with libhotsync.so beside it or in HOTSYNC_LIBRARY."""
+"""The library in Python, with libhotsync.so beside it or in HOTSYNC_LIBRARY.
+
+hotsync.py FILE.pdb prints what a database's file holds;
+hotsync.py merge HANDHELD DESKTOP NAME SECONDS [agree] merges the files of one database, as merge.c does."""
 
 import ctypes
 import os
@@ -50,6 +53,49 @@ def check(data):
     return (count, None) if count != FORM else (None, (kind.value, place.value))
 
 
+class How(ctypes.Structure):
+    """What is asked of a merge."""
+
+    _fields_ = [("action", ctypes.c_uint32), ("agree", ctypes.c_uint32), ("date", ctypes.c_uint32)]
+
+
+class Ends(ctypes.Structure):
+    """Where each file ends."""
+
+    _fields_ = [(name, ctypes.c_uint64) for name in ("handheld", "rows", "base", "archive")]
+
+
+def merge(files, date, agree=False, action=0):
+    """The four files of a database (handheld, rows, base, archive) as a session leaves them; b"" where there is none."""
+    how, ends = How(action, agree, date), Ends()
+    want = call("hs_merge", *files, ctypes.byref(how), (ctypes.c_ubyte * 0)(), ctypes.byref(ends))
+    if want < 0:
+        raise ValueError(f"hs_merge answers {want}")
+    room = (ctypes.c_ubyte * want)()
+    call("hs_merge", *files, ctypes.byref(how), room, ctypes.byref(ends))
+    places = [0] + [getattr(ends, name) for name, _ in Ends._fields_]
+    return [bytes(room[begin:end]) for begin, end in zip(places, places[1:])]
+
+
+def merge_files(handheld, desktop, name, date, agree):
+    """Merges the files of a database in two folders."""
+    names = [f"{handheld}/{name}.pdb"] + [f"{desktop}/{name}.{ending}" for ending in ("pdb", "base", "arc")]
+    files = []
+    for path in names:
+        data = b""
+        if os.path.exists(path):
+            with open(path, "rb") as file:
+                data = file.read()
+        files.append(data)
+    for path, data in zip(names, merge(files, date, agree)):
+        if data:
+            with open(path, "wb") as file:
+                file.write(data)
+
+
 if __name__ == "__main__":
-    with open(sys.argv[1], "rb") as file:
-        sys.stdout.write(show(file.read()))
+    if sys.argv[1] == "merge":
+        merge_files(*sys.argv[2:5], int(sys.argv[5]), len(sys.argv) > 6)
+    else:
+        with open(sys.argv[1], "rb") as file:
+            sys.stdout.write(show(file.read()))

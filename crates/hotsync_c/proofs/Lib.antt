@@ -1,2 +1,3 @@
+pub mod BuildLaws
 pub mod CutLaws
 pub mod PartLaws

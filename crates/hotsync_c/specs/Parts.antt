@@ -1,5 +1,6 @@
 -- A database in the parts that C sees of it.
-use Rattle.std.specs.Prelude.{◌≡◌, ⊤, ℕ, List, [], ◌++◌, length, slice_get, Option, Some, None, if◌then◌else◌}
+use Rattle.std.specs.Prelude.{◌≡◌, ⊤, ℕ, List, [], ◌++◌, length, map, slice_get, Option, Some, None, if◌then◌else◌}
+use Rattle.std.specs.List.{concat}
 use Rattle.std.specs.Option.{option_map}
 use Rattle.byteorder.specs.Endian.{big_number}
 use Rattle.pdb_values.specs.Databases.{DatabaseValue}
@@ -7,7 +8,7 @@ use Rattle.pdb_values.specs.declared.four_cc.FourCc.{FourCc}
 use Rattle.pdb_values.specs.declared.record.Record.{Record}
 use Rattle.pdb_values.specs.declared.resource.Resource.{Resource}
 use Rattle.pdb_files.specs.Entries.{attributes_of}
-use Rattle.pdb_files.specs.Files.{IsFileText, entry_count, has_resources}
+use Rattle.pdb_files.specs.Files.{IsFileText, data_of, entry_count, has_resources}
 use Rattle.hotsync_c.specs.Files.{RefusesFile}
 use Rattle.hotsync_c.specs.declared.parts.HsEntry.{HsEntry}
 use Rattle.hotsync_c.specs.declared.parts.HsHead.{HsHead}
@@ -116,3 +117,13 @@ RefusesEntry bytes index Memory = ⊤
 RefusesEntry bytes index Form = RefusesFile bytes Form
 RefusesEntry bytes index (BadLine line) = ⊥
 RefusesEntry bytes index Absent = LacksEntry bytes index
+
+-- what stands in front of each entry
+abbrev pub entries_of : DatabaseValue → List HsEntry
+entries_of database =
+    if has_resources database then map resource_entry database.resources
+    else map record_entry database.records
+
+-- the name, the blocks and the bytes of each entry, one behind the other
+abbrev pub packed_of : DatabaseValue → List ℕ
+packed_of database = front_of database ++ concat (data_of database)

@@ -1,0 +1,6 @@
+pub mod CountLaws
+pub mod LeftLaws
+pub mod MeetingLaws
+pub mod SeenLaws
+pub mod SkipLaws
+pub mod WriteLaws
