@@ -4,8 +4,8 @@
 //! - `packets TIMES` feeds the longest packet to a packet reader so often, `noise TIMES` as many bytes without a packet.
 //! - `agreed RECORDS TIMES` plans a database so often, where the handheld, the desktop and the base have the same records,
 //!   `new RECORDS TIMES` where the handheld and the desktop have and the base has none.
-//! - `id RECORDS TIMES`, `index ..` and `write ..` ask a server so often for a record by its id, by its index, or to write one, over
-//!   a database of records of 100 bytes in a folder in memory.
+//! - `id RECORDS TIMES`, `index ..`, `write ..` and `add ..` ask a server so often for a record by its id, by its index, to write
+//!   one, or to write a new one, over a database of records of 100 bytes in a folder in memory.
 //! - `exchanges TIMES` says one request so often over a line to a server, `lost TIMES` over a line that loses a frame in twenty.
 //!
 //! Without words it does a little of each.
@@ -54,6 +54,7 @@ fn done(alloc: Global, part: &str, first: u16, second: u16) -> Result<String, Al
         "id" => requests::answered(alloc, Asked::Id, first, second),
         "index" => requests::answered(alloc, Asked::Index, first, second),
         "write" => requests::answered(alloc, Asked::Write, first, second),
+        "add" => requests::answered(alloc, Asked::Add, first, second),
         "exchanges" => exchanges::taken(alloc, first, false),
         "lost" => exchanges::taken(alloc, first, true),
         _ => String::from_str(alloc, "no such part"),

@@ -20,6 +20,8 @@ pub enum Asked {
     Index,
     /// WriteRecord under an id that is there.
     Write,
+    /// WriteRecord of a record that is new.
+    Add,
 }
 
 /// Asks so often of a database of so many records, and says how often that was answered.
@@ -65,13 +67,20 @@ fn asks(server: &mut Server<MemFolder>, asked: Asked, number: u16, reply: &mut M
             let index = [0x20, 1, 0x21, 8, 1, 0, high, low, 0, 0, 0xFF, 0xFF];
             is_answered(server, &index, reply)
         }
-        Asked::Write => {
-            let mut write = [b'w'; 112];
-            let front = [0x21, 1, 0x20, 108, 1, 0x80, 0, 0, id_high, id_low, 0, 0];
-            write[..12].copy_from_slice(&front);
-            is_answered(server, &write, reply)
-        }
+        Asked::Write => writes(server, [id_high, id_low], number, reply),
+        Asked::Add => writes(server, [0, 0], number, reply),
     }
+}
+
+// Writes the record of an id, 0 for a new one, whose content begins with a number.
+fn writes(server: &mut Server<MemFolder>, id: [u8; 2], number: u16, reply: &mut Message) -> bool {
+    let mut write = [b'w'; 112];
+    let [high, low] = number.to_be_bytes();
+    let front = [
+        0x21, 1, 0x20, 108, 1, 0x80, 0, 0, id[0], id[1], 0, 0, high, low,
+    ];
+    write[..14].copy_from_slice(&front);
+    is_answered(server, &write, reply)
 }
 
 // Whether a request is answered without an error.

@@ -45,7 +45,7 @@ fn read_all<S: Source>(alloc: Global, source: &mut S) -> Result<Vec<u8>, Status>
     ensures count { S.faults source.old ≤ S.faults source.new }
 {
     let mut bytes = Vec::new(alloc);
-    let mut room = [0u8; 4096];
+    let mut room = [0u8; 65_536];
     for _turn in 0..GREATEST + 1 {
         let count = match source.read(&mut room) {
             Ok(count) => count,

@@ -1,6 +1,6 @@
 -- What the frames tell of the messages, where a message begins and where a piece goes again.
-use Rattle.line_steps.proofs.Names.{rules, ◌≡◌, ℕ, zero, suc, ◌-◌, ◌<◌, ◌≤◌, true, false, Vec, List, [], ◌∷◌, length, Some, None, refl, sym, ap, subst, ◌∙◌}
-use Rattle.line_steps.proofs.Names.{arith, inl, inr, ◌&&◌, Global, Key, piece_count, Waits, End, Handheld, Desktop, FateValue, course_of, Sent, first, said}
+use Rattle.line_steps.proofs.Names.{rules, ◌≡◌, ℕ, zero, suc, ◌-◌, ◌<◌, ◌≤◌, true, false, List, [], ◌∷◌, length, Some, None, refl, sym, ap, subst, ◌∙◌}
+use Rattle.line_steps.proofs.Names.{arith, inl, inr, ◌&&◌, Key, piece_count, Waits, End, Handheld, Desktop, FateValue, course_of, Sent, first, said}
 use Rattle.line_steps.proofs.Names.{acked, EndReached, IfAnswers, Talk, messages_of, pieces_before, answered_by, answer_to, came_by, Apart, Side, Waiting}
 use Rattle.line_steps.proofs.Names.{key_now, part_now, data_frame, left, count_messages, say, Speech, Talking, first_is, running_starts, turned, beginning}
 use Rattle.line_steps.proofs.Names.{end_taken, talking_starts, talking_tick_one, talking_tick_two, Half, Wire, past_now, side_of, Holds, Sends, cursor_of}

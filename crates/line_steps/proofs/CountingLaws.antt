@@ -1,4 +1,5 @@
 -- What the readers count, over each step.
+use Rattle.line_steps.proofs.Names.{IsFrameAt}
 use Rattle.line_steps.proofs.Names.{rules, ◌≡◌, ℕ, zero, suc, ◌+◌, ◌%◌, ◌<◌, ◌≤◌, Bool, true, false, ◌||◌, List, [], ◌∷◌, ◌++◌, length, take, drop, Some, refl}
 use Rattle.line_steps.proofs.Names.{sym, ap, subst, ◌∙◌, arith, inl, inr, slice_get, if◌then◌else◌, cond-true, cond-false, length-append, length-take}
 use Rattle.line_steps.proofs.Names.{length-drop, slice_get_within, raised, scan, packet_at, TallyValue, End, Frame, FateValue, Untouched, Lost, Late, Cut, Hit}
@@ -187,6 +188,11 @@ lands_marked {wire} {n} old new marks lands frame here =
 pub heard_lands : {X : End} {wire : Wire} {n : ℕ} {found : Frame} (old new : Half) → Delivers X wire n → slice_get wire.frames.items n ≡ Some found
     → (arrives (fate_value found.fate) ≡ true → new.reader.tally ≡ landed (frame_value found) old.reader.tally) → Lands n wire old new
 heard_lands old new next there tally frame here = search rules
+
+pub lent_lands : {X : End} {wire : Wire} {n : ℕ} {lent : FrameValue} (old new : Half) → Delivers X wire n → (it : IsFrameAt wire.frames.items n lent)
+    → (arrives lent.fate ≡ true → new.reader.tally ≡ landed lent old.reader.tally) → Lands n wire old new
+lent_lands old new next it tally = heard_lands old new next it.here
+    (λ here. tally (ap (λ v. arrives v.fate) it.is ∙ here) ∙ ap (λ v. landed v old.reader.tally) it.is)
 
 pub lands_same : (n : ℕ) (wire : Wire) (old mid new : Half) → new.reader ≡ mid.reader → Lands n wire old mid → Lands n wire old new
 lands_same n wire old mid new same lands frame here = search rules

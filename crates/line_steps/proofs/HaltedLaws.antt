@@ -1,6 +1,6 @@
 -- A run halts where a frame was to be sent: what its frames are then, and what they tell.
-use Rattle.line_steps.proofs.Names.{rules, Accepted, Whole, Repeated, Dropped, HeardOf, TookMessages, ◌≡◌, ℕ, ◌+◌, ◌<◌, ◌≤◌, false, Vec, List, ◌∷◌, [], length}
-use Rattle.line_steps.proofs.Names.{map, Some, refl, sym, ap, subst, ◌∙◌, arith, inl, inr, Bool, true, Global, cases_lt, cond-true, cond-false, and_from}
+use Rattle.line_steps.proofs.Names.{rules, Accepted, Whole, Repeated, Dropped, HeardOf, TookMessages, ◌≡◌, ℕ, ◌+◌, ◌<◌, ◌≤◌, false, List, ◌∷◌, [], length}
+use Rattle.line_steps.proofs.Names.{map, Some, refl, sym, ap, subst, ◌∙◌, arith, inl, inr, Bool, true, cases_lt, cond-true, cond-false, and_from}
 use Rattle.line_steps.proofs.Names.{map-append, PadpKind, Key, Taken, FragmentValue, piece_count, Waits, waiting_key, End, Frame, FateValue, holds_packet}
 use Rattle.line_steps.proofs.Names.{strange_bytes, comes, RepeatsHaveFaults, MayBear, is_abort, fragment_in, add_frame, past_behind, padp_packet, course_of}
 use Rattle.line_steps.proofs.Names.{Sent, is_data_of, at, Talk, frame_value, is_taken, data_taken, Apart, Side, part_now, ack_frame, say, running_next_piece}

@@ -1,13 +1,17 @@
 -- What an end heard of the other one's next frame.
 use Rattle.line_steps.proofs.Names.{rules, ◌≡◌, ℕ, not, [], Some, sym, ap, subst, ◌∙◌, slice_get, and_from, packet_at, ReaderValue, Key, Taken, data_fragment}
 use Rattle.line_steps.proofs.Names.{FragmentValue, key_of, ReceiverValue, Answers, after_answer, Frame, is_data_kind, fragment_in, is_end, frame_value, Half}
-use Rattle.line_steps.proofs.Names.{Wire, Heard, Nothing, Ack, Hears, Goes, Holds, Heeded, Delivers, AckNext, DataHeard}
+use Rattle.line_steps.proofs.Names.{List, FrameValue, IsFrameAt, Wire, Heard, Nothing, Ack, Hears, Goes, Holds, Heeded, Delivers, AckNext, DataHeard}
 use Rattle.padp_link.specs.declared.fragment.PadpKind.TheVariants as kind
 use Rattle.line_steps.specs.declared.hearing.Heard.TheVariants.{Data}
 use Rattle.line_steps.proofs.HoldsLaws.{with_reader}
 
 abbrev HearsFrame : Frame → ReceiverValue → Heard → ReceiverValue → Type 0
 HearsFrame frame old heard new = Hears old (packet_at frame.bytes.items).id (fragment_in (frame_value frame)) heard new
+
+pub hears_lent : {frames : List Frame} {n : ℕ} {lent : FrameValue} (old : ReceiverValue) (heard : Heard) (new : ReceiverValue) → (it : IsFrameAt frames n lent)
+    → Hears old (packet_at lent.bytes).id (fragment_in lent) heard new → HearsFrame it.frame old heard new
+hears_lent old heard new it hears = subst (λ v. Hears old (packet_at v.bytes).id (fragment_in v) heard new) it.is hears
 
 pub read_on : (wire : Wire) (x y : Half) (reader : ReaderValue) → Holds wire x y → reader.held ≡ [] → Holds wire x (with_reader y reader)
 read_on wire x y reader holds gap = search rules
@@ -19,9 +23,9 @@ same_frame wire n frame next here there = cc
 pub heard_ack-holds : {wire : Wire} {x y new : Half} → Holds wire x y → new.receiver ≡ y.receiver → Heeded y new → new.reader.held ≡ [] → Holds wire x new
 heard_ack-holds holds same heeded gap = search rules
 
-pub heard_ack-next : {wire : Wire} (x y : Half) {frame : Frame} {key : Key} {later : ReceiverValue} → Delivers x.end wire x.taken
+pub heard_ack-next : {wire : Wire} (x y : Half) {frame : Frame} {key : Key} (later : ReceiverValue) → Delivers x.end wire x.taken
     → slice_get wire.frames.items x.taken ≡ Some frame → HearsFrame frame y.receiver (Ack key) later → AckNext x.end wire x.taken key
-heard_ack-next {wire} x y {frame} {key} {later} next here hears =
+heard_ack-next {wire} x y {frame} {key} later next here hears =
     let h = subst (λ f. HearsFrame f y.receiver (Ack key) later) (same_frame wire x.taken frame next.frame here next.here) hears in
     record {
       next = next;
@@ -51,5 +55,5 @@ heard_data {wire} {x} {y} {new} {frame} {key} {taken} holds next here hears heed
           ∙ ap (λ k. after_answer y.receiver k.id (data_fragment k fragment.bytes) taken) (sym h.1);
     }
 
-pub heard_something : {number : ℕ} (frame : Frame) {old new : ReceiverValue} → Goes number (frame_value frame) → HearsFrame frame old Nothing new → ⊥
-heard_something frame goes hears = search rules
+pub heard_something : {number : ℕ} (frame : Frame) (old new : ReceiverValue) → Goes number (frame_value frame) → HearsFrame frame old Nothing new → ⊥
+heard_something frame old new goes hears = search rules

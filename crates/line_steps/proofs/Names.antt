@@ -40,7 +40,7 @@ pub use Rattle.line_steps.specs.Carrying.{Carried, Reaches, SameMessage, StepTo,
 pub use Rattle.line_steps.specs.Counting.{Counted, Lands, counts, landed}
 pub use Rattle.line_steps.specs.Halting.{EndsWith, Halted, HaltsBy, IsSpent, NotAgain, Spoke, Spoken, TenFaults, is_aborted, other_end}
 pub use Rattle.line_steps.specs.Hearing.{Hears, counted, tally_after}
-pub use Rattle.line_steps.specs.Marking.{Marks, marked}
+pub use Rattle.line_steps.specs.Marking.{Marks}
 pub use Rattle.line_steps.specs.Promising.{FairIsNeverDown, HaltedIsProper, HaltedTells, RunningIsProper, TellsOf, TurnTellsAll}
 pub use Rattle.line_steps.specs.Resting.{IsNew}
 pub use Rattle.line_steps.specs.Running.{AllGo, AtHead, ComesNext, Goes, Heeded, Holds, IsHalf, Moved, Read, SamePlace, Stays, past_now, sent_of, side_of}
@@ -118,5 +118,7 @@ pub use Rattle.trace_text.specs.Tallies.{faults_from}
 pub use Rattle.trace_text.specs.TraceLines.{FrameValue, frame_value}
 pub use Rattle.trace_text.specs.declared.frame.End.{End}
 pub use Rattle.trace_text.specs.declared.frame.End.TheVariants.{Desktop, Handheld}
+pub use Rattle.trace_text.specs.FrameLogs.{FrameLogValue, IsFrameAt, KeepsRoom, marked}
+pub use Rattle.trace_text.specs.Lent.{fate_with, lent_fate, lent_frame}
 pub use Rattle.trace_text.specs.declared.frame.Frame.{Frame}
 pub use Rattle.std.proofs.lemmas.Grind.{common_steps}

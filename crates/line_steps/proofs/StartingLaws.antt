@@ -1,10 +1,12 @@
 -- A message begins, and a waiting piece goes again, over the values of the program.
-use Rattle.line_steps.proofs.Names.{rules, ◌≡◌, ◌⊎◌, ℕ, suc, ◌+◌, ◌<◌, ◌≤◌, true, false, Vec, List, [], ◌∷◌, length, Some, None, sym, ap, subst, ◌∙◌, arith}
-use Rattle.line_steps.proofs.Names.{inl, inr, slice_get, Global, and_parts, and_from, SenderValue, Waits, End, Frame, FateValue, fate_value, is_late, course_of}
+use Rattle.line_steps.proofs.Names.{rules, ◌≡◌, ◌⊎◌, ℕ, suc, ◌+◌, ◌<◌, ◌≤◌, true, false, List, [], ◌∷◌, length, Some, None, sym, ap, subst, ◌∙◌, arith}
+use Rattle.line_steps.proofs.Names.{inl, inr, slice_get, and_parts, and_from, SenderValue, Waits, End, Frame, FateValue, fate_value, is_late, course_of}
 use Rattle.line_steps.proofs.Names.{is_end, at, Waiting, key_now, part_now, data_frame, Line, Blocked, beginning, running_starts, running_tick_one}
 use Rattle.line_steps.proofs.Names.{running_tick_two, Half, Wire, sent_of, past_now, side_of, IsHalf, AllGo, Holds, ComesNext, AtHead, Sends, Delivers}
-use Rattle.line_steps.proofs.Names.{SendsAgain, Turn}
-use Rattle.trace_text.specs.declared.fate.Fate.TheVariants as fate
+use Rattle.line_steps.proofs.Names.{SendsAgain, Turn, fate_with, refl}
+use Rattle.trace_text.specs.Fates as fates
+use Rattle.trace_text.specs.declared.fate.FateKind.{FateKind}
+use Rattle.trace_text.specs.declared.fate.FateKind.TheVariants as kinds
 use Rattle.line_steps.proofs.FrameLaws.{past_at, length-past}
 use Rattle.line_steps.proofs.SendingLaws.{extends, lined}
 use Rattle.line_steps.proofs.TurnLaws.{holds_turned}
@@ -37,6 +39,26 @@ pub comes_at : {X : End} {frames : List Frame} {n : ℕ} → AtHead X frames n �
 comes_at (inl over) more = absurd (more over)
 comes_at (inr comes) more = comes
 
+late_is : (given : FateValue) → is_late (course_of given) ≡ true → given ≡ fates.Late
+late_is fates.Untouched late = cc
+late_is fates.Lost late = cc
+late_is fates.Late late = refl
+late_is (fates.Cut count) late = cc
+late_is (fates.Hit place bytes) late = cc
+late_is (fates.Noise bytes) late = cc
+late_is fates.Unplug late = cc
+late_is fates.Abort late = cc
+
+pub kind_late : (kind : FateKind) (bytes : List ℕ) → fate_with kind bytes ≡ fates.Late → kind ≡ kinds.Late
+kind_late kinds.Ok bytes is = cc
+kind_late kinds.Lost bytes is = cc
+kind_late kinds.Late bytes is = refl
+kind_late (kinds.Cut count) bytes is = cc
+kind_late (kinds.Hit place) bytes is = cc
+kind_late kinds.Noise bytes is = cc
+kind_late kinds.Unplug bytes is = cc
+kind_late kinds.Abort bytes is = cc
+
 module _ {X : End} {wire : Wire} {n : ℕ} {frame : Frame} where
   deliver : ComesNext X wire.frames.items n → slice_get wire.frames.items n ≡ Some frame
       → (is_late (course_of (fate_value frame.fate)) ≡ true → n + 1 ≤ wire.released) → Delivers X wire n
@@ -45,11 +67,11 @@ module _ {X : End} {wire : Wire} {n : ℕ} {frame : Frame} where
   pub delivers_late : ComesNext X wire.frames.items n → slice_get wire.frames.items n ≡ Some frame → n < wire.released → Delivers X wire n
   delivers_late comes here below = search rules
 
-  pub delivers_now : ComesNext X wire.frames.items n → slice_get wire.frames.items n ≡ Some frame → (frame.fate ≡ fate.Late → ⊥) → Delivers X wire n
-  delivers_now comes here not_late = search rules
+  pub delivers_now : ComesNext X wire.frames.items n → slice_get wire.frames.items n ≡ Some frame → (fate_value frame.fate ≡ fates.Late → ⊥) → Delivers X wire n
+  delivers_now comes here not_late = deliver comes here (λ late. absurd (not_late (late_is (fate_value frame.fate) late)))
 
 pub held_back : {X : End} (wire : Wire) {n : ℕ} {frame : Frame} → AllGo 1 wire.frames.items → ComesNext X wire.frames.items n
-    → slice_get wire.frames.items n ≡ Some frame → frame.fate ≡ fate.Late → wire.released ≤ n → Blocked X (past_now wire.frames.items) n wire.released
+    → slice_get wire.frames.items n ≡ Some frame → fate_value frame.fate ≡ fates.Late → wire.released ≤ n → Blocked X (past_now wire.frames.items) n wire.released
 held_back {X} wire {n} {frame} go comes here late above =
     let parts = and_parts (is_end X frame.from) _ (comes.is frame here) in
     inr (record {
@@ -57,7 +79,7 @@ held_back {X} wire {n} {frame} go comes here late above =
       older = at n (past_now wire.frames.items);
       inside = omega (arith, comes.inside, length-past wire.frames.items go);
       here = past_at wire.frames.items n go here;
-      late = and_from (is_end X frame.from) _ parts.0 (ap (λ f. is_late (course_of (fate_value f))) late);
+      late = and_from (is_end X frame.from) _ parts.0 (ap (λ f. is_late (course_of f)) late);
       above = omega (arith, above);
     })
 

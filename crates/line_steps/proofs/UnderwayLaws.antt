@@ -1,6 +1,6 @@
 -- A message stays on its way until it is whole.
-use Rattle.line_steps.proofs.Names.{rules, ◌≡◌, ℕ, ◌+◌, ◌<◌, ◌≤◌, Bool, true, false, List, [], ◌∷◌, length, Vec, Some, None, refl, sym, ap, subst, ◌∙◌, arith}
-use Rattle.line_steps.proofs.Names.{Global, both_ways, eqb-false, Key, Taken, Accepted, Whole, Repeated, Dropped, piece_count, ReceiverValue, SenderValue}
+use Rattle.line_steps.proofs.Names.{rules, ◌≡◌, ℕ, ◌+◌, ◌<◌, ◌≤◌, Bool, true, false, List, [], ◌∷◌, length, Some, None, refl, sym, ap, subst, ◌∙◌, arith}
+use Rattle.line_steps.proofs.Names.{both_ways, eqb-false, Key, Taken, Accepted, Whole, Repeated, Dropped, piece_count, ReceiverValue, SenderValue}
 use Rattle.line_steps.proofs.Names.{Waits, waiting_key, FateValue, course_of, Sent, said, acked, Apart, Waiting, Follows, Core, part_now, ack_frame}
 use Rattle.line_steps.proofs.Names.{running_starts, turned, acknowledged, beginning, matched, take_ack, Active, active_begun, active_taken, active_goes_on}
 use Rattle.line_steps.proofs.Names.{Half, Wire, Heard, Nothing, Ack, sent_of, past_now, side_of, IsHalf, AllGo, Holds, Heeded, AllTaken, Sends, ack_fragment}

@@ -1,13 +1,15 @@
--- The memory that a line takes: only its list of frames grows.
-use Rattle.std.specs.Prelude.{◌≡◌, ◌≤◌, Result, IfErr, length, vec_capacity}
-use Rattle.std.specs.Global.{Vec}
-use Rattle.trace_text.specs.declared.frame.Frame.{Frame}
+-- The memory that a line takes: only its log of frames grows.
+use Rattle.std.specs.Prelude.{◌≡◌, ◌⊎◌, ◌+◌, ◌≤◌, ◌<◌, Result, IfErr, length}
+use Rattle.trace_text.specs.FrameLogs.{FrameLogValue, KeepsRoom}
 use Rattle.line_steps.specs.declared.sending.Halt.{Halt}
 use Rattle.line_steps.specs.declared.sending.Halt.TheVariants.{NoMemory}
 
--- The list of frames keeps its room, and memory runs out only where it outgrows the room that it
--- had.
-abbrev pub WantsRoom : {A : Type 0} → Result A Halt → Vec Frame → Vec Frame → Type 0
+-- The frames outgrow the room that the log had, or the bytes of the log had less room left than one
+-- frame may take: a packet, and as much noise.
+abbrev pub Outgrows : FrameLogValue → FrameLogValue → Type 0
+Outgrows old new = (old.room ≤ length new.items) ⊎ (old.byte_room < new.used + 2080)
+
+-- The log keeps its room, and memory runs out only where it outgrows the room that it had.
+abbrev pub WantsRoom : {A : Type 0} → Result A Halt → FrameLogValue → FrameLogValue → Type 0
 WantsRoom result old new =
-    (vec_capacity old ≤ vec_capacity new)
-    × IfErr result (λ halt. halt ≡ NoMemory → vec_capacity old ≤ length new.items)
+    KeepsRoom old new × IfErr result (λ halt. halt ≡ NoMemory → Outgrows old new)

@@ -3,7 +3,6 @@ ghost use Rattle.std.specs.Prelude.{◌≡◌, ◌≤◌, OnOk, IfOk, IfErr, fal
 ghost use Rattle.padp_link.specs.Pieces.{piece_count};
 ghost use Rattle.padp_link.specs.Senders.{Waits};
 ghost use Rattle.line_laws.specs.Progress.{Blocked};
-ghost use Rattle.line_script.specs.Scripts.{fate_by};
 ghost use Rattle.trace_text.specs.Fates.{fate_value};
 ghost use Rattle.trace_text.specs.Talks.{Talk};
 ghost use Rattle.trace_text.specs.declared.frame.End.TheVariants.{Desktop};
@@ -24,7 +23,6 @@ use crate::sending::Halt;
 use crate::skipping::skip_to_head;
 use crate::taking::take_next;
 use crate::ticking::{delivers, tick};
-use arrayvec::ArrayVec;
 use line_script::Script;
 use padp_link::Taken;
 use trace_text::{End, Fate};
@@ -116,7 +114,7 @@ fn deliver(wire: &mut Wire, x: &mut Half, y: &mut Half, script: &Script) -> Resu
     ensures room { WantsRoom result wire.old.frames wire.new.frames }
 {
     let number = wire.frames.len() as u64 + 1;
-    let fate = fate_of(script, number);
+    let fate = script.fate(number);
     match next_of(wire, x, y) {
         Next::Own => {
             let heard = take_next(wire, x, y, fate)?;
@@ -127,7 +125,7 @@ fn deliver(wire: &mut Wire, x: &mut Half, y: &mut Half, script: &Script) -> Resu
             Ok(false)
         }
         Next::Nothing => {
-            let other = fate_of(script, number + 1);
+            let other = script.fate(number + 1);
             wait(wire, x, y, fate, other)?;
             Ok(false)
         }
@@ -172,14 +170,14 @@ fn is_whole(heard: Heard) -> bool
 }
 
 /// Lets time pass while `x` waits. The desktop's timer runs first.
-fn wait(wire: &mut Wire, x: &mut Half, y: &mut Half, fate: Fate, other: Fate) -> Result<(), Halt>
+fn wait(wire: &mut Wire, x: &mut Half, y: &mut Half, fate: &Fate, other: &Fate) -> Result<(), Halt>
     requires holds { Holds wire.old x.old y.old }
     requires waits { Waits x.old.sender }
     requires x_blocked { Blocked x.old.end
         (past_now wire.old.frames.items) x.old.taken wire.old.released }
     requires y_blocked { Blocked y.old.end
         (past_now wire.old.frames.items) y.old.taken wire.old.released }
-    ensures adds { AddsTwo (fate_value fate) (fate_value other)
+    ensures adds { AddsTwo (fate_value fate.now) (fate_value other.now)
         wire.old.frames.items wire.new.frames.items }
     // The first frame more is the desktop's where it waits.
     ensures own_first { x.old.end ≡ Desktop →
@@ -199,29 +197,4 @@ fn wait(wire: &mut Wire, x: &mut Half, y: &mut Half, fate: Fate, other: Fate) ->
         End::Desktop => tick(wire, x, y, fate, other),
         End::Handheld => tick(wire, y, x, fate, other),
     }
-}
-
-/// The fate that the script gives the frame of this number.
-pub fn fate_of(script: &Script, number: u64) -> Fate
-    ensures { fate_value result ≡ fate_by script.now number }
-{
-    match script.fate(number) {
-        Fate::Ok => Fate::Ok,
-        Fate::Lost => Fate::Lost,
-        Fate::Late => Fate::Late,
-        Fate::Cut(count) => Fate::Cut(*count),
-        Fate::Hit(place, bytes) => Fate::Hit(*place, copy_of(bytes)),
-        Fate::Noise(bytes) => Fate::Noise(copy_of(bytes)),
-        Fate::Unplug => Fate::Unplug,
-        Fate::Abort => Fate::Abort,
-    }
-}
-
-/// The same bytes.
-fn copy_of<const MOST: usize>(bytes: &ArrayVec<u8, MOST>) -> ArrayVec<u8, MOST>
-    ensures { result.items ≡ bytes.now.items }
-{
-    let mut copy = ArrayVec::new();
-    let _fits = copy.try_extend_from_slice(bytes.as_slice()).is_ok();
-    copy
 }

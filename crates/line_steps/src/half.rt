@@ -2,13 +2,13 @@
 use dlp_args::Message;
 use padp_link::{Receiver, Sender};
 use slp_frames::SlpReader;
-use trace_text::{End, Frame};
+use trace_text::{End, FrameLog};
 
 /// What was sent over the line so far.
 #[derive(Drop)]
 pub struct Wire {
     /// The frames of both ends, in the order of sending.
-    pub frames: Vec<Frame>,
+    pub frames: FrameLog,
     /// How many of them had been sent at the last tick. A late frame among these is held no more.
     pub released: usize,
 }

@@ -2,12 +2,13 @@
 ghost use Rattle.std.specs.Prelude.{◌≡◌, ◌≤◌, ◌<◌, ◌+◌, ◌++◌, length};
 ghost use Rattle.arrayvec.specs.ArrayVec.{array_vec_len};
 ghost use Rattle.trace_text.specs.Fates as fates;
-ghost use Rattle.trace_text.specs.Fates.{fate_value, strange_bytes, xored};
+ghost use Rattle.trace_text.specs.Fates.{strange_bytes, xored};
+ghost use Rattle.trace_text.specs.Lent.{lent_fate};
 ghost use Rattle.line_steps.specs.Sending.{StopsBy};
 
 use arrayvec::ArrayVec;
 use slp_frames::{MAX_PACKET, SlpReader};
-use trace_text::Fate;
+use trace_text::{FateKind, FateLent};
 
 /// Why a run ends when a frame is to be sent.
 #[derive(Clone, Copy)]
@@ -21,17 +22,19 @@ pub enum Stop {
 }
 
 /// Why the run ends with a frame of this fate and these bytes, if it does.
-pub(crate) fn stop_of(fate: &Fate, bytes: &[u8]) -> Option<Stop>
+pub(crate) fn stop_of(fate: FateLent<'_>, bytes: &[u8]) -> Option<Stop>
     requires some { 0 < length bytes.now }
     requires short { length bytes.now ≤ 1040 }
-    ensures { StopsBy (fate_value fate.now) bytes.now result }
+    ensures { StopsBy (lent_fate fate.entry) bytes.now result }
 {
-    match fate {
-        Fate::Unplug => Some(Stop::Unplugged),
-        Fate::Abort => Some(Stop::Aborted),
-        Fate::Ok | Fate::Lost | Fate::Late => None,
-        Fate::Cut(_) | Fate::Hit(_, _) | Fate::Noise(_) => {
-            if holds_packet(strange(fate, bytes).as_slice()) {
+    match fate.kind {
+        FateKind::Unplug => Some(Stop::Unplugged),
+        FateKind::Abort => Some(Stop::Aborted),
+        FateKind::Ok | FateKind::Lost | FateKind::Late => None,
+        FateKind::Cut(_) | FateKind::Hit(_) | FateKind::Noise => {
+            let mut harm = ArrayVec::new();
+            write_strange(fate, bytes, &mut harm);
+            if holds_packet(harm.as_slice()) {
                 Some(Stop::Undetected)
             } else {
                 None
@@ -40,24 +43,24 @@ pub(crate) fn stop_of(fate: &Fate, bytes: &[u8]) -> Option<Stop>
     }
 }
 
-/// What arrives of a frame by itself and isn't the frame: what a cut or a hit leaves of it, or the noise in front of it.
-pub(crate) fn strange(fate: &Fate, bytes: &[u8]) -> ArrayVec<u8, MAX_PACKET>
+/// Replaces `out` by what arrives of a frame by itself and isn't the frame: what a cut or a hit leaves of it, or the noise in
+/// front of it.
+pub(crate) fn write_strange(fate: FateLent<'_>, bytes: &[u8], out: &mut ArrayVec<u8, MAX_PACKET>)
     requires some { 0 < length bytes.now }
     requires short { length bytes.now ≤ 1040 }
-    ensures { result.items ≡ strange_bytes (fate_value fate.now) bytes.now }
+    ensures { out.new.items ≡ strange_bytes (lent_fate fate.entry) bytes.now }
 {
-    let mut out = ArrayVec::new();
-    match fate {
-        Fate::Cut(count) => append(&mut out, &bytes[..usize::from(*count) % bytes.len()]),
-        Fate::Hit(place, mask) => {
-            let place = usize::from(*place) % bytes.len();
-            append(&mut out, &bytes[..place]);
-            append_xored(&mut out, mask.as_slice(), &bytes[place..]);
+    out.clear();
+    match fate.kind {
+        FateKind::Cut(count) => append(out, &bytes[..usize::from(count) % bytes.len()]),
+        FateKind::Hit(place) => {
+            let place = usize::from(place) % bytes.len();
+            append(out, &bytes[..place]);
+            append_xored(out, fate.bytes, &bytes[place..]);
         }
-        Fate::Noise(noise) => append(&mut out, noise.as_slice()),
-        Fate::Ok | Fate::Lost | Fate::Late | Fate::Unplug | Fate::Abort => {}
+        FateKind::Noise => append(out, fate.bytes),
+        FateKind::Ok | FateKind::Lost | FateKind::Late | FateKind::Unplug | FateKind::Abort => {}
     }
-    out
 }
 
 /// Appends bytes for which there is room.

@@ -3,16 +3,18 @@ ghost use Rattle.std.specs.Prelude.{◌≡◌, ◌≤◌, ◌<◌, ℕ, [], leng
 ghost use Rattle.slp_frames.specs.PacketScan.{scan};
 ghost use Rattle.padp_link.specs.Arrivals.{Bears};
 ghost use Rattle.padp_link.specs.FragmentText.{FragmentValue, FragmentText, fragment_text};
-ghost use Rattle.trace_text.specs.Fates.{fate_value, ends_run, strange_bytes};
+ghost use Rattle.trace_text.specs.Fates.{ends_run, strange_bytes};
 ghost use Rattle.trace_text.specs.Frames.{padp_packet};
+ghost use Rattle.trace_text.specs.Lent.{lent_frame};
 ghost use Rattle.line_steps.specs.Hearing.{Hears, Silent, tally_after};
 ghost use Rattle.line_steps.specs.Running.{Read};
 
 use crate::half::Half;
-use crate::harm::strange;
+use crate::harm::write_strange;
+use arrayvec::ArrayVec;
 use padp_link::{Arrived, Key, Receiver, Taken, arrived};
 use slp_frames::{PacketLent, SlpReader};
-use trace_text::Frame;
+use trace_text::FrameLent;
 
 /// What an end heard.
 #[derive(Clone, Copy)]
@@ -46,17 +48,18 @@ pub fn hear(reader: &mut SlpReader, receiver: &mut Receiver, bytes: &[u8]) -> He
 }
 
 /// Gives an end what the line left of a frame of the other end, or the noise in front of it.
-pub(crate) fn hear_harm(frame: &Frame, half: &mut Half)
+pub(crate) fn hear_harm(frame: FrameLent<'_>, half: &mut Half)
     requires gap { half.old.reader.held ≡ [] }
-    requires goes { ends_run (fate_value frame.now.fate) frame.now.bytes.items ≡ false }
-    requires some { 0 < length frame.now.bytes.items }
+    requires goes { ends_run (lent_frame frame).fate (lent_frame frame).bytes ≡ false }
+    requires some { 0 < length (lent_frame frame).bytes }
     ensures read { Read half.old half.new }
     ensures gap { half.new.reader.held ≡ [] }
     ensures tally { half.new.reader.tally ≡
         tally_after half.old.reader.tally (strange_bytes
-        (fate_value frame.now.fate) frame.now.bytes.items) }
+        (lent_frame frame.entry).fate (lent_frame frame.entry).bytes) }
 {
-    let harm = strange(&frame.fate, frame.bytes.as_slice());
+    let mut harm = ArrayVec::new();
+    write_strange(frame.fate, frame.bytes, &mut harm);
     hear(&mut half.reader, &mut half.receiver, harm.as_slice());
 }
 

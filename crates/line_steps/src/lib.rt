@@ -17,7 +17,7 @@ mod starting;
 mod taking;
 mod ticking;
 
-pub use carrying::{carry, fate_of, settle};
+pub use carrying::{carry, settle};
 pub use half::{Half, Wire};
 pub use harm::Stop;
 pub use hearing::{Heard, hear};

@@ -11,7 +11,7 @@ use dlp_args::Message;
 use padp_link::{Receiver, Sender};
 use slp_frames::SlpReader;
 use std::alloc::{AllocError, Global};
-use trace_text::End;
+use trace_text::{End, FrameLog};
 
 /// A line with its two ends.
 #[derive(Drop)]
@@ -23,7 +23,7 @@ pub struct Line {
 
 impl Line {
     /// A line over which nothing was sent. It is the handheld's turn. The memory for the longest message that each end
-    /// sends and takes is taken here; afterwards only the list of frames grows.
+    /// sends and takes is taken here; afterwards only the log of frames grows.
     pub fn new(alloc: Global) -> Result<Line, AllocError>
         ensures turn { IfOk result (λ line. Turn line.wire line.handheld line.desktop) }
         ensures handheld { IfOk result (λ line. IsNew line.handheld Handheld) }
@@ -37,7 +37,7 @@ impl Line {
         let handheld = new_half(alloc, End::Handheld)?;
         let desktop = new_half(alloc, End::Desktop)?;
         let wire = Wire {
-            frames: Vec::new(alloc),
+            frames: FrameLog::new(alloc),
             released: 0,
         };
         Ok(Line {

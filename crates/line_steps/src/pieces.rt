@@ -16,15 +16,15 @@ use padp_link::{Fragment, Key, PadpKind, Piece};
 use trace_text::{End, Fate};
 
 /// Sends the waiting piece of an end's message.
-pub(crate) fn send_piece(wire: &mut Wire, half: &Half, fate: Fate) -> Result<(), Halt>
+pub(crate) fn send_piece(wire: &mut Wire, half: &Half, fate: &Fate) -> Result<(), Halt>
     requires waits { Waits half.now.sender }
     requires half { IsHalf half.now }
     ensures ok { OnOk result
         (Sends wire.old.frames.items half.now.end half.now.sender.id (part_now (side_of half.now))
-        (fate_value fate) None wire.new.frames.items) }
+        (fate_value fate.now) None wire.new.frames.items) }
     ensures halt { IfErr result
         (λ halt. Halts wire.old.frames.items half.now.end half.now.sender.id (part_now
-        (side_of half.now)) (fate_value fate) halt wire.new.frames.items) }
+        (side_of half.now)) (fate_value fate.now) halt wire.new.frames.items) }
     ensures released { wire.new.released ≡ wire.old.released }
     ensures room { WantsRoom result wire.old.frames wire.new.frames }
 {
@@ -59,13 +59,13 @@ fn fragment_with(half: &Half, piece: Piece) -> Fragment<'_>
 }
 
 /// Sends the acknowledgement of the data fragment with this key.
-pub(crate) fn send_ack(wire: &mut Wire, from: End, key: Key, fate: Fate) -> Result<(), Halt>
+pub(crate) fn send_ack(wire: &mut Wire, from: End, key: Key, fate: &Fate) -> Result<(), Halt>
     requires { key.flags < 256 → IsFragment (ack_fragment key) }
     ensures ok { OnOk result
         (Sends wire.old.frames.items from key.id (ack_fragment key)
-        (fate_value fate) None wire.new.frames.items) }
+        (fate_value fate.now) None wire.new.frames.items) }
     ensures halt { IfErr result (λ halt. Halts wire.old.frames.items from key.id
-        (ack_fragment key) (fate_value fate) halt wire.new.frames.items) }
+        (ack_fragment key) (fate_value fate.now) halt wire.new.frames.items) }
     ensures released { wire.new.released ≡ wire.old.released }
     ensures room { WantsRoom result wire.old.frames wire.new.frames }
 {

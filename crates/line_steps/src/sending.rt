@@ -13,7 +13,7 @@ use arrayvec::ArrayVec;
 use padp_link::{FIRST, Fragment, LAST, PACKET_TYPE, PadpKind, SOCKET, write_fragment};
 use slp_frames::{MAX_PACKET, Packet, write_packet};
 use std::alloc::{AllocError, AllocFailed};
-use trace_text::{End, Fate, Frame};
+use trace_text::{End, Fate, FrameLog};
 
 /// Why a run halts.
 #[derive(Clone, Copy)]
@@ -44,33 +44,27 @@ impl From<AllocError> for Halt {
 
 /// Sends a fragment in a packet of this transaction, with this fate.
 pub(crate) fn send(
-    frames: &mut Vec<Frame>,
+    frames: &mut FrameLog,
     from: End,
     id: u8,
     fragment: &Fragment<'_>,
-    fate: Fate,
+    fate: &Fate,
 ) -> Result<(), Halt>
     requires { IsFragment (fragment_value fragment.now) }
     ensures ok { OnOk result
         (Sends frames.old.items from id (fragment_value fragment.now)
-        (fate_value fate) None frames.new.items) }
+        (fate_value fate.now) None frames.new.items) }
     ensures halt { IfErr result (λ halt. Halts frames.old.items from id
-        (fragment_value fragment.now) (fate_value fate) halt frames.new.items) }
+        (fragment_value fragment.now) (fate_value fate.now) halt frames.new.items) }
     ensures room { WantsRoom result frames.old frames.new }
 {
-    let bytes = packet_with(id, fragment);
-    let stop = stop_of(&fate, bytes.as_slice());
-    let bytes = match stop {
-        Some(Stop::Aborted) => packet_with(id, &ABORT),
-        Some(Stop::Unplugged | Stop::Undetected) | None => bytes,
-    };
-    frames.push(Frame {
-        number: frames.len() as u64 + 1,
-        from,
-        fate,
-        came: false,
-        bytes,
-    })?;
+    let mut packet = ArrayVec::new();
+    write_with(id, fragment, &mut packet);
+    let stop = stop_of(fate.lent(), packet.as_slice());
+    if let Some(Stop::Aborted) = stop {
+        write_with(id, &ABORT, &mut packet);
+    }
+    frames.push(from, fate.lent(), packet.as_slice())?;
     match stop {
         Some(stop) => Err(Halt::Stopped(stop)),
         None => Ok(()),
@@ -85,10 +79,10 @@ const ABORT: Fragment<'static> = Fragment {
     bytes: &[],
 };
 
-/// The packet of this transaction with this fragment.
-fn packet_with(id: u8, fragment: &Fragment<'_>) -> ArrayVec<u8, MAX_PACKET>
+/// Replaces `out` by the packet of this transaction with this fragment.
+fn write_with(id: u8, fragment: &Fragment<'_>, out: &mut ArrayVec<u8, MAX_PACKET>)
     requires { IsFragment (fragment_value fragment.now) }
-    ensures bytes { result.items ≡ padp_packet id (fragment_value fragment.now) }
+    ensures bytes { out.new.items ≡ padp_packet id (fragment_value fragment.now) }
     ensures text { FragmentText (fragment_value fragment.now) (fragment_text
         (fragment_value fragment.now)) }
 {
@@ -101,7 +95,5 @@ fn packet_with(id: u8, fragment: &Fragment<'_>) -> ArrayVec<u8, MAX_PACKET>
         id,
         body,
     };
-    let mut bytes = ArrayVec::new();
-    write_packet(&packet, &mut bytes);
-    bytes
+    write_packet(&packet, out);
 }

@@ -30,7 +30,7 @@ pub fn start(
     y: &Half,
     id: u8,
     message: &[u8],
-    fate: Fate,
+    fate: &Fate,
 ) -> Result<(), Halt>
     requires turn { Turn wire.old x.old y.now }
     requires other { ¬ (id ≡ x.old.sender.id) }
@@ -50,7 +50,7 @@ pub fn start(
         Talks talk wire.old x.old y.now →
         Spoke (say x.old.end message.now talk) wire.new x.new y.now) }
     ensures recorded { (script : List RuleValue) →
-        fate_value fate ≡ fate_by script (length wire.old.frames.items + 1) →
+        fate_value fate.now ≡ fate_by script (length wire.old.frames.items + 1) →
         Recorded script wire.old x.old y.now → Recorded script wire.new x.new y.now }
     ensures counted { Counted wire.old x.old y.now → Counted wire.new x.new y.now }
     ensures advances { Advances wire.old x.old y.now wire.new x.new y.now }

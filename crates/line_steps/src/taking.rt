@@ -5,13 +5,14 @@ ghost use Rattle.padp_link.specs.Senders.{Waits, WaitsOnLast};
 ghost use Rattle.slp_frames.specs.PacketScan.{packet_at};
 ghost use Rattle.trace_text.specs.Fates.{fate_value, arrives, ends_run};
 ghost use Rattle.trace_text.specs.Frames.{BearsFragment, fragment_in};
-ghost use Rattle.trace_text.specs.TraceLines.{frame_value};
+ghost use Rattle.trace_text.specs.Lent.{lent_frame};
 ghost use Rattle.line_steps.specs.Adding.{AddsOne};
 ghost use Rattle.line_steps.specs.Advancing.{IsUp};
 ghost use Rattle.line_steps.specs.Counting.{Lands, landed};
 ghost use Rattle.line_steps.specs.Halting.{Halted};
 ghost use Rattle.line_steps.specs.Hearing.{Hears};
-ghost use Rattle.line_steps.specs.Marking.{marked, Marks};
+ghost use Rattle.trace_text.specs.FrameLogs.{marked};
+ghost use Rattle.line_steps.specs.Marking.{Marks};
 ghost use Rattle.line_steps.specs.Rooms.{WantsRoom};
 ghost use Rattle.line_steps.specs.Running.{Holds, Heeded, Stays};
 ghost use Rattle.line_steps.specs.Taking.{Delivers, AckNext, DataHeard};
@@ -25,10 +26,10 @@ use crate::hearing::{Heard, hear, hear_harm};
 use crate::pieces::{send_ack, send_piece};
 use crate::sending::Halt;
 use padp_link::{Key, Sender, Taken};
-use trace_text::{Fate, Frame};
+use trace_text::{Fate, FrameLent};
 
 /// The end `y` takes the next frame of the end `x`. What it sends then, an acknowledgement or its next piece, has this fate.
-pub fn take_next(wire: &mut Wire, x: &mut Half, y: &mut Half, fate: Fate) -> Result<Heard, Halt>
+pub fn take_next(wire: &mut Wire, x: &mut Half, y: &mut Half, fate: &Fate) -> Result<Heard, Halt>
     requires holds { Holds wire.old x.old y.old }
     requires next { Delivers x.old.end wire.old x.old.taken }
     ensures holds { OnOk result (Holds wire.new x.new y.new) }
@@ -38,7 +39,7 @@ pub fn take_next(wire: &mut Wire, x: &mut Half, y: &mut Half, fate: Fate) -> Res
     ensures lands { Lands x.old.taken wire.old y.old y.new }
     ensures underway { IfOk result
         (λ heard. StillUnderway heard wire.old x.old y.old wire.new x.new y.new) }
-    ensures adds { AddsOne (fate_value fate)
+    ensures adds { AddsOne (fate_value fate.now)
         (marked x.old.taken wire.old.frames.items) wire.new.frames.items }
     ensures halted { IfErr result
         (λ halt. Halted halt wire.old x.old y.old wire.new x.new y.new) }
@@ -51,7 +52,7 @@ pub fn take_next(wire: &mut Wire, x: &mut Half, y: &mut Half, fate: Fate) -> Res
 }
 
 /// The same where the frame bears the mark already.
-fn take_marked(wire: &mut Wire, x: &mut Half, y: &mut Half, fate: Fate) -> Result<Heard, Halt>
+fn take_marked(wire: &mut Wire, x: &mut Half, y: &mut Half, fate: &Fate) -> Result<Heard, Halt>
     requires holds { Holds wire.old x.old y.old }
     requires next { Delivers x.old.end wire.old x.old.taken }
     ensures holds { OnOk result (Holds wire.new x.new y.new) }
@@ -61,14 +62,14 @@ fn take_marked(wire: &mut Wire, x: &mut Half, y: &mut Half, fate: Fate) -> Resul
     ensures lands { Lands x.old.taken wire.old y.old y.new }
     ensures underway { IfOk result
         (λ heard. StillUnderway heard wire.old x.old y.old wire.new x.new y.new) }
-    ensures adds { AddsOne (fate_value fate) wire.old.frames.items wire.new.frames.items }
+    ensures adds { AddsOne (fate_value fate.now) wire.old.frames.items wire.new.frames.items }
     ensures halted { IfErr result
         (λ halt. Halted halt wire.old x.old y.old wire.new x.new y.new) }
     ensures up { IfErr result (λ halt. IsUp halt) }
     ensures less { OnOk result (work_left wire.new x.new y.new < work_left wire.old x.old y.old) }
     ensures room { WantsRoom result wire.old.frames wire.new.frames }
 {
-    let heard = hear_frame(&wire.frames[x.taken], y);
+    let heard = hear_frame(wire.frames.get(x.taken), y);
     match heard {
         Heard::Ack(key) => take_ack(wire, x, y, key, fate)?,
         Heard::Data(key, taken) => take_data(wire, x, y, key, taken, fate)?,
@@ -82,34 +83,34 @@ fn mark(wire: &mut Wire, place: usize)
     requires { place < length wire.old.frames.items }
     ensures { Marks place wire.old wire.new }
 {
-    wire.frames[place].came = true;
+    wire.frames.mark(place);
 }
 
 /// Gives a frame that comes to an end, behind its noise.
-fn hear_frame(frame: &Frame, half: &mut Half) -> Heard
+fn hear_frame(frame: FrameLent<'_>, half: &mut Half) -> Heard
     requires gap { half.old.reader.held ≡ [] }
-    requires goes { ends_run (fate_value frame.now.fate) frame.now.bytes.items ≡ false }
-    requires bears { BearsFragment (frame_value frame.now) }
+    requires goes { ends_run (lent_frame frame).fate (lent_frame frame).bytes ≡ false }
+    requires bears { BearsFragment (lent_frame frame) }
     ensures hears { Hears half.old.receiver
-        (packet_at frame.now.bytes.items).id (fragment_in
-        (frame_value frame.now)) result half.new.receiver }
+        (packet_at (lent_frame frame.entry).bytes).id (fragment_in
+        (lent_frame frame.entry)) result half.new.receiver }
     ensures heeded { Heeded half.old half.new }
     ensures gap { half.new.reader.held ≡ [] }
-    ensures tally { arrives (fate_value frame.now.fate) ≡ true →
-        half.new.reader.tally ≡ landed (frame_value frame.now) half.old.reader.tally }
+    ensures tally { arrives (lent_frame frame.entry).fate ≡ true →
+        half.new.reader.tally ≡ landed (lent_frame frame.entry) half.old.reader.tally }
 {
     hear_harm(frame, half);
-    hear(&mut half.reader, &mut half.receiver, frame.bytes.as_slice())
+    hear(&mut half.reader, &mut half.receiver, frame.bytes)
 }
 
 /// Takes an acknowledgement. The next piece goes where it is that of the waiting one, if there is one.
-fn take_ack(wire: &mut Wire, x: &mut Half, y: &mut Half, key: Key, fate: Fate) -> Result<(), Halt>
+fn take_ack(wire: &mut Wire, x: &mut Half, y: &mut Half, key: Key, fate: &Fate) -> Result<(), Halt>
     requires holds { Holds wire.old x.old y.old }
     requires next { AckNext x.old.end wire.old x.old.taken key }
     ensures holds { OnOk result (Holds wire.new x.new y.new) }
     ensures underway { OnOk result
         (StillUnderway (heard_as.Ack key) wire.old x.old y.old wire.new x.new y.new) }
-    ensures adds { AddsOne (fate_value fate) wire.old.frames.items wire.new.frames.items }
+    ensures adds { AddsOne (fate_value fate.now) wire.old.frames.items wire.new.frames.items }
     ensures halted { IfErr result
         (λ halt. Halted halt wire.old x.old y.old wire.new x.new y.new) }
     ensures up { IfErr result (λ halt. IsUp halt) }
@@ -119,6 +120,8 @@ fn take_ack(wire: &mut Wire, x: &mut Half, y: &mut Half, key: Key, fate: Fate) -
     ensures reader { y.new.reader ≡ y.old.reader }
     ensures room { WantsRoom result wire.old.frames wire.new.frames }
 {
+    // The cursor stays within the frames, of which there are fewer than 2^63.
+    let _sent = wire.frames.len();
     x.taken += 1;
     if !y.sender.on_ack(key) {
         return Ok(());
@@ -136,14 +139,14 @@ fn take_data(
     y: &mut Half,
     key: Key,
     taken: Taken,
-    fate: Fate,
+    fate: &Fate,
 ) -> Result<(), Halt>
     requires { DataHeard wire.old x.old y.old key taken }
     ensures holds { OnOk result (Holds wire.new x.new y.new) }
     ensures turn { OnOk result (TurnAfter taken wire.new y.new x.new) }
     ensures underway { OnOk result
         (StillUnderway (heard_as.Data key taken) wire.old x.old y.old wire.new x.new y.new) }
-    ensures adds { AddsOne (fate_value fate) wire.old.frames.items wire.new.frames.items }
+    ensures adds { AddsOne (fate_value fate.now) wire.old.frames.items wire.new.frames.items }
     ensures halted { IfErr result
         (λ halt. Halted halt wire.old x.old y.old wire.new x.new y.new) }
     ensures up { IfErr result (λ halt. IsUp halt) }
@@ -153,6 +156,8 @@ fn take_data(
     ensures reader { y.new.reader ≡ y.old.reader }
     ensures room { WantsRoom result wire.old.frames wire.new.frames }
 {
+    // The cursor stays within the frames, of which there are fewer than 2^63.
+    let _sent = wire.frames.len();
     x.taken += 1;
     match taken {
         Taken::Dropped => return Ok(()),

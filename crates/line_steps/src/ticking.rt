@@ -16,7 +16,7 @@ ghost use Rattle.trace_text.specs.Fates.{fate_value};
 use crate::half::{Half, Wire};
 use crate::pieces::send_piece;
 use crate::sending::Halt;
-use trace_text::Fate;
+use trace_text::{Fate, FateKind};
 
 /// Whether the next frame of an end can be delivered. It can't where there is none, or where it is held.
 pub fn delivers(wire: &Wire, half: &Half) -> bool
@@ -29,8 +29,8 @@ pub fn delivers(wire: &Wire, half: &Half) -> bool
     if half.taken == wire.frames.len() {
         return false;
     }
-    match wire.frames[half.taken].fate {
-        Fate::Late => half.taken < wire.released,
+    match wire.frames.get(half.taken).fate.kind {
+        FateKind::Late => half.taken < wire.released,
         _ => true,
     }
 }
@@ -41,8 +41,8 @@ pub fn tick(
     wire: &mut Wire,
     x: &mut Half,
     y: &mut Half,
-    fate: Fate,
-    other: Fate,
+    fate: &Fate,
+    other: &Fate,
 ) -> Result<(), Halt>
     requires holds { Holds wire.old x.old y.old }
     requires x_blocked { Blocked x.old.end
@@ -52,7 +52,7 @@ pub fn tick(
     requires waits { Waits x.old.sender ⊎ Waits y.old.sender }
     ensures holds { OnOk result (Holds wire.new x.new y.new) }
     ensures less { OnOk result (work_left wire.new x.new y.new < work_left wire.old x.old y.old) }
-    ensures adds { AddsTwo (fate_value fate) (fate_value other)
+    ensures adds { AddsTwo (fate_value fate.now) (fate_value other.now)
         wire.old.frames.items wire.new.frames.items }
     ensures first { Waits x.old.sender →
         IsFirst x.old.end wire.old.frames.items wire.new.frames.items }
@@ -78,16 +78,16 @@ pub fn tick(
 }
 
 /// Sends the waiting piece of an end again, unless it was sent ten times.
-fn send_again(wire: &mut Wire, half: &mut Half, fate: Fate) -> Result<(), Halt>
+fn send_again(wire: &mut Wire, half: &mut Half, fate: &Fate) -> Result<(), Halt>
     requires waits { Waits half.old.sender }
     requires half { IsHalf half.old }
-    ensures adds { AddsOne (fate_value fate) wire.old.frames.items wire.new.frames.items }
+    ensures adds { AddsOne (fate_value fate.now) wire.old.frames.items wire.new.frames.items }
     ensures first { IsFirst half.old.end wire.old.frames.items wire.new.frames.items }
     ensures halts { IfErr result
-        (λ halt. NotAgain halt (fate_value fate) half.old wire.old wire.new) }
+        (λ halt. NotAgain halt (fate_value fate.now) half.old wire.old wire.new) }
     ensures stays { Stays half.old half.new }
     ensures reader { half.new.reader ≡ half.old.reader }
-    ensures again { OnOk result (SendsAgain wire.old half.old (fate_value fate) wire.new half.new) }
+    ensures again { OnOk result (SendsAgain wire.old half.old (fate_value fate.now) wire.new half.new) }
     ensures room { WantsRoom result wire.old.frames wire.new.frames }
 {
     if half.sender.on_timer().is_err() {

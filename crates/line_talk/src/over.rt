@@ -14,7 +14,7 @@ ghost use Rattle.line_steps.specs.Turning.{Turn};
 ghost use Rattle.line_talk.specs.Halting.{HaltedOver};
 
 use line_script::Script;
-use line_steps::{Half, Halt, Wire, carry, expect, fate_of, start};
+use line_steps::{Half, Halt, Wire, carry, expect, start};
 
 /// The end `x` sends this message under this transaction, and the end `y` takes it whole.
 pub(crate) fn send_over(
@@ -48,7 +48,7 @@ pub(crate) fn send_over(
         wire.old x.old y.old wire.new x.new y.new) }
     ensures room { WantsRoom result wire.old.frames wire.new.frames }
 {
-    let fate = fate_of(script, wire.frames.len() as u64 + 1);
+    let fate = script.fate(wire.frames.len() as u64 + 1);
     expect(y, id);
     start(wire, x, y, id, message, fate)?;
     carry(wire, x, y, script)

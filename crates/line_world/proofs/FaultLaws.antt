@@ -1,4 +1,11 @@
 -- The last ten frames that a line did harm.
+use Rattle.std.proofs.Common.{add-one, length-set}
+use Rattle.std.proofs.Math.Seq.{drop-cons}
+use Rattle.std.proofs.lemmas.Bool.{cond-false, cond-true}
+use Rattle.std.proofs.lemmas.List.{drop-set}
+use Rattle.std.proofs.lemmas.Option.{get_or_from_slice_get, slice_get_within}
+use Rattle.std.specs.Prelude.{slice_set}
+use Rattle.trace_text.specs.FrameLogs.{IsFrameAt}
 use Rattle.line_world.proofs.Names.{if◌then◌else◌, AllByRecursion, ◌≡◌, ℕ, suc, zero, ◌+◌, ◌-◌, ◌<◌, ◌≤◌, Bool, true, false, List, [], ◌∷◌, ◌++◌, length, map}
 use Rattle.line_world.proofs.Names.{take, drop, refl, sym, ap, subst, ◌∙◌, arith, inl, inr, cases_lt, length-append, length-drop, length-map, map-append}
 use Rattle.line_world.proofs.Names.{take-append-drop, RuleValue, fate_by, Frame, is_fault, faulted, count, at, faults_from, FrameValue, frame_value, AllBy}
@@ -133,3 +140,40 @@ collected-all {numbers} {place} {left} {frames} it full =
           ∙ (faults-append (map frame_value (take left frames)) (map frame_value (drop left frames))
           ∙ ap (λ l. faults_in (map frame_value (take left frames)) ++ l) these)),
     )
+
+-- one frame more, from behind
+faults-one : {frames : List Frame} {n : ℕ} {value : FrameValue} → IsFrameAt frames n value
+    → faults_in (map frame_value (drop n frames))
+    ≡ (if is_fault value.fate then value.number ∷ faults_in (map frame_value (drop (n + 1) frames)) else faults_in (map frame_value (drop (n + 1) frames)))
+faults-one {frames} {n} it =
+    let front : drop n frames ≡ it.frame ∷ drop (n + 1) frames = drop-cons frames n it.frame (slice_get_within frames n it.frame it.here)
+    ∙ (ap (λ f. f ∷ drop (suc n) frames) (get_or_from_slice_get frames n it.frame it.frame it.here)
+    ∙ ap (λ k. it.frame ∷ drop k frames) (sym (add-one n))) in
+    ap (λ fs. faults_in (map frame_value fs)) front
+    ∙ ap (λ v. if is_fault v.fate then v.number ∷ faults_in (map frame_value (drop (n + 1) frames)) else faults_in (map frame_value (drop (n + 1) frames))) (sym it.is)
+
+back_one : {n : ℕ} → 0 < n → n - 1 + 1 ≡ n
+back_one some = omega (arith, some)
+
+module _ {numbers : List ℕ} {place left : ℕ} {frames : List Frame} {value : FrameValue} where
+  -- it was a fault
+  pub collected-fault : Collected numbers place left frames → 0 < left → 0 < place → IsFrameAt frames (left - 1) value → is_fault value.fate ≡ true
+      → Collected (slice_set numbers (place - 1) value.number) (place - 1) (left - 1) frames
+  collected-fault it some room one fault = record {
+    room = omega (arith, it.room);
+    inside = omega (arith, it.inside);
+    ten = length-set numbers (place - 1) value.number ∙ it.ten;
+    is = faults-one one ∙ (cond-true _ _ _ fault ∙ (ap (λ k. value.number ∷ faults_in (map frame_value (drop k frames))) (back_one some)
+        ∙ (ap (λ l. value.number ∷ l) (it.is ∙ ap (λ k. drop k numbers) (sym (back_one room)))
+        ∙ sym (drop-set numbers (place - 1) value.number (omega (arith, it.ten, it.room, room))))));
+  }
+
+  -- it was none
+  pub collected-none : Collected numbers place left frames → 0 < left → IsFrameAt frames (left - 1) value → is_fault value.fate ≡ false
+      → Collected numbers place (left - 1) frames
+  collected-none it some one none = record {
+    room = it.room;
+    inside = omega (arith, it.inside);
+    ten = it.ten;
+    is = faults-one one ∙ (cond-false _ _ _ none ∙ (ap (λ k. faults_in (map frame_value (drop k frames))) (back_one some) ∙ it.is));
+  }

@@ -8,7 +8,7 @@ use dlp_commands::{Message, MessageText};
 use pdb_values::RecordId;
 use slp_frames::Tally;
 use std::alloc::{AllocError, Global};
-use trace_text::Frame;
+use trace_text::FrameLog;
 
 /// All that was said over a line, and its frames.
 #[derive(Drop)]
@@ -22,7 +22,7 @@ pub struct LineLog {
     /// The ids that new records were given, in order.
     pub given: Vec<RecordId>,
     /// The frames of both ends in the order of sending.
-    pub frames: Vec<Frame>,
+    pub frames: FrameLog,
     /// What the handheld's reader took.
     pub to_handheld: Tally,
     /// What the desktop's reader took.

@@ -1,7 +1,7 @@
 //! Why a run ends.
 ghost use Rattle.std.specs.Prelude.{◌≡◌, length, map};
 ghost use Rattle.trace_text.specs.Fates as fates;
-ghost use Rattle.trace_text.specs.Fates.{fate_value};
+ghost use Rattle.trace_text.specs.Lent.{lent_fate};
 ghost use Rattle.trace_text.specs.TraceLines.{frame_value};
 ghost use Rattle.line_world.specs.Causes.{AreLastTen, IsCauseOf, KeeperOnly, NamesLast, link_fault};
 
@@ -10,7 +10,7 @@ use dlp_commands::LinkFault;
 use handheld_server::ServeFault;
 use line_steps::{Halt, Stop};
 use std::alloc::AllocError;
-use trace_text::{Fate, Frame};
+use trace_text::{FateKind, FateLent, FrameLog};
 
 /// Why a request gets no reply.
 #[derive(Clone, Copy)]
@@ -57,10 +57,10 @@ impl From<ServeFault> for Break {
 }
 
 /// Why the line is down, unless memory ran out.
-pub(crate) fn cause_of(ended: Break, frames: &[Frame]) -> Option<Down>
-    ensures is { IsCauseOf ended (length frames.now) result }
+pub(crate) fn cause_of(ended: Break, frames: &FrameLog) -> Option<Down>
+    ensures is { IsCauseOf ended (length frames.now.items) result }
     ensures keeper { KeeperOnly ended result }
-    ensures names { NamesLast result (map frame_value frames.now) }
+    ensures names { NamesLast result (map frame_value frames.now.items) }
 {
     let last = frames.len() as u64;
     match ended {
@@ -87,17 +87,17 @@ pub(crate) fn fault_of(cause: &Option<Down>) -> LinkFault
 }
 
 /// The numbers of the last ten frames that the line did harm, in order.
-fn last_faults(frames: &[Frame]) -> [u64; 10]
+fn last_faults(frames: &FrameLog) -> [u64; 10]
     ensures ten { length result ≡ 10 }
-    ensures last { AreLastTen result (map frame_value frames.now) }
+    ensures last { AreLastTen result (map frame_value frames.now.items) }
 {
     let mut numbers = [0; 10];
     let mut place = 10;
     let mut left = frames.len();
     while left > 0 && place > 0 {
         left -= 1;
-        let frame = &frames[left];
-        if is_fault(&frame.fate) {
+        let frame = frames.get(left);
+        if is_fault(frame.fate) {
             place -= 1;
             numbers[place] = frame.number;
         }
@@ -106,11 +106,11 @@ fn last_faults(frames: &[Frame]) -> [u64; 10]
 }
 
 /// Whether the line does harm to a frame of this fate.
-fn is_fault(fate: &Fate) -> bool
-    ensures { result ≡ fates.is_fault (fate_value fate.now) }
+fn is_fault(fate: FateLent<'_>) -> bool
+    ensures { result ≡ fates.is_fault (lent_fate fate.entry) }
 {
-    match fate {
-        Fate::Lost | Fate::Late | Fate::Cut(_) | Fate::Hit(_, _) => true,
-        Fate::Ok | Fate::Noise(_) | Fate::Unplug | Fate::Abort => false,
+    match fate.kind {
+        FateKind::Lost | FateKind::Late | FateKind::Cut(_) | FateKind::Hit(_) => true,
+        FateKind::Ok | FateKind::Noise | FateKind::Unplug | FateKind::Abort => false,
     }
 }

@@ -22,7 +22,7 @@ use line_script::Script;
 use line_steps::{Line, Wire};
 use std::alloc::{AllocError, Global};
 use std::marker::Model;
-use trace_text::Frame;
+use trace_text::FrameLog;
 
 /// A handheld's server and a desktop's link, with a line between them that a script disturbs.
 #[derive(Drop)]
@@ -117,8 +117,8 @@ impl<F: Folder> World<F> {
     }
 
     /// The frames so far.
-    pub fn frames(&self) -> &[Frame]
-        ensures frames { map frame_value result.now ≡ self.now.frames }
+    pub fn frames(&self) -> &FrameLog
+        ensures frames { map frame_value result.now.items ≡ self.now.frames }
         // They are a proper trace by the script of all that was said.
         ensures proper { IsProper (fate_by self.now.script) (said_in self.now.log) self.now.frames }
     {

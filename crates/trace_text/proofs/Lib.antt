@@ -1,2 +1,4 @@
 pub mod BodyLaws
 pub mod ListLaws
+pub mod LogLaws
+pub mod TraceLaws

@@ -1,6 +1,9 @@
 pub mod Fates
 pub mod Faults
+pub mod FrameEntries
+pub mod FrameLogs
 pub mod Frames
+pub mod Lent
 pub mod PacketLines
 pub mod PacketLists
 pub mod Parts

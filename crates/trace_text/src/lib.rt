@@ -7,12 +7,14 @@
 
 mod fate;
 mod frame;
+mod frame_log;
 mod packet;
 mod packets;
 mod trace;
 
-pub use fate::Fate;
-pub use frame::{End, Frame};
+pub use fate::{Fate, FateKind, FateLent};
+pub use frame::{End, Frame, FrameLent};
+pub use frame_log::FrameLog;
 pub use packet::show_packet;
 pub use packets::show_packets;
-pub use trace::write_trace;
+pub use trace::{write_frame, write_trace};

@@ -6,7 +6,7 @@ use std::alloc::{AllocError, Global};
 use std::fmt::Write;
 use trace_check::{MOST_BYTES, Rule, TraceFault, Verdict, read_trace, verdict};
 use trace_page::page_text;
-use trace_text::{End, Fate, Frame, write_trace};
+use trace_text::{End, Fate, Frame, write_frame};
 
 /// Does what a line asks for: what is about scripts and traces, or the name of a case.
 pub fn obey(alloc: Global, words: &[&str]) -> Result<String, AllocError> {
@@ -87,8 +87,7 @@ fn trace(
         came: mark == "+",
         bytes: kept(&bytes_in(alloc, text)),
     };
-    let text = write_trace(alloc, &[frame])?;
-    let text = String::from_utf8_lossy(alloc, &text)?;
+    let text = write_frame(alloc, frame.lent())?;
     format!(in alloc; "|{text}|")
 }
 
@@ -112,15 +111,22 @@ fn read(alloc: Global, text: &[u8]) -> Result<String, AllocError> {
     }
     match read_trace(alloc, text) {
         Ok(frames) => {
-            let (count, same) = (
-                frames.len(),
-                write_trace(alloc, &frames)?.as_slice() == text,
-            );
+            let count = frames.len();
+            let same = lines_of(alloc, &frames)?.as_bytes() == text;
             format!(in alloc; "trace of {count} frames, the same text: {same}")
         }
         Err(TraceFault::BadLine(number)) => format!(in alloc; "bad line {number}"),
         Err(TraceFault::NoMemory) => String::from_str(alloc, "no memory"),
     }
+}
+
+// The lines of these frames.
+fn lines_of(alloc: Global, frames: &[Frame]) -> Result<String, AllocError> {
+    let mut text = String::new(alloc);
+    for frame in frames {
+        text.push_str(write_frame(alloc, frame.lent())?.as_str())?;
+    }
+    Ok(text)
 }
 
 // The verdict on the trace in some bytes, or its first bad line.

@@ -1,6 +1,6 @@
-use Rattle.line_steps.proofs.Names.{err_from_is_err_and, Err, Bool, arith}
+use Rattle.line_steps.proofs.Names.{err_from_is_err_and, Err, Bool}
 use Rattle.line_steps.proofs.AdvancingLaws.{advances_more, falls_short}
-use Rattle.line_steps.proofs.RoomLaws.{room_behind}
+use Rattle.line_steps.proofs.RoomLaws.{keeps_more, room_behind}
 use Rattle.line_steps.proofs.HaltedLaws.{halted_behind}
 use Rattle.line_steps.proofs.CarryingLaws.{not_over, is_over, same_trans, underway-waits}
 use Rattle.line_steps.proofs.carrying.carry.Goals as goal
@@ -23,7 +23,7 @@ loop-preserved c =
       λ talk talks. step.talks talk (c.loop.invariant.5 talk talks),
       λ was. c.step.ensures.counted (c.loop.invariant.6 was),
       advances_more c.loop.invariant.7 c.step.ensures.advances,
-      omega (arith, c.loop.invariant.8, c.step.ensures.room.0),
+      keeps_more c.loop.invariant.8 c.step.ensures.room.0,
     )
 
 pub returns-in_err-step-clause-recorded : goal.returns-in_err-step-clause-recorded
@@ -66,6 +66,6 @@ returns-in_err-step-clause-room c =
 
 pub returns-then-branch-clause-room : goal.returns-then-branch-clause-room
 returns-then-branch-clause-room c = (
-  omega (arith, c.loop.invariant.8, c.step.ensures.room.0),
+  keeps_more c.loop.invariant.8 c.step.ensures.room.0,
   tt,
 )

@@ -1,6 +1,4 @@
-use Rattle.line_steps.proofs.Names.{Advances, Counted, SameMessage, Holds, KeepsTalk, Recorded, Underway, work_left}
-use Rattle.std.proofs.Common.{◌≤◌}
-use Rattle.std.specs.Prelude.{vec_capacity}
+use Rattle.line_steps.proofs.Names.{Advances, Counted, SameMessage, Holds, KeepsRoom, KeepsTalk, Recorded, Underway, work_left}
 use Rattle.line_steps.proofs.carrying.carry.Given as goal
 
 abbrev pub invariant-loop : goal.invariant-loop
@@ -9,7 +7,7 @@ invariant-loop l =
     × (Recorded l.fn.script l.initial.wire l.initial.x l.initial.y → Recorded l.fn.script l.wire l.x l.y) × KeepsTalk l.initial.wire l.initial.x l.initial.y
     l.wire l.x l.y × (Counted l.initial.wire l.initial.x l.initial.y → Counted l.wire l.x l.y)
     × Advances l.initial.wire l.initial.x l.initial.y l.wire l.x l.y
-    × (vec_capacity l.initial.wire.frames ≤ vec_capacity l.wire.frames)
+    × KeepsRoom l.initial.wire.frames l.wire.frames
 
 abbrev pub decreases-loop : goal.decreases-loop
 decreases-loop l = work_left l.wire l.x l.y

@@ -1,9 +1,9 @@
-use Rattle.line_steps.proofs.AdvancingLaws.{advances_own, advances_refl, advances_turned, advances_two, always_where, stands_two, up_where}
+use Rattle.line_steps.proofs.AdvancingLaws.{advances_own, advances_turned, advances_two, always_where, stands_two, up_where}
 use Rattle.line_steps.proofs.CountingLaws.{counted_own, counted_other, counted_two}
 use Rattle.line_steps.proofs.Names.{◌≡◌, ◌+◌, length, ap, ◌∙◌, arith, fate_by, err_from_is_err_and}
 use Rattle.line_steps.proofs.RecordedLaws.{recorded_own, recorded_other, recorded_two}
 use Rattle.line_steps.proofs.CarryingLaws.{own_step, other_step, stays_same, moved_same, still_apart}
-use Rattle.line_steps.proofs.HaltedLaws.{no_memory, halted_turned}
+use Rattle.line_steps.proofs.HaltedLaws.{halted_turned}
 use Rattle.line_steps.proofs.StartingLaws.{waits_now}
 use Rattle.line_steps.proofs.TurnLaws.{apart_turned, holds_turned}
 use Rattle.line_steps.proofs.carrying.deliver.Goals as goal
@@ -24,46 +24,46 @@ returns-in_ok-take_next-in-Other-clause-step c =
 
 pub returns-in_err-heard-in-Own-clause-recorded : goal.returns-in_err-heard-in-Own-clause-recorded
 returns-in_err-heard-in-Own-clause-recorded c =
-    let size : c.len.result ≡ length c.args.wire.now.frames.items = omega (arith, c.len.ensures) in
+    let size : c.len.result ≡ length c.args.wire.now.frames.items = omega (arith, c.len.ensures.count) in
     let took = c.take_next.ensures in
     recorded_own c.requires.holds c.in-Own.ensures.0
-    (c.fate_of-fate.ensures ∙ ap (λ n. fate_by c.args.script.now (n + 1)) size) took.adds took.moved took.stays
+    (c.fate-fate.ensures ∙ ap (λ n. fate_by c.args.script.now (n + 1)) size) took.adds took.moved took.stays
 
 pub returns-in_ok-heard-in-Own-clause-recorded : goal.returns-in_ok-heard-in-Own-clause-recorded
 returns-in_ok-heard-in-Own-clause-recorded c =
-    let size : c.len.result ≡ length c.args.wire.now.frames.items = omega (arith, c.len.ensures) in
+    let size : c.len.result ≡ length c.args.wire.now.frames.items = omega (arith, c.len.ensures.count) in
     let took = c.take_next.ensures in
     recorded_own c.requires.holds c.in-Own.ensures.0
-    (c.fate_of-fate.ensures ∙ ap (λ n. fate_by c.args.script.now (n + 1)) size) took.adds took.moved took.stays
+    (c.fate-fate.ensures ∙ ap (λ n. fate_by c.args.script.now (n + 1)) size) took.adds took.moved took.stays
 
 pub returns-in_err-take_next-in-Other-clause-recorded : goal.returns-in_err-take_next-in-Other-clause-recorded
 returns-in_err-take_next-in-Other-clause-recorded c =
-    let size : c.len.result ≡ length c.args.wire.now.frames.items = omega (arith, c.len.ensures) in
+    let size : c.len.result ≡ length c.args.wire.now.frames.items = omega (arith, c.len.ensures.count) in
     let took = c.take_next-in-Other.ensures in
     recorded_other (holds_turned c.requires.holds) c.in-Other.ensures.0
-    (c.fate_of-fate.ensures ∙ ap (λ n. fate_by c.args.script.now (n + 1)) size) took.adds took.moved took.stays
+    (c.fate-fate.ensures ∙ ap (λ n. fate_by c.args.script.now (n + 1)) size) took.adds took.moved took.stays
 
 pub returns-in_ok-take_next-in-Other-clause-recorded : goal.returns-in_ok-take_next-in-Other-clause-recorded
 returns-in_ok-take_next-in-Other-clause-recorded c =
-    let size : c.len.result ≡ length c.args.wire.now.frames.items = omega (arith, c.len.ensures) in
+    let size : c.len.result ≡ length c.args.wire.now.frames.items = omega (arith, c.len.ensures.count) in
     let took = c.take_next-in-Other.ensures in
     recorded_other (holds_turned c.requires.holds) c.in-Other.ensures.0
-    (c.fate_of-fate.ensures ∙ ap (λ n. fate_by c.args.script.now (n + 1)) size) took.adds took.moved took.stays
+    (c.fate-fate.ensures ∙ ap (λ n. fate_by c.args.script.now (n + 1)) size) took.adds took.moved took.stays
 
 pub returns-in_err-wait-in-Nothing-clause-recorded : goal.returns-in_err-wait-in-Nothing-clause-recorded
 returns-in_err-wait-in-Nothing-clause-recorded c =
-    let size : c.len.result ≡ length c.args.wire.now.frames.items = omega (arith, c.len.ensures) in
+    let size : c.len.result ≡ length c.args.wire.now.frames.items = omega (arith, c.len.ensures.count) in
     recorded_two c.requires.holds
-    (c.fate_of-fate.ensures ∙ ap (λ n. fate_by c.args.script.now (n + 1)) size)
-    (c.fate_of-other.ensures ∙ ap (λ n. fate_by c.args.script.now (n + 1 + 1)) size) c.wait.ensures.adds
+    (c.fate-fate.ensures ∙ ap (λ n. fate_by c.args.script.now (n + 1)) size)
+    (c.fate-other.ensures ∙ ap (λ n. fate_by c.args.script.now (n + 1 + 1)) size) c.wait.ensures.adds
     c.wait.ensures.x_place c.wait.ensures.y_place
 
 pub returns-in_ok-wait-in-Nothing-clause-recorded : goal.returns-in_ok-wait-in-Nothing-clause-recorded
 returns-in_ok-wait-in-Nothing-clause-recorded c =
-    let size : c.len.result ≡ length c.args.wire.now.frames.items = omega (arith, c.len.ensures) in
+    let size : c.len.result ≡ length c.args.wire.now.frames.items = omega (arith, c.len.ensures.count) in
     recorded_two c.requires.holds
-    (c.fate_of-fate.ensures ∙ ap (λ n. fate_by c.args.script.now (n + 1)) size)
-    (c.fate_of-other.ensures ∙ ap (λ n. fate_by c.args.script.now (n + 1 + 1)) size) c.wait.ensures.adds
+    (c.fate-fate.ensures ∙ ap (λ n. fate_by c.args.script.now (n + 1)) size)
+    (c.fate-other.ensures ∙ ap (λ n. fate_by c.args.script.now (n + 1 + 1)) size) c.wait.ensures.adds
     c.wait.ensures.x_place c.wait.ensures.y_place
 
 pub returns-in_err-heard-in-Own-clause-halted : goal.returns-in_err-heard-in-Own-clause-halted

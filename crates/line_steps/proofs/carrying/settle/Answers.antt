@@ -1,5 +1,5 @@
 use Rattle.line_steps.proofs.Names.{sym, ap, ◌∙◌, is_some, err_from_is_err_and, Err, Bool, arith}
-use Rattle.line_steps.proofs.RoomLaws.{room_behind}
+use Rattle.line_steps.proofs.RoomLaws.{keeps_more, room_behind}
 use Rattle.line_steps.proofs.HaltedLaws.{halted_behind}
 use Rattle.line_steps.proofs.CarryingLaws.{same_refl, same_trans, taken-turn, taken-settled}
 use Rattle.line_steps.proofs.TakingLaws.{some_waits, waits_not}
@@ -36,7 +36,7 @@ loop-wire-preserved c =
       λ was. c.step.ensures.recorded (c.loop-wire.invariant.4 was),
       λ talk talks. step.talks talk (c.loop-wire.invariant.5 talk talks),
       λ was. c.step.ensures.counted (c.loop-wire.invariant.6 was),
-      omega (arith, c.loop-wire.invariant.7, c.step.ensures.room.0),
+      keeps_more c.loop-wire.invariant.7 c.step.ensures.room.0,
     )
 
 pub returns-in_err-step-clause-recorded : goal.returns-in_err-step-clause-recorded

@@ -1,13 +1,11 @@
-use Rattle.line_steps.proofs.Names.{Counted, SameMessage, Holds, AllTaken, KeepsTalk, Recorded, work_left}
-use Rattle.std.proofs.Common.{◌≤◌}
-use Rattle.std.specs.Prelude.{vec_capacity}
+use Rattle.line_steps.proofs.Names.{Counted, SameMessage, Holds, AllTaken, KeepsRoom, KeepsTalk, Recorded, work_left}
 use Rattle.line_steps.proofs.carrying.settle.Given as goal
 
 abbrev pub invariant-loop-wire : goal.invariant-loop-wire
 invariant-loop-wire l = Holds l.wire l.x l.y × AllTaken l.wire l.x l.y × SameMessage l.initial.x l.x × SameMessage l.initial.y l.y
     × (Recorded l.fn.script l.initial.wire l.initial.x l.initial.y → Recorded l.fn.script l.wire l.x l.y) × KeepsTalk l.initial.wire l.initial.x l.initial.y
     l.wire l.x l.y × (Counted l.initial.wire l.initial.x l.initial.y → Counted l.wire l.x l.y)
-    × (vec_capacity l.initial.wire.frames ≤ vec_capacity l.wire.frames)
+    × KeepsRoom l.initial.wire.frames l.wire.frames
 
 abbrev pub decreases-loop-wire : goal.decreases-loop-wire
 decreases-loop-wire l = work_left l.wire l.x l.y

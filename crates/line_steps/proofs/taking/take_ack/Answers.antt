@@ -1,4 +1,4 @@
-use Rattle.line_steps.proofs.Names.{◌<◌, ◌+◌, ◌≤◌, None, sym, ap, subst, ◌∙◌, is_some, both_ways, on_ok_weaker, piece_count, fate_value, part_now, side_of}
+use Rattle.line_steps.proofs.Names.{◌<◌, ◌+◌, ◌≤◌, None, arith, slice_get_within, sym, ap, subst, ◌∙◌, is_some, both_ways, on_ok_weaker, piece_count, fate_value, part_now, side_of}
 use Rattle.line_steps.proofs.Names.{Holds, Halted, Halts, Sends, StillUnderway, work_left}
 use Rattle.line_steps.proofs.HoldsLaws.{moved}
 use Rattle.line_steps.specs.declared.hearing.Heard.TheVariants as heard_as
@@ -10,6 +10,11 @@ use Rattle.line_steps.proofs.UnderwayLaws.{ack_other-underway, ack_last-underway
 use Rattle.line_steps.proofs.WorkLaws.{ack_other-less, ack_last-less, ack_more-less}
 use Rattle.line_steps.proofs.TakingLaws.{some_waits, none_waits, ack_other, ack_last, ack_more}
 use Rattle.line_steps.proofs.taking.take_ack.Goals as goal
+
+pub overflow_add-x : goal.overflow_add-x
+overflow_add-x c =
+    let next = c.requires.next.next in
+    omega (arith, c.len-sent.ensures, slice_get_within c.args.wire.now.frames.items c.args.x.now.taken next.frame next.here)
 
 pub returns-then-not-on_ack-clause-holds : goal.returns-then-not-on_ack-clause-holds
 returns-then-not-on_ack-clause-holds c =
@@ -32,8 +37,8 @@ returns-clause-holds c =
     let waits = some_waits c.on_ack.new.self (ap is_some (sym c.current.ensures.piece) ∙ c.if-is_none.ensures) in
     let more : y.sender.acknowledged + 1 < piece_count y.sender.length = subst (λ s. s.acknowledged < piece_count s.length) next waits in
     on_ok_weaker c.send_piece.result (λ sends. subst (λ s. Holds c.send_piece.new.wire (moved c.args.x.now) (record y { sender = s })) (sym next)
-    (ack_more {given = fate_value c.args.fate} c.requires.holds c.requires.next (c.on_ack.ensures.taken.0 c.if-not-on_ack.false) more
-    (subst (λ s. Sends c.args.wire.now.frames.items y.end s.id (part_now (side_of (record y { sender = s }))) (fate_value c.args.fate) None
+    (ack_more {given = fate_value c.args.fate.now} c.requires.holds c.requires.next (c.on_ack.ensures.taken.0 c.if-not-on_ack.false) more
+    (subst (λ s. Sends c.args.wire.now.frames.items y.end s.id (part_now (side_of (record y { sender = s }))) (fate_value c.args.fate.now) None
     c.send_piece.new.wire.frames.items) next sends) c.send_piece.ensures.released)) c.send_piece.ensures.ok
 
 pub returns-then-not-on_ack-clause-less : goal.returns-then-not-on_ack-clause-less
@@ -60,8 +65,8 @@ returns-clause-less c =
     let more : y.sender.acknowledged + 1 < piece_count y.sender.length = subst (λ s. s.acknowledged < piece_count s.length) next waits in
     on_ok_weaker c.send_piece.result (λ sends. subst (λ s. work_left c.send_piece.new.wire (moved c.args.x.now) (record y { sender = s }) < work_left
     c.args.wire.now c.args.x.now y) (sym next)
-    (ack_more-less c.send_piece.new.wire {given = fate_value c.args.fate} c.requires.holds c.requires.next more
-    (subst (λ s. Sends c.args.wire.now.frames.items y.end s.id (part_now (side_of (record y { sender = s }))) (fate_value c.args.fate) None
+    (ack_more-less c.send_piece.new.wire {given = fate_value c.args.fate.now} c.requires.holds c.requires.next more
+    (subst (λ s. Sends c.args.wire.now.frames.items y.end s.id (part_now (side_of (record y { sender = s }))) (fate_value c.args.fate.now) None
     c.send_piece.new.wire.frames.items) next sends) c.send_piece.ensures.released)) c.send_piece.ensures.ok
 
 pub returns-then-not-on_ack-clause-underway : goal.returns-then-not-on_ack-clause-underway
@@ -88,8 +93,8 @@ returns-clause-underway c =
     let more : y.sender.acknowledged + 1 < piece_count y.sender.length = subst (λ s. s.acknowledged < piece_count s.length) next waits in
     on_ok_weaker c.send_piece.result (λ sends. subst (λ s. StillUnderway (heard_as.Ack c.args.key) c.args.wire.now c.args.x.now y c.send_piece.new.wire
     (moved c.args.x.now) (record y { sender = s })) (sym next)
-    (ack_more-underway {given = fate_value c.args.fate} c.requires.holds c.requires.next (c.on_ack.ensures.taken.0 c.if-not-on_ack.false) more
-    (subst (λ s. Sends c.args.wire.now.frames.items y.end s.id (part_now (side_of (record y { sender = s }))) (fate_value c.args.fate) None
+    (ack_more-underway {given = fate_value c.args.fate.now} c.requires.holds c.requires.next (c.on_ack.ensures.taken.0 c.if-not-on_ack.false) more
+    (subst (λ s. Sends c.args.wire.now.frames.items y.end s.id (part_now (side_of (record y { sender = s }))) (fate_value c.args.fate.now) None
     c.send_piece.new.wire.frames.items) next sends) c.send_piece.ensures.released)) c.send_piece.ensures.ok
 
 pub returns-clause-adds : goal.returns-clause-adds
@@ -109,8 +114,8 @@ returns-clause-halted c =
     let half = record y { sender = c.on_ack.new.self } in
     err_weaker c.send_piece.result
     (λ halt it. subst (λ s. Halted halt wire x y new (moved x) (record y { sender = s })) (sym next)
-    (halted_ack (fate_value c.args.fate) c.requires.holds c.requires.next (c.on_ack.ensures.taken.0 c.if-not-on_ack.false) more
-    (subst (λ s. Halts wire.frames.items y.end s.id (part_now (side_of (record y { sender = s }))) (fate_value c.args.fate) halt new.frames.items) next it)))
+    (halted_ack (fate_value c.args.fate.now) c.requires.holds c.requires.next (c.on_ack.ensures.taken.0 c.if-not-on_ack.false) more
+    (subst (λ s. Halts wire.frames.items y.end s.id (part_now (side_of (record y { sender = s }))) (fate_value c.args.fate.now) halt new.frames.items) next it)))
     c.send_piece.ensures.halt
 
 pub returns-clause-up : goal.returns-clause-up
@@ -118,5 +123,5 @@ returns-clause-up c =
     let old = c.args.wire.now.frames.items in
     let new = c.send_piece.new.wire.frames.items in
     let part = part_now (side_of (record c.args.y.now { sender = c.on_ack.new.self })) in
-    err_weaker c.send_piece.result (λ halt it. halts_up old new c.args.y.now.end c.on_ack.new.self.id part (fate_value c.args.fate)
+    err_weaker c.send_piece.result (λ halt it. halts_up old new c.args.y.now.end c.on_ack.new.self.id part (fate_value c.args.fate.now)
     halt it) c.send_piece.ensures.halt

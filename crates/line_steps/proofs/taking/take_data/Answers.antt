@@ -1,3 +1,4 @@
+use Rattle.line_steps.proofs.Names.{arith, slice_get_within}
 use Rattle.line_steps.proofs.Names.{None, subst, on_ok_weaker, fate_value, Halts, Sends, ack_fragment}
 use Rattle.line_steps.proofs.DataLaws.{never_dropped, answers_wait, ack_fits, took_data, is_new_data, same_sender, idle_sender}
 use Rattle.line_steps.proofs.WorkLaws.{took_data-less}
@@ -8,6 +9,11 @@ use Rattle.line_steps.proofs.UnderwayLaws.{took_data-underway}
 use Rattle.line_steps.proofs.DeliveredLaws.{turned_after}
 use Rattle.line_steps.proofs.taking.take_data.Goals.{in-Repeated, in-Accepted}
 use Rattle.line_steps.proofs.taking.take_data.Goals as goal
+
+pub overflow_add-x : goal.overflow_add-x
+overflow_add-x c =
+    let next = c.requires.next in
+    omega (arith, c.len-sent.ensures, slice_get_within c.args.wire.now.frames.items c.args.x.now.taken next.frame next.here)
 
 pub returns-in-Dropped-clause-holds : goal.returns-in-Dropped-clause-holds
 returns-in-Dropped-clause-holds c = absurd (never_dropped c.requires c.in-Dropped.is)
@@ -28,12 +34,12 @@ returns-clause-holds c =
     let taken = c.args.taken in
     elim c.match-taken.branch [
       | in-Repeated w ↦ on_ok_weaker c.send_ack.result (λ sends. rw w.y-is
-          (took_data taken (fate_value c.args.fate) c.requires (same_sender y.sender w.in-Repeated.is)
-          (subst (λ h. Sends wire.frames.items h.end key.id (ack_fragment key) (fate_value c.args.fate) None new.frames.items) w.y-is sends)
+          (took_data taken (fate_value c.args.fate.now) c.requires (same_sender y.sender w.in-Repeated.is)
+          (subst (λ h. Sends wire.frames.items h.end key.id (ack_fragment key) (fate_value c.args.fate.now) None new.frames.items) w.y-is sends)
           c.send_ack.ensures.released)) c.send_ack.ensures.ok
-      | in-Accepted w ↦ on_ok_weaker c.send_ack.result (λ sends. rw w.y-is (took_data taken (fate_value c.args.fate) c.requires
+      | in-Accepted w ↦ on_ok_weaker c.send_ack.result (λ sends. rw w.y-is (took_data taken (fate_value c.args.fate.now) c.requires
           (idle_sender y.sender w.in-Accepted.is w.stop_waiting.ensures.rest w.stop_waiting.ensures.idle)
-          (subst (λ h. Sends wire.frames.items h.end key.id (ack_fragment key) (fate_value c.args.fate) None new.frames.items) w.y-is sends)
+          (subst (λ h. Sends wire.frames.items h.end key.id (ack_fragment key) (fate_value c.args.fate.now) None new.frames.items) w.y-is sends)
           c.send_ack.ensures.released)) c.send_ack.ensures.ok
     ]
 
@@ -47,12 +53,12 @@ returns-clause-turn c =
     let taken = c.args.taken in
     elim c.match-taken.branch [
       | in-Repeated w ↦ on_ok_weaker c.send_ack.result (λ sends. rw w.y-is
-          (turned_after new taken (fate_value c.args.fate) y.sender c.requires (same_sender y.sender w.in-Repeated.is)
-          (subst (λ h. Sends wire.frames.items h.end key.id (ack_fragment key) (fate_value c.args.fate) None new.frames.items) w.y-is sends)
+          (turned_after new taken (fate_value c.args.fate.now) y.sender c.requires (same_sender y.sender w.in-Repeated.is)
+          (subst (λ h. Sends wire.frames.items h.end key.id (ack_fragment key) (fate_value c.args.fate.now) None new.frames.items) w.y-is sends)
           c.send_ack.ensures.released)) c.send_ack.ensures.ok
-      | in-Accepted w ↦ on_ok_weaker c.send_ack.result (λ sends. rw w.y-is (turned_after new taken (fate_value c.args.fate) w.stop_waiting.new.sender c.requires
+      | in-Accepted w ↦ on_ok_weaker c.send_ack.result (λ sends. rw w.y-is (turned_after new taken (fate_value c.args.fate.now) w.stop_waiting.new.sender c.requires
           (idle_sender y.sender w.in-Accepted.is w.stop_waiting.ensures.rest w.stop_waiting.ensures.idle)
-          (subst (λ h. Sends wire.frames.items h.end key.id (ack_fragment key) (fate_value c.args.fate) None new.frames.items) w.y-is sends)
+          (subst (λ h. Sends wire.frames.items h.end key.id (ack_fragment key) (fate_value c.args.fate.now) None new.frames.items) w.y-is sends)
           c.send_ack.ensures.released)) c.send_ack.ensures.ok
     ]
 
@@ -66,12 +72,12 @@ returns-clause-less c =
     let taken = c.args.taken in
     elim c.match-taken.branch [
       | in-Repeated w ↦ on_ok_weaker c.send_ack.result (λ sends. rw w.y-is
-          (took_data-less new (fate_value c.args.fate) y.sender c.requires (same_sender y.sender w.in-Repeated.is)
-          (subst (λ h. Sends wire.frames.items h.end key.id (ack_fragment key) (fate_value c.args.fate) None new.frames.items) w.y-is sends)
+          (took_data-less new (fate_value c.args.fate.now) y.sender c.requires (same_sender y.sender w.in-Repeated.is)
+          (subst (λ h. Sends wire.frames.items h.end key.id (ack_fragment key) (fate_value c.args.fate.now) None new.frames.items) w.y-is sends)
           c.send_ack.ensures.released)) c.send_ack.ensures.ok
-      | in-Accepted w ↦ on_ok_weaker c.send_ack.result (λ sends. rw w.y-is (took_data-less new (fate_value c.args.fate) w.stop_waiting.new.sender c.requires
+      | in-Accepted w ↦ on_ok_weaker c.send_ack.result (λ sends. rw w.y-is (took_data-less new (fate_value c.args.fate.now) w.stop_waiting.new.sender c.requires
           (idle_sender y.sender w.in-Accepted.is w.stop_waiting.ensures.rest w.stop_waiting.ensures.idle)
-          (subst (λ h. Sends wire.frames.items h.end key.id (ack_fragment key) (fate_value c.args.fate) None new.frames.items) w.y-is sends)
+          (subst (λ h. Sends wire.frames.items h.end key.id (ack_fragment key) (fate_value c.args.fate.now) None new.frames.items) w.y-is sends)
           c.send_ack.ensures.released)) c.send_ack.ensures.ok
     ]
 
@@ -88,12 +94,12 @@ returns-clause-underway c =
     let taken = c.args.taken in
     elim c.match-taken.branch [
       | in-Repeated w ↦ on_ok_weaker c.send_ack.result (λ sends. rw w.y-is
-          (took_data-underway taken (fate_value c.args.fate) c.requires (same_sender y.sender w.in-Repeated.is)
-          (subst (λ h. Sends wire.frames.items h.end key.id (ack_fragment key) (fate_value c.args.fate) None new.frames.items) w.y-is sends)
+          (took_data-underway taken (fate_value c.args.fate.now) c.requires (same_sender y.sender w.in-Repeated.is)
+          (subst (λ h. Sends wire.frames.items h.end key.id (ack_fragment key) (fate_value c.args.fate.now) None new.frames.items) w.y-is sends)
           c.send_ack.ensures.released)) c.send_ack.ensures.ok
-      | in-Accepted w ↦ on_ok_weaker c.send_ack.result (λ sends. rw w.y-is (took_data-underway taken (fate_value c.args.fate) c.requires
+      | in-Accepted w ↦ on_ok_weaker c.send_ack.result (λ sends. rw w.y-is (took_data-underway taken (fate_value c.args.fate.now) c.requires
           (idle_sender y.sender w.in-Accepted.is w.stop_waiting.ensures.rest w.stop_waiting.ensures.idle)
-          (subst (λ h. Sends wire.frames.items h.end key.id (ack_fragment key) (fate_value c.args.fate) None new.frames.items) w.y-is sends)
+          (subst (λ h. Sends wire.frames.items h.end key.id (ack_fragment key) (fate_value c.args.fate.now) None new.frames.items) w.y-is sends)
           c.send_ack.ensures.released)) c.send_ack.ensures.ok
     ]
 
@@ -110,12 +116,12 @@ returns-clause-halted c =
     let taken = c.args.taken in
     elim c.match-taken.branch [
       | in-Repeated w ↦ err_weaker c.send_ack.result (λ halt it. rw w.y-is
-          (halted_data (fate_value c.args.fate) c.requires (same_sender y.sender w.in-Repeated.is)
-          (subst (λ h. Halts wire.frames.items h.end key.id (ack_fragment key) (fate_value c.args.fate) halt new.frames.items) w.y-is it)))
+          (halted_data (fate_value c.args.fate.now) c.requires (same_sender y.sender w.in-Repeated.is)
+          (subst (λ h. Halts wire.frames.items h.end key.id (ack_fragment key) (fate_value c.args.fate.now) halt new.frames.items) w.y-is it)))
           c.send_ack.ensures.halt
-      | in-Accepted w ↦ err_weaker c.send_ack.result (λ halt it. rw w.y-is (halted_data (fate_value c.args.fate) c.requires
+      | in-Accepted w ↦ err_weaker c.send_ack.result (λ halt it. rw w.y-is (halted_data (fate_value c.args.fate.now) c.requires
           (idle_sender y.sender w.in-Accepted.is w.stop_waiting.ensures.rest w.stop_waiting.ensures.idle)
-          (subst (λ h. Halts wire.frames.items h.end key.id (ack_fragment key) (fate_value c.args.fate) halt new.frames.items) w.y-is it)))
+          (subst (λ h. Halts wire.frames.items h.end key.id (ack_fragment key) (fate_value c.args.fate.now) halt new.frames.items) w.y-is it)))
           c.send_ack.ensures.halt
     ]
 

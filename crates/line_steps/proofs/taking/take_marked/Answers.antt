@@ -1,26 +1,25 @@
-use Rattle.line_steps.proofs.CountingLaws.{heard_lands, lands_same}
-use Rattle.line_steps.proofs.Names.{refl, err_from_is_err_and, slice_get_read, slice_get_within}
+use Rattle.line_steps.proofs.CountingLaws.{lands_same, lent_lands}
+use Rattle.line_steps.proofs.Names.{ap, sym, subst, ◌∙◌, err_from_is_err_and, BearsFragment, ends_run}
 use Rattle.line_steps.proofs.HaltedLaws.{halted_heeded}
-use Rattle.line_steps.proofs.HeardLaws.{heard_ack-holds, heard_ack-next, heard_data, heard_something}
+use Rattle.line_steps.proofs.HeardLaws.{heard_ack-holds, heard_ack-next, heard_data, heard_something, hears_lent}
 use Rattle.line_steps.proofs.UnderwayLaws.{heeded-underway}
 use Rattle.line_steps.proofs.HoldsLaws.{going}
+use Rattle.line_steps.specs.declared.hearing.Heard.TheVariants as heard_as
 use Rattle.line_steps.proofs.taking.take_marked.Goals as goal
 
 -- src/taking.rt:26:9
 pub hear_frame-heard-requires-clause-goes : goal.hear_frame-heard-requires-clause-goes
 hear_frame-heard-requires-clause-goes c =
-    let frames = c.args.wire.now.frames.items in
     let n = c.args.x.now.taken in
-    let here = slice_get_read frames _ n c.index.result.now refl (slice_get_within frames n c.requires.next.frame c.requires.next.here) c.index.ensures in
-    (going n c.requires.holds here).goes_on
+    let it = c.get.ensures in
+    ap (λ v. ends_run v.fate v.bytes) it.is ∙ (going n c.requires.holds it.here).goes_on
 
 -- src/taking.rt:26:9
 pub hear_frame-heard-requires-clause-bears : goal.hear_frame-heard-requires-clause-bears
 hear_frame-heard-requires-clause-bears c =
-    let frames = c.args.wire.now.frames.items in
     let n = c.args.x.now.taken in
-    let here = slice_get_read frames _ n c.index.result.now refl (slice_get_within frames n c.requires.next.frame c.requires.next.here) c.index.ensures in
-    (going n c.requires.holds here).bears
+    let it = c.get.ensures in
+    subst (λ v. BearsFragment v) (sym it.is) (going n c.requires.holds it.here).bears
 
 -- src/taking.rt:28:28
 pub take_ack-requires-clause-holds : goal.take_ack-requires-clause-holds
@@ -30,40 +29,39 @@ take_ack-requires-clause-holds c =
 -- src/taking.rt:28:28
 pub take_ack-requires-clause-next : goal.take_ack-requires-clause-next
 take_ack-requires-clause-next c =
-    let frames = c.args.wire.now.frames.items in
     let n = c.args.x.now.taken in
-    let here = slice_get_read frames _ n c.index.result.now refl (slice_get_within frames n c.requires.next.frame c.requires.next.here) c.index.ensures in
-    heard_ack-next c.args.x.now c.args.y.now c.requires.next here c.in-Ack.ensures.hears
+    let it = c.get.ensures in
+    heard_ack-next c.args.x.now c.args.y.now c.hear_frame-heard.new.half.receiver c.requires.next it.here
+    (hears_lent c.args.y.now.receiver (heard_as.Ack c.in-Ack.key) c.hear_frame-heard.new.half.receiver it c.in-Ack.ensures.hears)
 
 -- src/taking.rt:29:36
 pub take_data-requires : goal.take_data-requires
 take_data-requires c =
-    let frames = c.args.wire.now.frames.items in
     let n = c.args.x.now.taken in
-    let here = slice_get_read frames _ n c.index.result.now refl (slice_get_within frames n c.requires.next.frame c.requires.next.here) c.index.ensures in
-    heard_data c.requires.holds c.requires.next here c.in-Data.ensures.hears c.in-Data.ensures.heeded c.in-Data.ensures.gap
+    let it = c.get.ensures in
+    heard_data c.requires.holds c.requires.next it.here (hears_lent c.args.y.now.receiver (heard_as.Data c.in-Data.key c.in-Data.taken) c.hear_frame-heard.new.half.receiver it c.in-Data.ensures.hears) c.in-Data.ensures.heeded c.in-Data.ensures.gap
 
 -- src/taking.rt:21:1
 pub returns-in-Nothing-clause-holds : goal.returns-in-Nothing-clause-holds
 returns-in-Nothing-clause-holds c =
-    let frames = c.args.wire.now.frames.items in
     let n = c.args.x.now.taken in
-    let here = slice_get_read frames _ n c.index.result.now refl (slice_get_within frames n c.requires.next.frame c.requires.next.here) c.index.ensures in
-    absurd (heard_something c.index.result.now (going n c.requires.holds here) c.in-Nothing.ensures.hears)
+    let it = c.get.ensures in
+    absurd (heard_something it.frame c.args.y.now.receiver c.hear_frame-heard.new.half.receiver (going n c.requires.holds it.here)
+    (hears_lent c.args.y.now.receiver heard_as.Nothing c.hear_frame-heard.new.half.receiver it c.in-Nothing.ensures.hears))
 
 pub returns-in-Nothing-clause-moved : goal.returns-in-Nothing-clause-moved
 returns-in-Nothing-clause-moved c =
-    let frames = c.args.wire.now.frames.items in
     let n = c.args.x.now.taken in
-    let here = slice_get_read frames _ n c.index.result.now refl (slice_get_within frames n c.requires.next.frame c.requires.next.here) c.index.ensures in
-    absurd (heard_something c.index.result.now (going n c.requires.holds here) c.in-Nothing.ensures.hears)
+    let it = c.get.ensures in
+    absurd (heard_something it.frame c.args.y.now.receiver c.hear_frame-heard.new.half.receiver (going n c.requires.holds it.here)
+    (hears_lent c.args.y.now.receiver heard_as.Nothing c.hear_frame-heard.new.half.receiver it c.in-Nothing.ensures.hears))
 
 pub returns-in-Nothing-clause-less : goal.returns-in-Nothing-clause-less
 returns-in-Nothing-clause-less c =
-    let frames = c.args.wire.now.frames.items in
     let n = c.args.x.now.taken in
-    let here = slice_get_read frames _ n c.index.result.now refl (slice_get_within frames n c.requires.next.frame c.requires.next.here) c.index.ensures in
-    absurd (heard_something c.index.result.now (going n c.requires.holds here) c.in-Nothing.ensures.hears)
+    let it = c.get.ensures in
+    absurd (heard_something it.frame c.args.y.now.receiver c.hear_frame-heard.new.half.receiver (going n c.requires.holds it.here)
+    (hears_lent c.args.y.now.receiver heard_as.Nothing c.hear_frame-heard.new.half.receiver it c.in-Nothing.ensures.hears))
 
 pub returns-in_ok-take_ack-in-Ack-clause-underway : goal.returns-in_ok-take_ack-in-Ack-clause-underway
 returns-in_ok-take_ack-in-Ack-clause-underway c =
@@ -75,10 +73,10 @@ returns-in_ok-take_data-in-Data-clause-underway c =
 
 pub returns-in-Nothing-clause-underway : goal.returns-in-Nothing-clause-underway
 returns-in-Nothing-clause-underway c =
-    let frames = c.args.wire.now.frames.items in
     let n = c.args.x.now.taken in
-    let here = slice_get_read frames _ n c.index.result.now refl (slice_get_within frames n c.requires.next.frame c.requires.next.here) c.index.ensures in
-    absurd (heard_something c.index.result.now (going n c.requires.holds here) c.in-Nothing.ensures.hears)
+    let it = c.get.ensures in
+    absurd (heard_something it.frame c.args.y.now.receiver c.hear_frame-heard.new.half.receiver (going n c.requires.holds it.here)
+    (hears_lent c.args.y.now.receiver heard_as.Nothing c.hear_frame-heard.new.half.receiver it c.in-Nothing.ensures.hears))
 
 pub returns-in_err-take_ack-in-Ack-clause-halted : goal.returns-in_err-take_ack-in-Ack-clause-halted
 returns-in_err-take_ack-in-Ack-clause-halted c =
@@ -92,47 +90,42 @@ returns-in_err-take_data-in-Data-clause-halted c =
 
 pub returns-in_err-take_ack-in-Ack-clause-lands : goal.returns-in_err-take_ack-in-Ack-clause-lands
 returns-in_err-take_ack-in-Ack-clause-lands c =
-    let frames = c.args.wire.now.frames.items in
     let n = c.args.x.now.taken in
-    let here = slice_get_read frames _ n c.index.result.now refl (slice_get_within frames n c.requires.next.frame c.requires.next.here) c.index.ensures in
+    let it = c.get.ensures in
     let half = c.hear_frame-heard.new.half in
-    let lands = heard_lands c.args.y.now half c.requires.next here c.hear_frame-heard.ensures.tally in
+    let lands = lent_lands c.args.y.now half c.requires.next it c.hear_frame-heard.ensures.tally in
     lands_same n c.args.wire.now c.args.y.now half c.take_ack.new.y c.take_ack.ensures.reader lands
 
 pub returns-in_err-take_data-in-Data-clause-lands : goal.returns-in_err-take_data-in-Data-clause-lands
 returns-in_err-take_data-in-Data-clause-lands c =
-    let frames = c.args.wire.now.frames.items in
     let n = c.args.x.now.taken in
-    let here = slice_get_read frames _ n c.index.result.now refl (slice_get_within frames n c.requires.next.frame c.requires.next.here) c.index.ensures in
+    let it = c.get.ensures in
     let half = c.hear_frame-heard.new.half in
-    let lands = heard_lands c.args.y.now half c.requires.next here c.hear_frame-heard.ensures.tally in
+    let lands = lent_lands c.args.y.now half c.requires.next it c.hear_frame-heard.ensures.tally in
     lands_same n c.args.wire.now c.args.y.now half c.take_data.new.y c.take_data.ensures.reader lands
 
 pub returns-in_ok-take_ack-in-Ack-clause-lands : goal.returns-in_ok-take_ack-in-Ack-clause-lands
 returns-in_ok-take_ack-in-Ack-clause-lands c =
-    let frames = c.args.wire.now.frames.items in
     let n = c.args.x.now.taken in
-    let here = slice_get_read frames _ n c.index.result.now refl (slice_get_within frames n c.requires.next.frame c.requires.next.here) c.index.ensures in
+    let it = c.get.ensures in
     let half = c.hear_frame-heard.new.half in
-    let lands = heard_lands c.args.y.now half c.requires.next here c.hear_frame-heard.ensures.tally in
+    let lands = lent_lands c.args.y.now half c.requires.next it c.hear_frame-heard.ensures.tally in
     lands_same n c.args.wire.now c.args.y.now half c.take_ack.new.y c.take_ack.ensures.reader lands
 
 pub returns-in_ok-take_data-in-Data-clause-lands : goal.returns-in_ok-take_data-in-Data-clause-lands
 returns-in_ok-take_data-in-Data-clause-lands c =
-    let frames = c.args.wire.now.frames.items in
     let n = c.args.x.now.taken in
-    let here = slice_get_read frames _ n c.index.result.now refl (slice_get_within frames n c.requires.next.frame c.requires.next.here) c.index.ensures in
+    let it = c.get.ensures in
     let half = c.hear_frame-heard.new.half in
-    let lands = heard_lands c.args.y.now half c.requires.next here c.hear_frame-heard.ensures.tally in
+    let lands = lent_lands c.args.y.now half c.requires.next it c.hear_frame-heard.ensures.tally in
     lands_same n c.args.wire.now c.args.y.now half c.take_data.new.y c.take_data.ensures.reader lands
 
 pub returns-in-Nothing-clause-lands : goal.returns-in-Nothing-clause-lands
 returns-in-Nothing-clause-lands c =
-    let frames = c.args.wire.now.frames.items in
     let n = c.args.x.now.taken in
-    let here = slice_get_read frames _ n c.index.result.now refl (slice_get_within frames n c.requires.next.frame c.requires.next.here) c.index.ensures in
+    let it = c.get.ensures in
     let half = c.hear_frame-heard.new.half in
-    let lands = heard_lands c.args.y.now half c.requires.next here c.hear_frame-heard.ensures.tally in
+    let lands = lent_lands c.args.y.now half c.requires.next it c.hear_frame-heard.ensures.tally in
     lands
 
 pub returns-in_err-take_ack-in-Ack-clause-up : goal.returns-in_err-take_ack-in-Ack-clause-up

@@ -1,7 +1,7 @@
 use Rattle.line_steps.proofs.CountingLaws.{lands_marked}
-use Rattle.line_steps.proofs.Names.{arith, refl, subst, slice_get_within, IfOk-weaker, on_ok_weaker, fate_value, AddsOne, StillUnderway}
+use Rattle.line_steps.proofs.Names.{refl, subst, slice_get_within, IfOk-weaker, on_ok_weaker, fate_value, AddsOne, StillUnderway}
 use Rattle.line_steps.proofs.MarkingLaws.{holds_marked, delivers_marked, less-marked, still_marked, talks_marked}
-use Rattle.line_steps.proofs.RoomLaws.{room_behind}
+use Rattle.line_steps.proofs.RoomLaws.{keeps_marked, room_behind}
 use Rattle.line_steps.proofs.HaltedLaws.{halted_behind}
 use Rattle.line_steps.proofs.HaltingLaws.{err_weaker}
 use Rattle.line_steps.proofs.taking.take_next.Goals as goal
@@ -24,7 +24,7 @@ returns-clause-underway c =
 
 pub returns-clause-adds : goal.returns-clause-adds
 returns-clause-adds c =
-    subst (λ fs. AddsOne (fate_value c.args.fate) fs c.take_marked.new.wire.frames.items) c.mark.ensures.frames_are c.take_marked.ensures.adds
+    subst (λ fs. AddsOne (fate_value c.args.fate.now) fs c.take_marked.new.wire.frames.items) c.mark.ensures.frames_are c.take_marked.ensures.adds
 
 pub returns-clause-less : goal.returns-clause-less
 returns-clause-less c =
@@ -44,4 +44,4 @@ returns-clause-lands c = lands_marked c.args.y.now c.take_marked.new.y c.mark.en
 pub returns-clause-room : goal.returns-clause-room
 returns-clause-room c =
     room_behind c.take_marked.result c.args.wire.now.frames c.mark.new.wire.frames c.take_marked.new.wire.frames
-    (omega (arith, c.mark.ensures.room_is)) c.take_marked.ensures.room
+    (keeps_marked c.args.wire.now.frames c.mark.new.wire.frames c.mark.ensures.room_is) c.take_marked.ensures.room

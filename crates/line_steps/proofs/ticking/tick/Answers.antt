@@ -13,21 +13,21 @@ use Rattle.line_steps.proofs.ticking.tick.Goals as goal
 
 pub returns-then-is_none-clause-holds : goal.returns-then-is_none-clause-holds
 returns-then-is_none-clause-holds c =
-    let size : c.len-wire.result ≡ length c.args.wire.now.frames.items = omega (arith, c.len-wire.ensures) in
+    let size : c.len-wire.result ≡ length c.args.wire.now.frames.items = omega (arith, c.len-wire.ensures.count) in
     let idle = waits_not c.args.x.now.sender (ap is_some (sym c.current.ensures.piece) ∙ c.if-is_none.ensures) in
     on_ok_weaker c.send_again.result (λ sent. ticks_other size c.requires.holds c.requires.x_blocked c.requires.y_blocked idle c.requires.waits
     sent) c.send_again.ensures.again
 
 pub returns-then-is_none-2-clause-holds : goal.returns-then-is_none-2-clause-holds
 returns-then-is_none-2-clause-holds c =
-    let size : c.len-wire.result ≡ length c.args.wire.now.frames.items = omega (arith, c.len-wire.ensures) in
+    let size : c.len-wire.result ≡ length c.args.wire.now.frames.items = omega (arith, c.len-wire.ensures.count) in
     let waits = some_waits c.args.x.now.sender (ap is_some (sym c.current.ensures.piece) ∙ c.if-is_none.ensures) in
     let idle = waits_not c.args.y.now.sender (ap is_some (sym c.current-2.ensures.piece) ∙ c.if-is_none-2.ensures) in
     ticks_one size c.requires.holds c.requires.x_blocked c.requires.y_blocked waits idle c.in_ok-send_again.ensures.again
 
 pub returns-clause-holds : goal.returns-clause-holds
 returns-clause-holds c =
-    let size : c.len-wire.result ≡ length c.args.wire.now.frames.items = omega (arith, c.len-wire.ensures) in
+    let size : c.len-wire.result ≡ length c.args.wire.now.frames.items = omega (arith, c.len-wire.ensures.count) in
     let x_waits = some_waits c.args.x.now.sender (ap is_some (sym c.current.ensures.piece) ∙ c.if-is_none.ensures) in
     let y_waits = some_waits c.args.y.now.sender (ap is_some (sym c.current-2.ensures.piece) ∙ c.if-is_none-2.ensures) in
     on_ok_weaker c.send_again-3.result (λ sent. ticks_two size
@@ -78,7 +78,7 @@ returns-then-is_none-clause-halted c =
     let idle = waits_not x.sender (ap is_some (sym c.current.ensures.piece) ∙ c.if-is_none.ensures) in
     err_weaker c.send_again.result
     (λ halt it. halted_there stays_refl c.send_again.ensures.stays (halted_turned (apart_turned holds.apart) (apart_turned holds.apart)
-    (first_halts c.len-wire.result (fate_value c.args.fate) halt (holds_turned holds) c.requires.y_blocked c.requires.x_blocked
+    (first_halts c.len-wire.result (fate_value c.args.fate.now) halt (holds_turned holds) c.requires.y_blocked c.requires.x_blocked
     (other_waits idle c.requires.waits) it))) c.send_again.ensures.halts
 
 pub returns-clause-halted : goal.returns-clause-halted
@@ -88,7 +88,7 @@ returns-clause-halted c =
     let x_waits = some_waits x.sender (ap is_some (sym c.current.ensures.piece) ∙ c.if-is_none.ensures) in
     let y_waits = some_waits y.sender (ap is_some (sym c.current-2.ensures.piece) ∙ c.if-is_none-2.ensures) in
     err_weaker c.send_again-3.result (λ halt it. halted_there c.send_again-2.ensures.stays c.send_again-3.ensures.stays
-    (second_halts (fate_value c.args.other) c.requires.holds c.requires.x_blocked c.requires.y_blocked x_waits y_waits c.in_ok-send_again.ensures.again it))
+    (second_halts (fate_value c.args.other.now) c.requires.holds c.requires.x_blocked c.requires.y_blocked x_waits y_waits c.in_ok-send_again.ensures.again it))
     c.send_again-3.ensures.halts
 
 pub returns-in_err-send_again-clause-halted : goal.returns-in_err-send_again-clause-halted
@@ -97,7 +97,7 @@ returns-in_err-send_again-clause-halted c =
     let waits = some_waits x.sender (ap is_some (sym c.current.ensures.piece) ∙ c.if-is_none.ensures) in
     let p = err_from_is_err_and c.from_residual.result c.from_residual.ensures.1 in
     rw (p.1, p.2) (halted_there c.send_again-2.ensures.stays stays_refl
-    (first_halts c.len-wire.result (fate_value c.args.fate) c.in_err-send_again.field-0.0 c.requires.holds c.requires.x_blocked c.requires.y_blocked waits
+    (first_halts c.len-wire.result (fate_value c.args.fate.now) c.in_err-send_again.field-0.0 c.requires.holds c.requires.x_blocked c.requires.y_blocked waits
     c.in_err-send_again.ensures.halts))
 
 pub returns-then-is_none-clause-first : goal.returns-then-is_none-clause-first

@@ -17,14 +17,14 @@ start-requires-clause-turn c = c.expect.ensures.other c.args.wire.now c.args.x.n
 
 pub returns-in_err-start-clause-recorded : goal.returns-in_err-start-clause-recorded
 returns-in_err-start-clause-recorded c recorded =
-    let size : c.len.result ≡ length c.args.wire.now.frames.items = omega (arith, c.len.ensures) in
-    c.start.ensures.recorded c.args.script.now (c.fate_of-fate.ensures ∙ ap (λ n. fate_by c.args.script.now (n + 1)) size)
+    let size : c.len.result ≡ length c.args.wire.now.frames.items = omega (arith, c.len.ensures.count) in
+    c.start.ensures.recorded c.args.script.now (c.fate-fate.ensures ∙ ap (λ n. fate_by c.args.script.now (n + 1)) size)
     (expects-recorded c.expect.ensures.receiver recorded)
 
 pub returns-clause-recorded : goal.returns-clause-recorded
 returns-clause-recorded c recorded =
-    let size : c.len.result ≡ length c.args.wire.now.frames.items = omega (arith, c.len.ensures) in
-    c.carry.ensures.recorded (c.start.ensures.recorded c.args.script.now (c.fate_of-fate.ensures ∙ ap (λ n. fate_by c.args.script.now (n + 1)) size)
+    let size : c.len.result ≡ length c.args.wire.now.frames.items = omega (arith, c.len.ensures.count) in
+    c.carry.ensures.recorded (c.start.ensures.recorded c.args.script.now (c.fate-fate.ensures ∙ ap (λ n. fate_by c.args.script.now (n + 1)) size)
     (expects-recorded c.expect.ensures.receiver recorded))
 
 pub returns-in_err-start-clause-counted : goal.returns-in_err-start-clause-counted

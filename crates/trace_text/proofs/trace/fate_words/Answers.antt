@@ -7,4 +7,4 @@ use Rattle.trace_text.proofs.trace.fate_words.Goals as goal
 pub returns-in_ok-bytes-in-Hit : goal.returns-in_ok-bytes-in-Hit
 returns-in_ok-bytes-in-Hit c =
     rw c.in-Hit.is (IfOk-weaker c.format-in-Hit.result _ _ (λ text is. is
-    ∙ simp (c.in_ok-bytes-in-Hit.ensures, c.as_slice.ensures.value) (simp append_assoc)) c.format-in-Hit.ensures.ok)
+    ∙ simp c.in_ok-bytes-in-Hit.ensures (simp append_assoc)) c.format-in-Hit.ensures.ok)

@@ -33,10 +33,9 @@ invariant_of-self-in-Err g c =
     (world-broke
     c.self.invariant c.in_default.is first (c.converse.ensures.recorded c.self.invariant.recorded) (c.converse.ensures.counted c.self.invariant.counted)
     (c.in-Err.ensures.ends (tells-of w.begun w.line (log_value w.log) w.answered first running.at_rest))
-    (subst (λ fs. IsCauseOf c.in-Err.ended (length fs) c.cause_of-cause.result) c.deref.ensures.value c.cause_of-cause.ensures.is)
+    c.cause_of-cause.ensures.is
     c.cause_of-cause.ensures.keeper
-    (subst (λ fs. NamesLast c.cause_of-cause.result (map frame_value fs)) c.deref.ensures.value
-    c.cause_of-cause.ensures.names) c.in-Err.ensures.breaks
+    c.cause_of-cause.ensures.names c.in-Err.ensures.breaks
     (c.in-Err.ensures.heard (tells-of w.begun w.line (log_value w.log) w.answered first running.at_rest)) c.in-Err.ensures.unsent)
 
 pub returns-in-Ok-clause-answered : goal.returns-in-Ok-clause-answered

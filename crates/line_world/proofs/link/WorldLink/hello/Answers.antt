@@ -27,9 +27,9 @@ invariant_of-self-in-Err g c =
     c.cause_of-cause.result) (sym c.fault_of-fault.ensures)
     (world-halted c.self.invariant c.in_default.is first
     (c.greet.ensures.recorded c.self.invariant.recorded) (c.greet.ensures.counted c.self.invariant.counted) (c.in-Err.ensures.ends greets.tells)
-    (subst (λ fs. IsCauseOf (OfLine c.in-Err.halt) (length fs) c.cause_of-cause.result) c.deref.ensures.value c.cause_of-cause.ensures.is)
+    c.cause_of-cause.ensures.is
     c.cause_of-cause.ensures.keeper
-    (subst (λ fs. NamesLast c.cause_of-cause.result (map frame_value fs)) c.deref.ensures.value c.cause_of-cause.ensures.names))
+    c.cause_of-cause.ensures.names)
 
 pub returns-in-Ok-clause-cause : goal.returns-in-Ok-clause-cause
 returns-in-Ok-clause-cause g c =
