@@ -14,7 +14,7 @@ use Rattle.pdb_values.proofs.PlaceLaws.{position-cons, position_found}
 use Rattle.palm_device.specs.Records.{place_of_id}
 use Rattle.palm_device.specs.Soundness.{ids_of}
 use Rattle.indexmap.specs.IndexSet.{insert_key}
-use Rattle.handheld_store.specs.Indexes.{AreIndexes, IsIndexIn, is_of}
+use Rattle.handheld_store.specs.Indexes.{AreIndexes, AreOthers, IsIndexIn, is_of}
 use Rattle.handheld_store.specs.declared.index.Index.{Index}
 
 -- ---- the ids of records
@@ -27,7 +27,7 @@ pub ids_next : (items : List Record) (k : ℕ) (item : Record)
     → k < length items → item ≡ get_or items k item → ids_of (take (suc k) items) ≡ ids_of (take k items) ++ item.id ∷ []
 ids_next items k item within here = ap ids_of (take_next items k item within here) ∙ map-append (λ (item : Record). item.id) (take k items) (item ∷ [])
 
-insert_by : (ids : List ℕ) (id : ℕ) (b : Bool) → not b ≡ true → cond b ids (ids ++ id ∷ []) ≡ ids ++ id ∷ []
+pub insert_by : (ids : List ℕ) (id : ℕ) (b : Bool) → not b ≡ true → cond b ids (ids ++ id ∷ []) ≡ ids ++ id ∷ []
 insert_by ids id true new = absurd cc
 insert_by ids id false new = refl
 
@@ -57,9 +57,9 @@ place_among_ids id (item ∷ items) = grind (arith, position-cons, position, sam
 -- ---- the index of a name
 
 -- what is found has the name, and tells its database
-record IsFound (databases : List DatabaseValue) (name : List ℕ) (index : Index) : Type 0 where
-  named : name ≡ index.name
-  tells : IsIndexIn databases index
+pub record IsFound (databases : List DatabaseValue) (name : List ℕ) (index : Index) : Type 0 where
+  pub named : name ≡ index.name
+  pub tells : IsIndexIn databases index
 
 found_by : (databases : List DatabaseValue) (name : List ℕ) (first index : Index) (rest : List Index) (b : Bool)
     → is_of name first ≡ b → cond b (Some first) (find (is_of name) rest) ≡ Some index → IsIndexIn databases first
@@ -68,7 +68,7 @@ found_by databases name first index rest true own is tells later = let same : fi
     subst (IsFound databases name) same (record { named = bytes_eq-is name first.name own; tells = tells })
 found_by databases name first index rest false own is tells later = later is
 
-found : (databases : List DatabaseValue) (name : List ℕ) (indexes : List Index) (index : Index)
+pub found : (databases : List DatabaseValue) (name : List ℕ) (indexes : List Index) (index : Index)
     → find (is_of name) indexes ≡ Some index → AreIndexes databases indexes → IsFound databases name index
 found databases name [] index is are = absurd cc
 found databases name (first ∷ rest) index is are =
@@ -97,10 +97,6 @@ place_within id items None is few = tt
 place_within id items (Some place) is few = let within = (position_found (λ (item : Record). nat_eq item.id id) items place (sym is)).1 in omega arith
 
 -- ---- other databases
-
--- the databases of all other names are as before
-abbrev pub AreOthers : List ℕ → List DatabaseValue → List DatabaseValue → Type 0
-AreOthers name old new = (other : List ℕ) → bytes_eq name other ≡ false → database_of other new ≡ database_of other old
 
 -- the indexes of all other names are still right
 pub AreIndexes-others : (name : List ℕ) (old new : List DatabaseValue) (indexes : List Index)

@@ -1,3 +1,4 @@
+pub mod AddedLaws
 pub mod IdLaws
 pub mod IndexLaws
 pub mod KeptLaws

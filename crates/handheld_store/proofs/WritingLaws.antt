@@ -1,19 +1,22 @@
 -- Records that are written into the database of a name.
-use Rattle.std.proofs.Common.{◌≡◌, ◌∙◌, ◌<◌, ◌||◌, ◌⊎◌, ℕ, Bool, true, false, cond, filter, List, Option, Some, None, ap, inl, inr, length, refl, sym}
-use Rattle.std.specs.Prelude.{IfSome, IsSomeAnd, is_none, not, option_and_then, ◌==◌}
+use Rattle.std.proofs.Common.{◌≡◌, ◌∙◌, ◌<◌, ◌||◌, ◌++◌, ◌∷◌, [], ℕ, Bool, true, false, cond, List, Option, Some, None, ap, length, refl, sym}
+use Rattle.std.specs.Prelude.{IfSome, IsSomeAnd, is_none, option_and_then, ◌==◌}
+use Rattle.std.proofs.lemmas.List.{map-append}
 use Rattle.pdb_values.specs.Contents.{ContentValue}
 use Rattle.pdb_values.specs.Databases.{DatabaseValue}
 use Rattle.pdb_values.specs.Heads.{holds_resources}
 use Rattle.pdb_values.specs.NamedDatabases.{database_of, replaced}
 use Rattle.pdb_values.specs.declared.record.Record.{Record}
 use Rattle.pdb_values.proofs.NamedLaws.{database_of-name}
-use Rattle.palm_device.specs.Records.{given_id, is_new, place_of_id, put_record}
+use Rattle.palm_device.specs.Records.{given_id, is_new, new_record, place_of_id, put_record}
 use Rattle.palm_device.specs.Soundness.{ids_of}
+use Rattle.palm_device.proofs.RecordLaws.{put_record_new}
 use Rattle.handheld_store.specs.Ids.{IsTakenOrFree}
-use Rattle.handheld_store.specs.Indexes.{AreIndexes, is_of}
+use Rattle.handheld_store.specs.Indexes.{AreIndexes, HasOneMore}
 use Rattle.handheld_store.specs.Placed.{Takes, with_record}
 use Rattle.handheld_store.specs.declared.index.Index.{Index}
-use Rattle.handheld_store.proofs.IndexLaws.{AreIndexes-same, left_right, others-replaced}
+use Rattle.handheld_store.proofs.IndexLaws.{AreIndexes-same, others-replaced}
+use Rattle.handheld_store.proofs.KeptLaws.{database_of-own}
 use Rattle.handheld_store.proofs.PlacedLaws.{ids_placed}
 
 new_by : (given id : ℕ) (items : List Record) (b : Bool)
@@ -32,56 +35,61 @@ takes_given given id database records room is good = record {
 
 -- ---- the indexes, once a record is written
 
--- what is left of the indexes: all, where the record has a place, and else those of other names
-abbrev pub Left : List ℕ → Option ℕ → List Index → List Index → Type 0
-Left name place old left = ((place ≡ None) × (left ≡ filter (λ index. not (is_of name index)) old)) ⊎ ((is_none place ≡ false) × (left ≡ old))
-
-put_fresh : (id : ℕ) (content : ContentValue) (name : List ℕ) (databases databases' : List DatabaseValue) (old left : List Index) (was : DatabaseValue)
+-- a new record is one more
+more_by : (id : ℕ) (content : ContentValue) (name : List ℕ) (databases databases' : List DatabaseValue) (was : DatabaseValue)
     → database_of name databases ≡ Some was → databases' ≡ replaced (with_record id content was) databases
-    → AreIndexes databases old → left ≡ filter (λ index. not (is_of name index)) old → AreIndexes databases' left
-put_fresh id content name databases databases' old left was here is are forgot =
+    → place_of_id id was.records ≡ None → HasOneMore name id databases databases'
+more_by id content name databases databases' was here is none =
+    let new : DatabaseValue = with_record id content was in
     let named : was.head.name ≡ name = database_of-name name databases was here in
-    rw is (left_right name databases
-    (replaced (with_record id content was) databases) old left (rw (← named) (others-replaced (with_record id content was) databases)) are forgot)
+    let own : database_of new.head.name databases ≡ Some was = ap (λ n. database_of n databases) named ∙ here in
+    let there : database_of name databases' ≡ Some new =
+    ap (database_of name) is ∙ ap (λ n. database_of n (replaced new databases)) (sym named) ∙ database_of-own new was databases own in
+    let ids : ids_of new.records ≡ ids_of was.records ++ id ∷ [] =
+    ap ids_of (put_record_new id content was.records none) ∙ map-append (λ (item : Record). item.id) was.records (new_record id content ∷ []) in
+    record {
+      others = rw is (rw (← named) (others-replaced new databases));
+      more = rw here (rw there ids);
+    }
 
-put_again : (id place : ℕ) (content : ContentValue) (name : List ℕ) (databases databases' : List DatabaseValue) (left : List Index) (was : DatabaseValue)
-    → database_of name databases ≡ Some was → databases' ≡ replaced (with_record id content was) databases
-    → AreIndexes databases left → place_of_id id was.records ≡ Some place → AreIndexes databases' left
-put_again id place content name databases databases' left was here is are found =
-    let own : database_of was.head.name databases ≡ Some was = ap (λ n. database_of n databases) (database_of-name name databases was here) ∙ here in
-    let ids : ids_of was.records ≡ ids_of (put_record id content was.records) = sym (ids_placed id place content was.records found) in
-    rw is (AreIndexes-same (with_record id content was) databases left (rw own ids) are)
-
-again_by : (id : ℕ) (place : Option ℕ) (content : ContentValue) (name : List ℕ) (databases databases' : List DatabaseValue)
-    (left : List Index) (was : DatabaseValue) → database_of name databases ≡ Some was → databases' ≡ replaced (with_record id content was) databases
-    → AreIndexes databases left → place ≡ place_of_id id was.records → is_none place ≡ false → AreIndexes databases' left
-again_by id None content name databases databases' left was here is are found some = absurd cc
-again_by id (Some place) content name databases databases' left was here is are found some =
-    put_again id place content name databases databases' left was here is are (sym found)
-
-put_by : (id : ℕ) (place : Option ℕ) (content : ContentValue) (name : List ℕ) (databases databases' : List DatabaseValue)
-    (old left : List Index) (was : DatabaseValue) → database_of name databases ≡ Some was → databases' ≡ replaced (with_record id content was) databases
-    → AreIndexes databases old → place ≡ place_of_id id was.records → Left name place old left → AreIndexes databases' left
-put_by id place content name databases databases' old left was here is are found (inl forgot) =
-    put_fresh id content name databases databases' old left was here is are forgot.1
-put_by id place content name databases databases' old left was here is are found (inr all) =
-    again_by id place content name databases databases' left was here is (rw all.1 are) found all.0
-
-pub AreIndexes-put : (id : ℕ) (place : Option ℕ) (content : ContentValue) (name : List ℕ) (databases databases' : List DatabaseValue) (old left : List Index)
+pub one_more : (id : ℕ) (place : Option ℕ) (content : ContentValue) (name : List ℕ) (databases databases' : List DatabaseValue)
     → IsSomeAnd (database_of name databases) (Takes id)
-    → IfSome (database_of name databases) (λ was. databases' ≡ replaced (with_record id content was) databases) → AreIndexes databases old
+    → IfSome (database_of name databases) (λ was. databases' ≡ replaced (with_record id content was) databases)
     → place ≡ option_and_then (λ (database : DatabaseValue). place_of_id id database.records) (database_of name databases)
-    → Left name place old left → AreIndexes databases' left
-AreIndexes-put id place content name databases databases' old left takes put are found lefts = by (database_of name databases) refl takes put found
+    → place ≡ None → HasOneMore name id databases databases'
+one_more id place content name databases databases' takes put found none = by (database_of name databases) refl takes put found
   where
     by : (o : Option DatabaseValue)
         → database_of name databases ≡ o → IsSomeAnd o (Takes id) → IfSome o (λ was. databases' ≡ replaced (with_record id content was) databases)
-        → place ≡ option_and_then (λ (database : DatabaseValue). place_of_id id database.records) o → AreIndexes databases' left
-    by None none takes put found = absurd takes
-    by (Some was) here takes put found = put_by id place content name databases databases' old left was here put are found lefts
+        → place ≡ option_and_then (λ (database : DatabaseValue). place_of_id id database.records) o → HasOneMore name id databases databases'
+    by None gone takes put found = absurd takes
+    by (Some was) here takes put found = more_by id content name databases databases' was here put (sym found ∙ none)
 
--- where nothing was written
-pub AreIndexes-left : (name : List ℕ) (place : Option ℕ) (databases : List DatabaseValue) (old left : List Index)
-    → AreIndexes databases old → Left name place old left → AreIndexes databases left
-AreIndexes-left name place databases old left are (inl forgot) = left_right name databases databases old left (λ other differs. refl) are forgot.1
-AreIndexes-left name place databases old left are (inr all) = rw all.1 are
+put_again : (id place : ℕ) (content : ContentValue) (name : List ℕ) (databases databases' : List DatabaseValue) (indexes : List Index) (was : DatabaseValue)
+    → database_of name databases ≡ Some was → databases' ≡ replaced (with_record id content was) databases
+    → AreIndexes databases indexes → place_of_id id was.records ≡ Some place → AreIndexes databases' indexes
+put_again id place content name databases databases' indexes was here is are found =
+    let own : database_of was.head.name databases ≡ Some was = ap (λ n. database_of n databases) (database_of-name name databases was here) ∙ here in
+    let ids : ids_of was.records ≡ ids_of (put_record id content was.records) = sym (ids_placed id place content was.records found) in
+    rw is (AreIndexes-same (with_record id content was) databases indexes (rw own ids) are)
+
+again_by : (id : ℕ) (place : Option ℕ) (content : ContentValue) (name : List ℕ) (databases databases' : List DatabaseValue)
+    (indexes : List Index) (was : DatabaseValue) → database_of name databases ≡ Some was → databases' ≡ replaced (with_record id content was) databases
+    → AreIndexes databases indexes → place ≡ place_of_id id was.records → is_none place ≡ false → AreIndexes databases' indexes
+again_by id None content name databases databases' indexes was here is are found some = absurd cc
+again_by id (Some place) content name databases databases' indexes was here is are found some =
+    put_again id place content name databases databases' indexes was here is are (sym found)
+
+-- a record that is written in its place changes no id
+pub AreIndexes-again : (id : ℕ) (place : Option ℕ) (content : ContentValue) (name : List ℕ) (databases databases' : List DatabaseValue) (indexes : List Index)
+    → IsSomeAnd (database_of name databases) (Takes id)
+    → IfSome (database_of name databases) (λ was. databases' ≡ replaced (with_record id content was) databases) → AreIndexes databases indexes
+    → place ≡ option_and_then (λ (database : DatabaseValue). place_of_id id database.records) (database_of name databases)
+    → is_none place ≡ false → AreIndexes databases' indexes
+AreIndexes-again id place content name databases databases' indexes takes put are found some = by (database_of name databases) refl takes put found
+  where
+    by : (o : Option DatabaseValue)
+        → database_of name databases ≡ o → IsSomeAnd o (Takes id) → IfSome o (λ was. databases' ≡ replaced (with_record id content was) databases)
+        → place ≡ option_and_then (λ (database : DatabaseValue). place_of_id id database.records) o → AreIndexes databases' indexes
+    by None none takes put found = absurd takes
+    by (Some was) here takes put found = again_by id place content name databases databases' indexes was here put are found some

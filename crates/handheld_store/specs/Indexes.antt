@@ -1,6 +1,6 @@
 -- The ids of a database's records, kept beside it so that a record is found by its id without a
 -- walk.
-use Rattle.std.specs.Prelude.{◌≡◌, ℕ, Bool, List, IfSome}
+use Rattle.std.specs.Prelude.{◌≡◌, ◌++◌, ◌∷◌, [], ℕ, Bool, false, List, IfSome, IsSomeAnd}
 use Rattle.std.specs.List.{AllByRecursion}
 use Rattle.std.specs.Str.{bytes_eq}
 use Rattle.pdb_values.specs.Databases.{DatabaseValue}
@@ -20,3 +20,15 @@ IsIndexIn databases index =
 -- each of the indexes does
 abbrev pub AreIndexes : List DatabaseValue → List Index → Type 0
 AreIndexes databases indexes = AllByRecursion (IsIndexIn databases) indexes
+
+-- the databases of all other names are as before
+abbrev pub AreOthers : List ℕ → List DatabaseValue → List DatabaseValue → Type 0
+AreOthers name old new =
+    (other : List ℕ) → bytes_eq name other ≡ false → database_of other new ≡ database_of other old
+
+-- the database of a name has one record more, of this id and behind the others, and the databases
+-- of all other names are as before
+pub record HasOneMore (name : List ℕ) (id : ℕ) (old new : List DatabaseValue) : Type 0 where
+  pub others : AreOthers name old new
+  pub more : IsSomeAnd (database_of name old) (λ was. IfSome (database_of name new)
+      (λ database. ids_of database.records ≡ ids_of was.records ++ id ∷ []))

@@ -1,12 +1,12 @@
 // The ids of databases' records, kept so that a record is found by its id without a walk.
-ghost use Rattle.std.specs.Prelude.{◌≡◌, ◌<◌, ◌≤◌, IfSome, List, Some, filter, find, length, not, option_and_then, true};
+ghost use Rattle.std.specs.Prelude.{◌≡◌, ◌<◌, ◌≤◌, ◌++◌, ◌∷◌, [], IfSome, List, Some, filter, find, length, not, option_and_then, position, true};
 ghost use Rattle.std.specs.Option.{option_copied};
 ghost use Rattle.pdb_values.specs.Databases.{DatabaseValue};
 ghost use Rattle.pdb_values.specs.NamedDatabases as named;
 ghost use Rattle.palm_device.specs.Records as records;
 ghost use Rattle.palm_device.specs.Soundness.{ids_of};
 ghost use Rattle.handheld_store.specs.Indexes as index_specs;
-ghost use Rattle.handheld_store.specs.Indexes.{AreIndexes};
+ghost use Rattle.handheld_store.specs.Indexes.{AreIndexes, HasOneMore};
 
 use indexmap::IndexSet;
 use palm_device::place_of_id;
@@ -93,6 +93,56 @@ fn ids_in(alloc: Global, items: &[Record]) -> Option<IndexSet<u32>>
         }
     }
     Some(ids)
+}
+
+/// Puts the id of a new record behind those of the database of this name, where it has an index and
+/// memory serves. Else the index is forgotten.
+pub fn add_id(indexes: &mut Vec<Index>, name: &[u8], id: u32)
+    ensures { (was databases : List DatabaseValue) → AreIndexes was indexes.old.items
+        → HasOneMore name.now id was databases → AreIndexes databases indexes.new.items }
+{
+    let taken = take_index(indexes, name);
+    forget(indexes, name);
+    match taken {
+        Some(index) => put_more(indexes, index, id),
+        None => {}
+    }
+}
+
+// Takes out the index of a database of this name.
+fn take_index(indexes: &mut Vec<Index>, name: &[u8]) -> Option<Index>
+    ensures taken { result ≡ find (index_specs.is_of name.now) indexes.old.items }
+    ensures others { (databases : List DatabaseValue) → AreIndexes databases indexes.old.items
+        → AreIndexes databases indexes.new.items }
+{
+    match place_of_index(indexes, name) {
+        Some(place) => Some(indexes.remove(place)),
+        None => None,
+    }
+}
+
+// The place of the index of a database of this name.
+fn place_of_index(indexes: &[Index], name: &[u8]) -> Option<usize>
+    ensures place { result ≡ position (index_specs.is_of name.now) indexes.now }
+    ensures within { IfSome result (λ place. place < length indexes.now) }
+{
+    indexes.iter().position(|index| is_of(index, name))
+}
+
+// Puts an index that has one id more behind the others, where memory serves.
+fn put_more(indexes: &mut Vec<Index>, index: Index, id: u32)
+    ensures { (databases : List DatabaseValue) → AreIndexes databases indexes.old.items
+        → IfSome (named.database_of index.name databases)
+        (λ database. ids_of database.records ≡ index.ids.keys ++ id ∷ [])
+        → AreIndexes databases indexes.new.items }
+{
+    let Index { name, mut ids } = index;
+    match ids.insert(id) {
+        Ok(true) => {
+            let _added = indexes.push(Index { name, ids });
+        }
+        Ok(false) | Err(_) => {}
+    }
 }
 
 /// Forgets the index of a database of this name.

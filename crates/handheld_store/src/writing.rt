@@ -11,7 +11,7 @@ ghost use Rattle.handheld_store.specs.Placed.{HasRoomFor, Takes, with_record};
 ghost use Rattle.handheld_store.specs.Refusals.{stops};
 
 use crate::fault::StoreFault;
-use crate::index::{forget, place_in};
+use crate::index::{add_id, place_in};
 use crate::named::put_record;
 use crate::new_id::written_id;
 use crate::store::Store;
@@ -104,9 +104,6 @@ impl<F: Folder> Store<F> {
             name,
             id.number(),
         );
-        if place.is_none() {
-            forget(&mut self.indexes, name.as_bytes());
-        }
         match put_record(
             self.alloc,
             &mut self.folder,
@@ -116,7 +113,12 @@ impl<F: Folder> Store<F> {
             id,
             content,
         ) {
-            Ok(()) => Ok(()),
+            Ok(()) => {
+                if place.is_none() {
+                    add_id(&mut self.indexes, name.as_bytes(), id.number());
+                }
+                Ok(())
+            }
             Err(fault) => Err(self.fails(fault)),
         }
     }

@@ -6,7 +6,7 @@ ghost use Rattle.pdb_files.specs.Files.{FitsRecord, FitsResource};
 ghost use Rattle.pdb_files.specs.Reading.{entry_in, record_of, resource_of};
 
 use crate::fault::FileFault;
-use crate::field::{code_at, push_u16, push_u24, push_u32, u16_at, u24_at};
+use crate::field::{code_at, push_u16, push_u32, u16_at, u24_at};
 use pdb_values::{Bytes, Category, Content, Record, RecordId, Resource};
 use std::alloc::{AllocError, Global};
 
@@ -131,11 +131,9 @@ pub fn push_record_entry(out: &mut Vec<u8>, begin: u32, item: &Record) -> Result
     ensures fits { FitsRecord item.now }
 {
     let attributes = attributes_of(item);
-    let id = item.id.number();
-    push_u32(out, begin)?;
-    out.push(attributes)?;
-    push_u24(out, id)?;
-    Ok(())
+    let [a, b, c, d] = begin.to_be_bytes();
+    let [_, e, f, g] = item.id.number().to_be_bytes();
+    out.extend_from_slice(&[a, b, c, d, attributes, e, f, g])
 }
 
 /// The attributes of a record's entry: 0x80 deleted, 0x40 dirty, 0x20 busy, 0x10 secret, and the category in the low

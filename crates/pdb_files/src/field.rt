@@ -63,10 +63,3 @@ pub fn u24_at(bytes: &[u8], place: usize) -> u32
 {
     BigEndian::read_u24(&bytes[place..])
 }
-
-/// Writes a number of three bytes at the end.
-pub fn push_u24(out: &mut Vec<u8>, number: u32) -> Result<(), AllocError>
-    ensures { OnOk result (out.new.items ≡ out.old.items ++ big_bytes 3 number) }
-{
-    out.extend_from_slice(&number.to_be_bytes()[1..])
-}

@@ -31,12 +31,13 @@ pub fn write_database(alloc: Global, database: &Database) -> Result<Vec<u8>, All
     let data_begin = sort_begin + block_length(database.sort());
     let app = block_offset(database.app(), app_begin as u32);
     let sort = block_offset(database.sort(), sort_begin as u32);
-    let mut out = Vec::new(alloc);
+    let mut out = Vec::with_capacity(alloc, data_begin)?;
     push_header(&mut out, head, app, sort, count as u16)?;
-    push_entries(&mut out, data_begin, database)?;
+    let data_end = push_entries(&mut out, data_begin, database)?;
     out.extend_from_slice(&FILLER)?;
     push_block(&mut out, database.app())?;
     push_block(&mut out, database.sort())?;
+    out.reserve_exact(data_end - data_begin)?;
     push_data(&mut out, database)?;
     Ok(out)
 }
@@ -73,14 +74,16 @@ fn block_offset(block: Option<&[u8]>, place: u32) -> u32
     }
 }
 
-// Writes the entries of a database, the data of whose first entry begins at a place of the file.
-fn push_entries(out: &mut Vec<u8>, begin: usize, database: &Database) -> Result<(), AllocError>
+// Writes the entries of a database, the data of whose first entry begins at a place of the file. Gives where the data of
+// the last one ends.
+fn push_entries(out: &mut Vec<u8>, begin: usize, database: &Database) -> Result<usize, AllocError>
     requires { begin + 65500 * entry_count database.now < 2 ^ 32 }
     ensures text { OnOk result (out.new.items ≡ out.old.items
         ++ entries_text (begins_from begin (data_of database.now)) database.now) }
     ensures records { OnOk result (AllByRecursion FitsRecord database.now.records) }
     ensures resources { OnOk result (AllByRecursion FitsResource database.now.resources) }
     ensures short { OnOk result (AreShort (data_of database.now)) }
+    ensures end { IfOk result (λ end. end ≡ begin + length (concat (data_of database.now))) }
 {
     if database.head().holds_resources() {
         push_resource_entries(out, begin, database.resources())
@@ -89,45 +92,49 @@ fn push_entries(out: &mut Vec<u8>, begin: usize, database: &Database) -> Result<
     }
 }
 
-// Writes the entries of records, the data of whose first begins at a place of the file.
+// Writes the entries of records, the data of whose first begins at a place of the file. Gives where the data of the last
+// one ends.
 fn push_record_entries(
     out: &mut Vec<u8>,
     begin: usize,
     records: &[Record],
-) -> Result<(), AllocError>
+) -> Result<usize, AllocError>
     requires { begin + 65500 * length records.now < 2 ^ 32 }
     ensures text { OnOk result (out.new.items ≡ out.old.items
         ++ record_entries (begins_from begin (record_data records.now)) records.now) }
     ensures fits { OnOk result (AllByRecursion FitsRecord records.now) }
     ensures short { OnOk result (AreShort (record_data records.now)) }
+    ensures end { IfOk result (λ end. end ≡ begin + length (concat (record_data records.now))) }
 {
     let mut begin = begin;
     for item in records {
         push_record_entry(out, begin as u32, item)?;
         begin += item.content.bytes().len();
     }
-    Ok(())
+    Ok(begin)
 }
 
-// Writes the entries of resources, the data of whose first begins at a place of the file.
+// Writes the entries of resources, the data of whose first begins at a place of the file. Gives where the data of the last
+// one ends.
 fn push_resource_entries(
     out: &mut Vec<u8>,
     begin: usize,
     resources: &[Resource],
-) -> Result<(), AllocError>
+) -> Result<usize, AllocError>
     requires place { begin + 65500 * length resources.now < 2 ^ 32 }
     requires few_bytes { All IsShortResource resources.now }
     ensures text { OnOk result (out.new.items ≡ out.old.items
         ++ resource_entries (begins_from begin (resource_data resources.now)) resources.now) }
     ensures fits { OnOk result (AllByRecursion FitsResource resources.now) }
     ensures short { OnOk result (AreShort (resource_data resources.now)) }
+    ensures end { IfOk result (λ end. end ≡ begin + length (concat (resource_data resources.now))) }
 {
     let mut begin = begin;
     for resource in resources {
         push_resource_entry(out, begin as u32, resource)?;
         begin += resource.bytes.as_slice().len();
     }
-    Ok(())
+    Ok(begin)
 }
 
 // Writes a block, if it is there.

@@ -13,4 +13,4 @@ returns-clause-text c =
     let head = subst FitsHeader c.head-head.ensures.head c.in_ok-push_header.ensures.fits in
     let few : entry_count database ≤ 65535 = omega (arith, c.entry_count-count.ensures.bound, c.entry_count-count.ensures.count) in
     subst (λ bytes. IsFileText database bytes) (sym (returns-clause-canonical c)) (canonical_is_text database
-    c.head-head.ensures.database head few c.in_ok-push_entries.ensures.records c.in_ok-push_entries.ensures.resources c.in_ok-push_entries.ensures.short)
+    c.head-head.ensures.database head few c.in_ok-data_end.ensures.records c.in_ok-data_end.ensures.resources c.in_ok-data_end.ensures.short)
