@@ -1,14 +1,16 @@
 // A handheld's folder, the script of a line, and what is said over them.
-ghost use Rattle.std.specs.Prelude.{◌≡◌, true};
+ghost use Rattle.std.specs.Prelude.{◌≡◌, true, IfSome};
+ghost use Rattle.handheld_files.specs.Openings.{Stands};
 
 use crate::fake::{FakeLink, Then};
 use crate::lines::{cause_text, frames_text, messages_text, numbers_of};
-use crate::ported::over_port;
+use crate::palmed::{Palmed, losses_in, session_with, talk_to};
+use crate::ported::{over_port, session_over};
 use crate::said::records_text;
 use crate::session::session;
 use crate::talk::{requests_in, talk};
 use case_words::{bytes_at, bytes_in, number_at, number_in, word};
-use dlp_commands::LinkFault;
+use dlp_commands::{LinkFault, MessageText};
 use handheld_server::{Server, ServerLink};
 use handheld_store::Store;
 use hs_folders::{Folder, MemFolder};
@@ -18,13 +20,15 @@ use std::alloc::{AllocError, Global};
 use std::fmt::Write;
 use std::mem;
 
-/// The handheld's folder, the text of the script, and what was said last over a line.
+/// The handheld's folder, the text of the script, what was said last over a line, and what the handheld
+/// replied last.
 #[derive(Drop)]
 pub struct Cases {
     alloc: Global,
     folder: MemFolder,
     script: String,
     log: Option<LineLog>,
+    replies: Vec<MessageText>,
 }
 
 impl Cases {
@@ -34,6 +38,7 @@ impl Cases {
             folder: MemFolder::new(alloc),
             script: String::new(alloc),
             log: None,
+            replies: Vec::new(alloc),
         }
     }
 
@@ -69,9 +74,11 @@ impl Cases {
             ("session", _) => self.over_server(rest),
             ("fake", _) => over_fake(alloc, word(words, 1), rest.get(1..).unwrap_or(&[])),
             ("talk", _) => self.over_line(rest),
+            ("palm", _) | ("palmed", _) => self.over_palm(words),
             ("port", _) => over_port(alloc, rest),
+            ("ported", _) => session_over(alloc, rest),
             ("frames", Some(log)) => frames_text(alloc, &log.frames, rest),
-            ("replies", Some(log)) => messages_text(alloc, &log.replies),
+            ("replies", _) => messages_text(alloc, &self.replies),
             _ => String::from_str(alloc, "what?"),
         }
     }
@@ -90,7 +97,10 @@ impl Cases {
     }
 
     // A server over the folder. None: it can't be opened, and is as before.
-    fn server(&mut self) -> Option<Server<MemFolder>> {
+    fn server(&mut self) -> Option<Server<MemFolder>>
+        ensures { IfSome result (λ server. Stands (⟦<MemFolder as Folder>⟧.contents server.folder)
+            server.device.databases server.device.user) }
+    {
         let folder = mem::replace(&mut self.folder, MemFolder::new(self.alloc));
         match Store::open_folder(self.alloc, folder) {
             Ok(store) => Some(Server::new(store)),
@@ -112,6 +122,31 @@ impl Cases {
         }
         let (link, said) = session(alloc, ServerLink::new(alloc, server), words)?;
         self.folder = link.into_server().into_folder();
+        Ok(said)
+    }
+
+    // Talks over a port to a handheld over the folder, which comes back.
+    fn over_palm(&mut self, words: &[&str]) -> Result<String, AllocError> {
+        let alloc = self.alloc;
+        let losses = losses_in(alloc, words.get(1..).unwrap_or(&[]))?;
+        let rest = words.get(4..).unwrap_or(&[]);
+        let Some(server) = self.server() else {
+            return String::from_str(alloc, "not opened");
+        };
+        if !server.is_sound() {
+            return String::from_str(alloc, "not sound");
+        }
+        let palmed = match word(words, 0) {
+            "palm" => talk_to(alloc, server, losses, &requests_in(alloc, rest)?)?,
+            _ => session_with(alloc, server, losses, rest)?,
+        };
+        let Palmed {
+            said,
+            report,
+            folder,
+        } = palmed;
+        self.folder = folder;
+        self.replies = report.replies;
         Ok(said)
     }
 
@@ -144,9 +179,10 @@ impl Cases {
         };
         let answered = talk(alloc, &mut world, requests)?;
         let cause = cause_text(alloc, world.cause())?;
-        let (log, folder) = world.into_log();
+        let (mut log, folder) = world.into_log();
         let numbers = numbers_of(alloc, &log, answered)?;
         self.folder = folder;
+        self.replies = mem::replace(&mut log.replies, Vec::new(alloc));
         self.log = Some(log);
         format!(in alloc; "{cause} {numbers}")
     }

@@ -5,7 +5,7 @@ use line_world::{Down, LineLog};
 use slp_frames::Tally;
 use std::alloc::{AllocError, Global};
 use std::fmt::Write;
-use trace_text::{End, Frame, write_trace};
+use trace_text::{End, FrameLog, write_frame};
 
 /// Why the line is down.
 pub fn cause_text(alloc: Global, cause: Option<&Down>) -> Result<String, AllocError> {
@@ -46,7 +46,7 @@ fn tally_text(alloc: Global, tally: Tally) -> Result<String, AllocError> {
 /// The trace of the frames of these numbers.
 pub fn frames_text(
     alloc: Global,
-    frames: &[Frame],
+    frames: &FrameLog,
     numbers: &[&str],
 ) -> Result<String, AllocError> {
     let mut said = String::new(alloc);
@@ -61,11 +61,11 @@ pub fn frames_text(
 }
 
 // The trace of a frame, by its number.
-fn frame_text(alloc: Global, frames: &[Frame], number: u64) -> Result<String, AllocError> {
-    for frame in frames {
+fn frame_text(alloc: Global, frames: &FrameLog, number: u64) -> Result<String, AllocError> {
+    for place in 0..frames.len() {
+        let frame = frames.get(place);
         if frame.number == number {
-            let text = write_trace(alloc, std::slice::from_ref(frame))?;
-            return String::from_utf8_lossy(alloc, &text);
+            return write_frame(alloc, frame);
         }
     }
     String::from_str(alloc, "no such frame")

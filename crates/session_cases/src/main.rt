@@ -26,7 +26,13 @@
 //!   other. PIECES are what comes, a read each, with a comma between them; an empty one is a tick of silence, and behind the
 //!   last one all is silent. The port fails behind GOOD calls, with `-` never. It prints why the link answered no more, how many
 //!   requests were answered, and what was said and heard: `D` and the bytes of a packet, `H` and a packet's transaction and
-//!   body, `-` for a tick.
+//!   body, `-` for a tick. `ported GOOD PIECES USERS ADD CALL..` says a session over such a port, and prints what its calls
+//!   answered and why the link answers no more.
+//! - A handheld behind a port, over the folder: `palm TOWARD BACK TICKS REQUEST..` greets it and sends these requests, one after
+//!   the other. TOWARD and BACK are the numbers of the packets that are lost on the way to the handheld and back, the first one
+//!   being 0, TICKS those of the reads between packets before which its clock ticks once more: with commas between them, or as
+//!   FIRST..END, or `-` for none. It prints why the link answered no more, and how many requests were performed and answered;
+//!   `replies` as above. `palmed TOWARD BACK TICKS USERS ADD CALL..` says a session to it so, and prints what `session` does.
 #![tactic(auto)]
 
 mod answer;
@@ -34,6 +40,7 @@ mod asked;
 mod cases;
 mod fake;
 mod lines;
+mod palmed;
 mod plans;
 mod ported;
 mod said;

@@ -1,4 +1,5 @@
 // What is said over a port in memory.
+use crate::session::session;
 use crate::talk::{requests_in, talk};
 use case_words::{bytes_in, word};
 use port_line::MemPort;
@@ -22,6 +23,15 @@ pub fn over_port(alloc: Global, words: &[&str]) -> Result<String, AllocError> {
     Ok(said)
 }
 
+/// Says a session over a port: what its calls answered, and why the link answers no more.
+pub fn session_over(alloc: Global, words: &[&str]) -> Result<String, AllocError> {
+    let Ok(link) = PortLink::new(alloc, port_of(alloc, words)?) else {
+        return Err(AllocError);
+    };
+    let (link, said) = session(alloc, link, words.get(2..).unwrap_or(&[]))?;
+    format!(in alloc; "{said}; {}", cause_word(link.cause()))
+}
+
 // A port over which these pieces come, and which fails behind so many calls.
 fn port_of(alloc: Global, words: &[&str]) -> Result<MemPort, AllocError> {
     let mut pieces = Vec::new(alloc);
@@ -35,7 +45,8 @@ fn port_of(alloc: Global, words: &[&str]) -> Result<MemPort, AllocError> {
     Ok(port)
 }
 
-fn cause_word(cause: Option<PortCause>) -> &'static str {
+/// The word for why a link answers no more.
+pub fn cause_word(cause: Option<PortCause>) -> &'static str {
     match cause {
         None => "running",
         Some(PortCause::PortFailed) => "port failed",
