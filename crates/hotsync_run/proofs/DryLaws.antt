@@ -5,7 +5,6 @@ use Rattle.std.specs.Prelude.{IfSome, None, Option, Some, min}
 use Rattle.std.specs.Option.{option_map}
 use Rattle.hs_folders.specs.Causes.{Rose}
 use Rattle.hs_folders.specs.FileMaps.{FileMap}
-use Rattle.hs_folders.specs.Moments.{EachMomentSince, Moments}
 use Rattle.hs_folders.proofs.MomentLaws.{no_moment}
 use Rattle.pdb_values.specs.Databases.{DatabaseValue}
 use Rattle.pdb_values.specs.declared.user.UserInfo.{UserInfo}
@@ -23,12 +22,11 @@ use Rattle.hotsync_run.specs.Calls.{Call, IsAnsweredCall, IsCall}
 use Rattle.hotsync_run.specs.Causes.{HasBegun}
 use Rattle.hotsync_run.specs.DryRuns.{HasDryRun, HoldTheSame, IsCopiedAs, IsDryRun, RanOverCopies, over}
 use Rattle.hotsync_run.specs.Reports.{IsNotStarted}
-use Rattle.hotsync_run.specs.Runs.{HasRun, IsRun, StandsAsItDid, run_paths}
-use Rattle.hotsync_run.specs.SessionCalls.{BlamesByCount, OpensNamed, StaysAsItWas}
+use Rattle.hotsync_run.specs.Runs.{HasRun, IsRun, StandsAsItDid}
+use Rattle.hotsync_run.specs.SessionCalls.{BlamesByCount, StaysAsItWas}
 use Rattle.hotsync_run.specs.Told.{CallTold, FolderTold, SidesTold, folder_told, sides_of}
 use Rattle.hotsync_run.specs.declared.report.Report.{Report}
 use Rattle.hotsync_looks.specs.declared.status.Status.{Status}
-use Rattle.hotsync_looks.specs.declared.status.Status.TheVariants.{Done, OutWrite, NoMemory}
 
 -- what a folder told is a copy of that
 copy_itself : (told : Option FileMap) (before now : ℕ) → IsCopy told before now told

@@ -25,6 +25,7 @@ use hotsync_looks::{Status, print_refusal, print_served};
 use hs_folders::{Folder, Sink, Source, SourceFault};
 use run_clap::CaptureWords;
 use std::alloc::Global;
+use trace_text::FrameLog;
 
 /// Runs the handheld's end over the bytes of a file, writes what it says, and prints how many requests it served. The
 /// desktop's folder is handed back.
@@ -191,7 +192,7 @@ fn report_of(alloc: Global, talk: DeviceReport) -> Report
         replies,
         given: Vec::new(alloc),
         writes: 0,
-        frames: Vec::new(alloc),
+        frames: FrameLog::new(alloc),
         faulted: Vec::new(alloc),
         to_handheld: None,
         to_desktop: None,

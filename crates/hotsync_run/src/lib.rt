@@ -18,6 +18,7 @@ mod categories_talk;
 mod clock;
 mod closing;
 mod command;
+mod counted_folder;
 mod dry_run;
 mod emulation;
 mod hints;

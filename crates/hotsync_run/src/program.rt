@@ -13,6 +13,7 @@ ghost use Rattle.hotsync_run.specs.Told.{call_told};
 use crate::answer::Answer;
 use crate::clock::seconds_now;
 use crate::command::hotsync;
+use crate::counted_folder::CountedFolder;
 use crate::hints::{hint_folders, hint_words};
 use crate::report::SessionEnd;
 use hotsync_looks::{Status, print_refusal};
@@ -89,24 +90,27 @@ fn words_of(args: &[String]) -> &[String]
     args.get(1..).unwrap_or(&[])
 }
 
-/// Runs the program over the system's folders and files and its standard output, with hints on standard error.
+/// Runs the program over the system's folders and files and its standard output, with hints on standard error, and where it is
+/// wanted with how many writes went to the handheld's folder, once they take a second.
 pub fn run_on_system<R: Clock + Env + Files<File = File> + Print + Eprint + AllocGlobal>(
     rt: &R,
+    is_count_wanted: bool,
 ) -> ExitCode
     ensures { EndsProgram (exit_status result) }
 {
-    let ended = run_handed(rt, seconds_now(rt), arguments(rt));
+    let ended = run_handed(rt, is_count_wanted, seconds_now(rt), arguments(rt));
     let code = ended.code;
     hint_folders(rt, ended.answer);
     ExitCode::from(code)
 }
 
 // The call for the words that the system handed over. Where it did not, they ask for nothing that this program does.
-fn run_handed<R: Files<File = File> + Print + Eprint + AllocGlobal>(
-    rt: &R,
+fn run_handed<'r, R: Clock + Files<File = File> + Print + Eprint + AllocGlobal>(
+    rt: &'r R,
+    is_count_wanted: bool,
     now: Option<u32>,
     args: Result<Vec<String>, WordsFault>,
-) -> Ended<DirFolder<'_, R>, DirFolder<'_, R>>
+) -> Ended<CountedFolder<'r, R, DirFolder<'r, R>>, DirFolder<'r, R>>
     ensures code { result.code ≡ code_of result.answer.status }
     ensures words { IfOk args (λ args. IsSystemCall (task_in now (drop 1 args.items))
         result.answer.status result.answer.report) }
@@ -115,18 +119,19 @@ fn run_handed<R: Files<File = File> + Print + Eprint + AllocGlobal>(
         → result.answer.status ≡ Status.NoMemory }
 {
     match args {
-        Ok(args) => run_over_files(rt, now, &args),
-        Err(WordsFault::Usage) => run_over_files(rt, now, &[]),
+        Ok(args) => run_over_files(rt, is_count_wanted, now, &args),
+        Err(WordsFault::Usage) => run_over_files(rt, is_count_wanted, now, &[]),
         Err(WordsFault::NoMemory) => unread_call(rt),
     }
 }
 
 // The program over the system's folders and files and its standard output.
-fn run_over_files<'r, R: Files<File = File> + Print + Eprint + AllocGlobal>(
+fn run_over_files<'r, R: Clock + Files<File = File> + Print + Eprint + AllocGlobal>(
     rt: &'r R,
+    is_count_wanted: bool,
     now: Option<u32>,
     args: &[String],
-) -> Ended<DirFolder<'r, R>, DirFolder<'r, R>>
+) -> Ended<CountedFolder<'r, R, DirFolder<'r, R>>, DirFolder<'r, R>>
     ensures code { result.code ≡ code_of result.answer.status }
     ensures call { IsSystemCall (task_in now (drop 1 args.now))
         result.answer.status result.answer.report }
@@ -136,7 +141,7 @@ fn run_over_files<'r, R: Files<File = File> + Print + Eprint + AllocGlobal>(
         alloc,
         now,
         args,
-        DirFolder::new(rt, alloc),
+        CountedFolder::new(rt, DirFolder::new(rt, alloc), is_count_wanted),
         DirFolder::new(rt, alloc),
         &mut FileSource::new(rt),
         &mut FileSink::new(rt, alloc),
@@ -174,9 +179,9 @@ fn run_untold<H: Folder, D: Folder, S: Source, T: Sink, O: Sink>(
 }
 
 // A call whose words were not fetched for want of memory.
-fn unread_call<R: Files<File = File> + Print + Eprint + AllocGlobal>(
-    rt: &R,
-) -> Ended<DirFolder<'_, R>, DirFolder<'_, R>>
+fn unread_call<'r, R: Clock + Files<File = File> + Print + Eprint + AllocGlobal>(
+    rt: &'r R,
+) -> Ended<CountedFolder<'r, R, DirFolder<'r, R>>, DirFolder<'r, R>>
     ensures code { result.code ≡ code_of result.answer.status }
     ensures no_memory { result.answer.status ≡ Status.NoMemory }
     ensures call { IsSystemCall None result.answer.status result.answer.report }
@@ -184,7 +189,7 @@ fn unread_call<R: Files<File = File> + Print + Eprint + AllocGlobal>(
     let alloc = rt.alloc();
     say_no_memory(
         alloc,
-        DirFolder::new(rt, alloc),
+        CountedFolder::new(rt, DirFolder::new(rt, alloc), false),
         DirFolder::new(rt, alloc),
         &mut StdoutSink::new(rt),
     )

@@ -7,7 +7,7 @@ use pdb_values::RecordId;
 use session_parts::DbReport;
 use slp_frames::Tally;
 use std::alloc::Global;
-use trace_text::Frame;
+use trace_text::FrameLog;
 
 /// How far a session over the line came.
 #[derive(Clone, Copy, PartialEq, Eq)]
@@ -38,7 +38,7 @@ pub struct Report {
     /// How many of the performed requests write what was planned.
     pub writes: u64,
     /// All frames of the line, in the order of sending.
-    pub frames: Vec<Frame>,
+    pub frames: FrameLog,
     /// The last ten frames that the line did harm, where it is down.
     pub faulted: Vec<u64>,
     /// What the handheld's reader took, where a session began.
@@ -60,7 +60,7 @@ impl Report {
             replies: Vec::new(alloc),
             given: Vec::new(alloc),
             writes: 0,
-            frames: Vec::new(alloc),
+            frames: FrameLog::new(alloc),
             faulted: Vec::new(alloc),
             to_handheld: None,
             to_desktop: None,

@@ -11,7 +11,7 @@ ghost use Rattle.hotsync_run.specs.Traces.{TracesFrames, TracesText};
 use hotsync_looks::Status;
 use hs_folders::{Sink, SinkFault};
 use std::alloc::{AllocError, Global};
-use trace_text::{Frame, write_trace};
+use trace_text::{FrameLog, write_trace};
 
 /// Opens the trace where the words name one.
 pub fn open_trace<T: Sink>(trace: &mut T, path: Option<&str>) -> Result<(), Status>
@@ -57,18 +57,18 @@ pub fn write_frames<T: Sink>(
     alloc: Global,
     path: Option<&str>,
     status: Status,
-    frames: &[Frame],
+    frames: &FrameLog,
     trace: &mut T,
 ) -> Status
     requires { IsUnsaid status }
     ensures traces { TracesFrames (option_copied path.entry)
-        (trace_text (map frame_value frames.now))
+        (trace_text (map frame_value frames.now.items))
         (sink_told T.taken T.paths T.faults trace.old)
         (sink_told T.taken T.paths T.faults trace.new) status result }
     ensures untouched { path.entry ≡ None → trace.new ≡ trace.old }
-    ensures silent { frames.now ≡ [] → trace.new ≡ trace.old }
+    ensures silent { frames.now.items ≡ [] → trace.new ≡ trace.old }
 {
-    if path.is_none() || frames.is_empty() {
+    if path.is_none() || frames.len() == 0 {
         return status;
     }
     match write_trace(alloc, frames) {

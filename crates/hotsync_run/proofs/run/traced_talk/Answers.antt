@@ -1,4 +1,4 @@
-use Rattle.std.proofs.Common.{◌∙◌, ap, sym}
+use Rattle.std.proofs.Common.{ap}
 use Rattle.handheld_files.specs.Openings.{opened_device}
 use Rattle.run_words.specs.Views.{run_view}
 use Rattle.hotsync_run.specs.Told.{sides_told}
@@ -23,8 +23,8 @@ pub returns-clause-traced : goal.returns-clause-traced
 returns-clause-traced g c =
     let traces = c.write_frames-status.ensures.traces in
     record {
-      traced = rw (sym c.deref.ensures.value) traces.traced_is;
-      silent = λ none. ap (λ sink. g.T.Sink.taken sink) (c.write_frames-status.ensures.silent (c.deref.ensures.value ∙ none));
+      traced = traces.traced_is;
+      silent = λ none. ap (λ sink. g.T.Sink.taken sink) (c.write_frames-status.ensures.silent none);
       failed = traces.stands.failed;
       paths = traces.stands.paths;
     }
