@@ -14,9 +14,8 @@ use Rattle.conduit_rules.proofs.AgreedLaws.{RowsDiffer}
 use Rattle.conduit_rules.proofs.ByIdLaws.{each_below-zero, each_below-suc}
 use Rattle.conduit_rules.proofs.PlanLaws.{replaced_rise}
 use Rattle.record_merge.specs.Merging.{ShowsNoOther, new_under}
-use Rattle.record_merge.specs.Writes.{after, replaces}
 use Rattle.record_merge.proofs.AfterLaws.{after-replaces, apart-rising, unheld}
-use Rattle.record_merge.proofs.PutLaws.{appended, put_all, put_all-is, replaced}
+use Rattle.record_merge.proofs.PutLaws.{appended, put_all-is, replaced}
 use Rattle.database_merge.specs.Faults.{peak}
 
 appended-filter : (rs : List Record) (es : List (ℕ × ContentValue)) → length (appended rs es) ≡ length (filter (unheld rs) es)

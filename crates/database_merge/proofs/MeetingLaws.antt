@@ -15,15 +15,13 @@ use Rattle.record_merge.specs.Merging.{AreBounded, merged_archive, merged_base, 
 use Rattle.record_merge.proofs.PutLaws.{differ-ids}
 use Rattle.record_merge.proofs.ShownLaws.{slow-no_other}
 use Rattle.session_plan.specs.Archives.{archive_records, entries_of}
-use Rattle.session_plan.specs.Limits.{sizes_of}
 use Rattle.session_plan.specs.Merges.{archive_of, beside}
 use Rattle.session_plan.specs.Sizes.{is_over}
-use Rattle.session_plan.specs.declared.sizes.Sizes.{Sizes}
 use Rattle.database_merge.specs.Faults.{is_full, sizes_by}
 use Rattle.database_merge.specs.Merges.{left_by}
 use Rattle.database_merge.proofs.CountLaws.{peak-is}
 use Rattle.conduit_rules.specs.declared.action.Action.{Action}
-use Rattle.session_plan.specs.Choosing.{action_or_sync, agrees, base_rows, choice, is_fast, seen_held, sides as sides_met, sides_by, view}
+use Rattle.session_plan.specs.Choosing.{action_or_sync, agrees, base_rows, choice, is_fast, sides as sides_met, sides_by, view}
 use Rattle.session_plan.specs.Skips.{head_of, reason_by, skip_of as skip_of_task}
 use Rattle.session_plan.specs.Tasks.{Meeting, Task, records_of}
 use Rattle.database_merge.specs.Meetings.{LeavesAs, sides_of_task, sizes_alone, wishes_of_task}

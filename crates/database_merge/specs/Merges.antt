@@ -23,7 +23,8 @@ handheld_after ch handheld given before =
 -- the archive of a database: the old one, where it has no entry
 abbrev pub archive_after : Choice → Option DatabaseValue → DatabaseValue → Option DatabaseValue
 archive_after ch archive rows =
-    option_or (archive_of rows (archive_records (merged_archive ch (entries_of (records_of archive)))))
+    option_or
+    (archive_of rows (archive_records (merged_archive ch (entries_of (records_of archive)))))
     archive
 
 -- The handheld's database and the desktop's rows before, each a new one where its side lacks it,

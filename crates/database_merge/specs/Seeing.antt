@@ -49,4 +49,5 @@ skip_of both action =
 abbrev pub writes : Plan → List ℕ → List Write
 writes plan given =
     replaces plan.replace.items
-    ++ (adding (numbered given plan.adds.items) ++ (purges plan.purge.items ++ clean_up ∷ reset ∷ []))
+    ++ (adding (numbered given plan.adds.items)
+    ++ (purges plan.purge.items ++ clean_up ∷ reset ∷ []))

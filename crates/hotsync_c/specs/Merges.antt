@@ -141,7 +141,8 @@ skip_number skip.Missing = 4
 skip_number skip.Nothing = 5
 skip_number skip.Blocks = 6
 
--- the number that C gets: -1 for want of memory, -2, -4 for a limit, and -5 - N where a session skips it
+-- the number that C gets: -1 for want of memory, -2, -4 for a limit, and -5 - N where a session
+-- skips it
 abbrev pub fault_answer : MergeFault → ℤ
 fault_answer (Skipped skip) = negsuc (4 + skip_number skip)
 fault_answer Full = negsuc 3
