@@ -71,7 +71,8 @@ module _ {X : End} {wire : Wire} {n : ℕ} {frame : Frame} where
   delivers_now comes here not_late = deliver comes here (λ late. absurd (not_late (late_is (fate_value frame.fate) late)))
 
 pub held_back : {X : End} (wire : Wire) {n : ℕ} {frame : Frame} → AllGo 1 wire.frames.items → ComesNext X wire.frames.items n
-    → slice_get wire.frames.items n ≡ Some frame → fate_value frame.fate ≡ fates.Late → wire.released ≤ n → Blocked X (past_now wire.frames.items) n wire.released
+    → slice_get wire.frames.items n ≡ Some frame → fate_value frame.fate ≡ fates.Late → wire.released ≤ n
+    → Blocked X (past_now wire.frames.items) n wire.released
 held_back {X} wire {n} {frame} go comes here late above =
     let parts = and_parts (is_end X frame.from) _ (comes.is frame here) in
     inr (record {

@@ -87,7 +87,8 @@ fn send_again(wire: &mut Wire, half: &mut Half, fate: &Fate) -> Result<(), Halt>
         (λ halt. NotAgain halt (fate_value fate.now) half.old wire.old wire.new) }
     ensures stays { Stays half.old half.new }
     ensures reader { half.new.reader ≡ half.old.reader }
-    ensures again { OnOk result (SendsAgain wire.old half.old (fate_value fate.now) wire.new half.new) }
+    ensures again { OnOk result
+        (SendsAgain wire.old half.old (fate_value fate.now) wire.new half.new) }
     ensures room { WantsRoom result wire.old.frames wire.new.frames }
 {
     if half.sender.on_timer().is_err() {

@@ -146,11 +146,12 @@ faults-one : {frames : List Frame} {n : ℕ} {value : FrameValue} → IsFrameAt 
     → faults_in (map frame_value (drop n frames))
     ≡ (if is_fault value.fate then value.number ∷ faults_in (map frame_value (drop (n + 1) frames)) else faults_in (map frame_value (drop (n + 1) frames)))
 faults-one {frames} {n} it =
+    let later = faults_in (map frame_value (drop (n + 1) frames)) in
     let front : drop n frames ≡ it.frame ∷ drop (n + 1) frames = drop-cons frames n it.frame (slice_get_within frames n it.frame it.here)
     ∙ (ap (λ f. f ∷ drop (suc n) frames) (get_or_from_slice_get frames n it.frame it.frame it.here)
     ∙ ap (λ k. it.frame ∷ drop k frames) (sym (add-one n))) in
     ap (λ fs. faults_in (map frame_value fs)) front
-    ∙ ap (λ v. if is_fault v.fate then v.number ∷ faults_in (map frame_value (drop (n + 1) frames)) else faults_in (map frame_value (drop (n + 1) frames))) (sym it.is)
+    ∙ ap (λ v. if is_fault v.fate then v.number ∷ later else later) (sym it.is)
 
 back_one : {n : ℕ} → 0 < n → n - 1 + 1 ≡ n
 back_one some = omega (arith, some)

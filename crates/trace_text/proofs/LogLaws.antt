@@ -1,16 +1,43 @@
 -- The frames that entries are: one more, and one that is marked.
 use Rattle.std.proofs.Common.{◌≡◌, ℕ, zero, suc, ◌+◌, ◌-◌, ◌≤◌, false, true, List, [], ◌∷◌, ◌++◌, length, drop, refl, sym, ap, subst, ◌∙◌, arith, add-zero}
-use Rattle.std.proofs.lemmas.List.{append_assoc, drop-append-le, length-append, length-drop, take-append-le}
+use Rattle.std.proofs.lemmas.List.{append_assoc, drop-append-le, length-append, length-drop, length-take, take-append-le}
 use Rattle.std.proofs.Math.Seq.{drop-append_seam, take-length}
 use Rattle.std.specs.Prelude.{Some, slice_get, slice_range, slice_set}
 use Rattle.trace_text.specs.declared.fate.FateKind.{FateKind}
 use Rattle.trace_text.specs.declared.fate.FateKind.TheVariants as kind
 use Rattle.trace_text.specs.declared.frame.Frame.{Frame}
 use Rattle.trace_text.specs.declared.frame_log.Entry.{Entry}
-use Rattle.trace_text.specs.Fates.{fate_value}
+use Rattle.trace_text.specs.Fates.{fate_bytes, fate_value}
 use Rattle.trace_text.specs.FrameEntries.{AllWithin, IsWithin, fate_at, frame_at, frames_in}
-use Rattle.trace_text.specs.FrameLogs.{Adds, marked}
+use Rattle.trace_text.specs.FrameLogs.{Adds, byte_count, frame_size, marked}
+use Rattle.trace_text.specs.Kinds.{kind_bytes, kind_count}
+use Rattle.trace_text.specs.TraceLines.{frame_value}
 use Rattle.trace_text.specs.Lent.{fate_with}
+
+length_none : (xs : List ℕ) → length xs ≡ 0 → xs ≡ []
+length_none [] none = refl
+length_none (x ∷ xs) none = absurd (omega arith)
+
+kind-count : (kind : FateKind) (bytes : List ℕ) → bytes ≡ kind_bytes kind bytes → kind_count kind (length bytes) ≡ length bytes
+kind-count kind.Ok bytes none = sym (ap length none)
+kind-count kind.Lost bytes none = sym (ap length none)
+kind-count kind.Late bytes none = sym (ap length none)
+kind-count (kind.Cut count) bytes none = sym (ap length none)
+kind-count (kind.Hit place) bytes none = refl
+kind-count kind.Noise bytes none = refl
+kind-count kind.Unplug bytes none = sym (ap length none)
+kind-count kind.Abort bytes none = sym (ap length none)
+
+-- a fate without bytes
+pub kind_none : (kind : FateKind) → [] ≡ kind_bytes kind []
+kind_none kind.Ok = refl
+kind_none kind.Lost = refl
+kind_none kind.Late = refl
+kind_none (kind.Cut count) = refl
+kind_none (kind.Hit place) = refl
+kind_none kind.Noise = refl
+kind_none kind.Unplug = refl
+kind_none kind.Abort = refl
 
 pub fate-at : (kind : FateKind) (bytes : List ℕ) → fate_value (fate_at kind bytes) ≡ fate_with kind bytes
 fate-at kind.Ok bytes = refl
@@ -46,14 +73,14 @@ slice-more bytes more a b rise inside =
     let rest : b - a ≤ length (drop a bytes) = omega (arith, length-drop a bytes) in
     rw drop-append-le (rw take-append-le refl)
 
-pub frames_in-more : (bytes more : List ℕ) (number : ℕ) (entries : List Entry) → AllWithin (length bytes) entries
+pub frames_in-more : (bytes more : List ℕ) (number from : ℕ) (entries : List Entry) → AllWithin from entries (length bytes)
     → frames_in (bytes ++ more) number entries ≡ frames_in bytes number entries
-frames_in-more bytes more number [] within = refl
-frames_in-more bytes more number (entry ∷ later) within =
-    let it = within.0 in
+frames_in-more bytes more number from [] within = refl
+frames_in-more bytes more number from (entry ∷ later) within =
+    let it = within.1 in
     let fate = slice-more bytes more entry.start entry.middle it.rise (omega (arith, it.rise_on, it.inside)) in
     let own = slice-more bytes more entry.middle entry.end it.rise_on it.inside in
-    rw (fate, own, frames_in-more bytes more (number + 1) later within.1) refl
+    rw (fate, own, frames_in-more bytes more (number + 1) entry.end later within.2) refl
 
 -- one more
 pub frames_in-push : (bytes : List ℕ) (number : ℕ) (entries : List Entry) (entry : Entry)
@@ -64,25 +91,61 @@ frames_in-push bytes number (first ∷ later) entry =
     ap (λ (fs : List Frame). frame_at bytes number first ∷ fs) (frames_in-push bytes (number + 1) later entry
     ∙ ap (λ m. frames_in bytes (number + 1) later ++ frame_at bytes m entry ∷ []) same)
 
-within-more : (count more : ℕ) (entries : List Entry) → count ≤ more → AllWithin count entries → AllWithin more entries
-within-more count more [] fits within = tt
-within-more count more (entry ∷ later) fits within =
-    let it = within.0 in (
-      record { rise = it.rise; rise_on = it.rise_on; inside = omega (arith, fits, it.inside); fate_short = it.fate_short; short = it.short },
-      within-more count more later fits within.1,
-    )
+is_within-more : {count more : ℕ} {entry : Entry} → count ≤ more → IsWithin count entry → IsWithin more entry
+is_within-more fits it =
+    record { rise = it.rise; rise_on = it.rise_on; inside = omega (arith, fits, it.inside); fate_short = it.fate_short; short = it.short; fits = it.fits }
 
-pub within-push : (count more : ℕ) (entries : List Entry) (entry : Entry) → count ≤ more → AllWithin count entries → IsWithin more entry
-    → AllWithin more (entries ++ entry ∷ [])
-within-push count more [] entry fits within one = (one, tt)
-within-push count more (first ∷ later) entry fits within one =
-    ((within-more count more (first ∷ []) fits (within.0, tt)).0, within-push count more later entry fits within.1 one)
+pub within-push : (from count : ℕ) (entries : List Entry) (entry : Entry) → AllWithin from entries count → entry.start ≡ count → IsWithin entry.end entry
+    → count ≤ entry.end → AllWithin from (entries ++ entry ∷ []) entry.end
+within-push from count [] entry within start one fits = (start ∙ sym within, one, refl)
+within-push from count (first ∷ later) entry within start one fits =
+    (within.0, is_within-more fits within.1, within-push first.end count later entry within.2 start one fits)
 
-pub within_at : (count : ℕ) (entries : List Entry) (n : ℕ) {entry : Entry} → AllWithin count entries → slice_get entries n ≡ Some entry
+pub within_at : (from count : ℕ) (entries : List Entry) (n : ℕ) {entry : Entry} → AllWithin from entries count → slice_get entries n ≡ Some entry
     → IsWithin count entry
-within_at count [] n within here = absurd cc
-within_at count (first ∷ later) zero {entry} within here = (let same : first ≡ entry = cc in subst (IsWithin count) same within.0)
-within_at count (first ∷ later) (suc n) within here = within_at count later n within.1 here
+within_at from count [] n within here = absurd cc
+within_at from count (first ∷ later) zero {entry} within here = (let same : first ≡ entry = cc in subst (IsWithin count) same within.1)
+within_at from count (first ∷ later) (suc n) within here = within_at first.end count later n within.2 here
+
+-- how many bytes the frames have
+fate-count : (kind : FateKind) (bytes : List ℕ) → length (fate_bytes (fate_value (fate_at kind bytes))) ≡ kind_count kind (length bytes)
+fate-count kind.Ok bytes = refl
+fate-count kind.Lost bytes = refl
+fate-count kind.Late bytes = refl
+fate-count (kind.Cut count) bytes = refl
+fate-count (kind.Hit place) bytes = refl
+fate-count kind.Noise bytes = refl
+fate-count kind.Unplug bytes = refl
+fate-count kind.Abort bytes = refl
+
+length-slice_range : (bytes : List ℕ) (a b : ℕ) → b ≤ length bytes → length (slice_range bytes a b) ≡ b - a
+length-slice_range bytes a b inside = omega (arith, length-take (b - a) (drop a bytes), length-drop a bytes, inside)
+
+size-in : (bytes : List ℕ) (number : ℕ) (entry : Entry) → IsWithin (length bytes) entry
+    → frame_size (frame_value (frame_at bytes number entry)) + entry.start ≡ entry.end
+size-in bytes number entry it =
+    let fate : length (slice_range bytes entry.start entry.middle) ≡ entry.middle - entry.start =
+    length-slice_range bytes entry.start entry.middle (omega (arith, it.rise_on, it.inside)) in
+    let first : length (fate_bytes (fate_value (fate_at entry.kind (slice_range bytes entry.start entry.middle)))) ≡ entry.middle - entry.start =
+    fate-count entry.kind (slice_range bytes entry.start entry.middle) ∙ (ap (kind_count entry.kind) fate ∙ it.fits) in
+    omega (arith, first, length-slice_range bytes entry.middle entry.end it.inside, it.rise, it.rise_on)
+
+pub count-in : (bytes : List ℕ) (number from : ℕ) (entries : List Entry) → AllWithin from entries (length bytes)
+    → byte_count (frames_in bytes number entries) + from ≡ length bytes
+count-in bytes number from [] within = omega (arith, within)
+count-in bytes number from (entry ∷ later) within =
+    omega (arith, size-in bytes number entry within.1, count-in bytes (number + 1) entry.end later within.2, within.0)
+
+-- a slice where a kind has none is none
+pub kind_slice : (kind : FateKind) (bytes : List ℕ) → kind_count kind (length bytes) ≡ length bytes → bytes ≡ kind_bytes kind bytes
+kind_slice kind.Ok bytes none = length_none bytes (sym none)
+kind_slice kind.Lost bytes none = length_none bytes (sym none)
+kind_slice kind.Late bytes none = length_none bytes (sym none)
+kind_slice (kind.Cut count) bytes none = length_none bytes (sym none)
+kind_slice (kind.Hit place) bytes none = refl
+kind_slice kind.Noise bytes none = refl
+kind_slice kind.Unplug bytes none = length_none bytes (sym none)
+kind_slice kind.Abort bytes none = length_none bytes (sym none)
 
 -- one that is marked
 pub frames_in-marked : (bytes : List ℕ) (number : ℕ) (entries : List Entry) (n : ℕ) {entry : Entry} → slice_get entries n ≡ Some entry
@@ -94,16 +157,17 @@ frames_in-marked bytes number (first ∷ later) zero {entry} here =
 frames_in-marked bytes number (first ∷ later) (suc n) here =
     ap (λ (fs : List Frame). frame_at bytes number first ∷ fs) (frames_in-marked bytes (number + 1) later n here)
 
-pub within_marked : (count : ℕ) (entries : List Entry) (n : ℕ) {entry : Entry} → slice_get entries n ≡ Some entry → AllWithin count entries
-    → AllWithin count (slice_set entries n (record entry { came = true }))
-within_marked count [] n here within = absurd cc
-within_marked count (first ∷ later) zero {entry} here within =
+pub within_marked : (from count : ℕ) (entries : List Entry) (n : ℕ) {entry : Entry} → slice_get entries n ≡ Some entry → AllWithin from entries count
+    → AllWithin from (slice_set entries n (record entry { came = true })) count
+within_marked from count [] n here within = absurd cc
+within_marked from count (first ∷ later) zero {entry} here within =
     let same : first ≡ entry = cc in
-    let it = subst (IsWithin count) same within.0 in (
-      record { rise = it.rise; rise_on = it.rise_on; inside = it.inside; fate_short = it.fate_short; short = it.short },
-      within.1,
+    let it = subst (IsWithin count) same within.1 in (
+      ap (λ (e : Entry). e.start) (sym same) ∙ within.0,
+      record { rise = it.rise; rise_on = it.rise_on; inside = it.inside; fate_short = it.fate_short; short = it.short; fits = it.fits },
+      subst (λ (e : Entry). AllWithin e.end later count) same within.2,
     )
-within_marked count (first ∷ later) (suc n) here within = (within.0, within_marked count later n here within.1)
+within_marked from count (first ∷ later) (suc n) here within = (within.0, within.1, within_marked first.end count later n here within.2)
 
 -- one more frame whose bytes stand behind the others
 slice-seam : {X : Type 0} (xs ys zs : List X) (a b : ℕ) → a ≡ length xs → b ≡ length xs + length ys → slice_range (xs ++ ys ++ zs) a b ≡ ys
@@ -120,12 +184,12 @@ pub record Behind (bytes fate own : List ℕ) (entry : Entry) : Type 0 where
   pub came_is : entry.came ≡ false
 
 module _ {bytes fate own : List ℕ} {entry : Entry} where
-  pub log-adds : (entries : List Entry) → Behind bytes fate own entry → AllWithin (length bytes) entries
+  pub log-adds : (entries : List Entry) → Behind bytes fate own entry → AllWithin 0 entries (length bytes)
       → Adds entry.from (fate_with entry.kind fate) own (frames_in bytes 1 entries) (frames_in (bytes ++ fate ++ own) 1 (entries ++ entry ∷ []))
   log-adds entries it within =
       let all = bytes ++ fate ++ own in
       let older : frames_in all 1 entries ≡ frames_in bytes 1 entries =
-      ap (λ b. frames_in b 1 entries) (append_assoc bytes fate own) ∙ frames_in-more bytes (fate ++ own) 1 entries within in
+      ap (λ b. frames_in b 1 entries) (append_assoc bytes fate own) ∙ frames_in-more bytes (fate ++ own) 1 0 entries within in
       let first : slice_range all entry.start entry.middle ≡ fate = slice-seam bytes fate own entry.start entry.middle it.start_is it.middle_is in
       let last : slice_range all entry.middle entry.end ≡ own = slice_last all (bytes ++ fate) own _ _ refl
       (it.middle_is ∙ sym (length-append bytes fate)) (it.end_is ∙ ap (λ n. n + length own) (sym (length-append bytes fate))) in
@@ -145,13 +209,16 @@ module _ {bytes fate own : List ℕ} {entry : Entry} where
           let count : b - a ≡ length ys = omega arith in
           rw (is, count, from, drop-append_seam) (take-length ys)
 
-  pub log-within : (entries : List Entry) (count : ℕ) → Behind bytes fate own entry → AllWithin (length bytes) entries → length fate ≤ 1040 → length own ≤ 1040
-      → count ≡ length bytes + length fate + length own → AllWithin count (entries ++ entry ∷ [])
-  log-within entries count it within fate_short short is =
-      within-push (length bytes) count entries entry (omega arith) within (record {
+  pub log-within : (entries : List Entry) (count : ℕ) → Behind bytes fate own entry → AllWithin 0 entries (length bytes)
+      → length fate ≤ 1040 → fate ≡ kind_bytes entry.kind fate → length own ≤ 1040 → count ≡ length bytes + length fate + length own
+      → AllWithin 0 (entries ++ entry ∷ []) count
+  log-within entries count it within fate_short fits short is =
+      let span : entry.middle - entry.start ≡ length fate = omega (arith, it.start_is, it.middle_is) in
+      subst (AllWithin 0 (entries ++ entry ∷ [])) (it.end_is ∙ sym is) (within-push 0 (length bytes) entries entry within it.start_is (record {
         rise = omega (arith, it.start_is, it.middle_is);
         rise_on = omega (arith, it.end_is, it.middle_is);
-        inside = omega (arith, it.end_is);
+        inside = omega arith;
         fate_short = omega (arith, it.start_is, it.middle_is);
         short = omega (arith, it.end_is, it.middle_is);
-      })
+        fits = ap (kind_count entry.kind) span ∙ (kind-count entry.kind fate fits ∙ sym span);
+      }) (omega (arith, it.end_is)))

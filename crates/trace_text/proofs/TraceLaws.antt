@@ -1,5 +1,5 @@
 -- The text of one frame more.
-use Rattle.std.proofs.Common.{◌≡◌, ℕ, zero, suc, ◌+◌, ◌<◌, List, [], ◌∷◌, ◌++◌, length, take, map, refl, sym, ap, ◌∙◌, arith, add-one}
+use Rattle.std.proofs.Common.{◌≡◌, ℕ, zero, suc, ◌+◌, List, [], ◌∷◌, ◌++◌, take, map, sym, ap, ◌∙◌, add-one}
 use Rattle.std.proofs.lemmas.List.{append_assoc, append-nil}
 use Rattle.std.specs.Prelude.{Some, slice_get}
 use Rattle.trace_text.specs.declared.frame.Frame.{Frame}
@@ -20,5 +20,6 @@ trace-more (frame ∷ later) zero it =
     first same = cc
 trace-more (frame ∷ later) (suc n) {next} it =
     rw add-one
-    (ap (λ t. frame_line (frame_value frame) ++ t) ((rw (add-one) at (trace-more later n {next = next} (record { frame = it.frame; here = it.here; is = it.is }))))
+    (ap (λ t. frame_line (frame_value frame) ++ t)
+    (rw (add-one) at (trace-more later n {next = next} (record { frame = it.frame; here = it.here; is = it.is })))
     ∙ sym (append_assoc (frame_line (frame_value frame)) (trace_text (map frame_value (take n later))) (frame_line next)))

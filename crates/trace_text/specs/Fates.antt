@@ -29,6 +29,12 @@ fate_value (fate.Noise bytes) = Noise bytes.items
 fate_value fate.Unplug = Unplug
 fate_value fate.Abort = Abort
 
+-- the bytes that a hit xors over the frame's, or the noise
+abbrev pub fate_bytes : FateValue → List ℕ
+fate_bytes (Hit place bytes) = bytes
+fate_bytes (Noise bytes) = bytes
+fate_bytes _ = []
+
 -- the words of a fate, in a script and in a trace; `ok` stands in a trace alone
 abbrev pub fate_words : FateValue → List ℕ
 fate_words Untouched = codes "ok"

@@ -1,11 +1,12 @@
 -- The frames that entries are over the bytes of all of them.
-use Rattle.std.specs.Prelude.{ℕ, ◌+◌, ◌≤◌, ⊤, List, [], ◌∷◌, slice_range}
+use Rattle.std.specs.Prelude.{◌≡◌, ℕ, ◌+◌, ◌-◌, ◌≤◌, List, [], ◌∷◌, slice_range}
 use Rattle.trace_text.specs.declared.fate.Fate.{Fate}
 use Rattle.trace_text.specs.declared.fate.Fate.TheVariants as fate
 use Rattle.trace_text.specs.declared.fate.FateKind.{FateKind}
 use Rattle.trace_text.specs.declared.fate.FateKind.TheVariants as kind
 use Rattle.trace_text.specs.declared.frame.Frame.{Frame}
 use Rattle.trace_text.specs.declared.frame_log.Entry.{Entry}
+use Rattle.trace_text.specs.Kinds.{kind_count}
 
 abbrev pub fate_at : FateKind → List ℕ → Fate
 fate_at kind.Ok bytes = fate.Ok
@@ -34,14 +35,17 @@ frames_in bytes number (entry ∷ later) =
     frame_at bytes number entry ∷ frames_in bytes (number + 1) later
 
 -- an entry's places rise, no further than so many bytes, and are no further apart than a packet is
--- long
+-- long; a fate without bytes takes none
 pub record IsWithin (count : ℕ) (entry : Entry) : Type 0 where
   pub rise : entry.start ≤ entry.middle
   pub rise_on : entry.middle ≤ entry.end
   pub inside : entry.end ≤ count
   pub fate_short : entry.middle ≤ entry.start + 1040
   pub short : entry.end ≤ entry.middle + 1040
+  pub fits : kind_count entry.kind (entry.middle - entry.start) ≡ entry.middle - entry.start
 
-abbrev pub AllWithin : ℕ → List Entry → Type 0
-AllWithin count [] = ⊤
-AllWithin count (entry ∷ later) = IsWithin count entry × AllWithin count later
+-- the entries stand one behind the other, from the one place to the other
+abbrev pub AllWithin : ℕ → List Entry → ℕ → Type 0
+AllWithin from [] to = from ≡ to
+AllWithin from (entry ∷ later) to =
+    (entry.start ≡ from) × IsWithin to entry × AllWithin entry.end later to

@@ -2,16 +2,22 @@
 use Rattle.std.specs.Prelude.{◌≡◌, ℕ, zero, suc, ◌+◌, ◌≤◌, false, true, List, [], ◌∷◌, ◌++◌, length, slice_get, Some}
 use Rattle.trace_text.specs.declared.frame.End.{End}
 use Rattle.trace_text.specs.declared.frame.Frame.{Frame}
-use Rattle.trace_text.specs.Fates.{FateValue, fate_value}
+use Rattle.trace_text.specs.Fates.{FateValue, fate_bytes, fate_value}
 use Rattle.trace_text.specs.TraceLines.{FrameValue, frame_value}
 
--- the frames, for how many there is room, how many bytes theirs are with those of their fates, and
--- for how many there is room
+-- the frames, for how many there is room, and for how many bytes
 pub record FrameLogValue : Type 0 where
   pub items : List Frame
   pub room : ℕ
-  pub used : ℕ
   pub byte_room : ℕ
+
+-- how many bytes a frame has, with those of its fate
+abbrev pub frame_size : FrameValue → ℕ
+frame_size frame = length (fate_bytes frame.fate) + length frame.bytes
+
+abbrev pub byte_count : List Frame → ℕ
+byte_count [] = 0
+byte_count (frame ∷ later) = frame_size (frame_value frame) + byte_count later
 
 -- one frame more, with the next number, of this end, with this fate and these bytes, that didn't
 -- come yet

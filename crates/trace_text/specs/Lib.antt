@@ -3,6 +3,7 @@ pub mod Faults
 pub mod FrameEntries
 pub mod FrameLogs
 pub mod Frames
+pub mod Kinds
 pub mod Lent
 pub mod PacketLines
 pub mod PacketLists

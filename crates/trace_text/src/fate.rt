@@ -1,5 +1,6 @@
 //! What a line does with a frame.
 ghost use Rattle.std.specs.Prelude.{◌≡◌, ◌≤◌, [], length};
+ghost use Rattle.trace_text.specs.Kinds.{kind_bytes};
 
 use arrayvec::ArrayVec;
 
@@ -43,6 +44,7 @@ pub struct FateLent<'a> {
     pub kind: FateKind,
     pub bytes: &'a [u8],
     ghost short: { length bytes.now ≤ 1040 },
+    ghost fits: { bytes.now ≡ kind_bytes kind bytes.now },
 }
 
 impl Fate {

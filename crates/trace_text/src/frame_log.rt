@@ -1,7 +1,7 @@
 //! The frames of a line, in little memory.
 ghost use Rattle.std.specs.Prelude.{◌≡◌, ◌⊎◌, ◌+◌, ◌^◌, ◌≤◌, ◌<◌, ◌++◌, [], OnErr, OnOk, length, vec_capacity, vec_len};
 ghost use Rattle.trace_text.specs.FrameEntries.{IsWithin, frame_at};
-ghost use Rattle.trace_text.specs.FrameLogs.{Adds, IsFrameAt, KeepsRoom, marked};
+ghost use Rattle.trace_text.specs.FrameLogs.{Adds, IsFrameAt, byte_count, KeepsRoom, marked};
 ghost use Rattle.trace_text.specs.Lent.{lent_fate, lent_frame};
 ghost use Rattle.trace_text.specs.TraceLines.{frame_value};
 
@@ -39,11 +39,10 @@ impl Model for FrameLog {
     ghost view = { λ log. record {
       items = frames_in log.bytes.items 1 log.entries.items;
       room = vec_capacity log.entries;
-      used = vec_len log.bytes;
       byte_room = vec_capacity log.bytes;
     } };
 
-    ghost invariant = { λ log. AllWithin (vec_len log.bytes) log.entries.items };
+    ghost invariant = { λ log. AllWithin 0 log.entries.items (vec_len log.bytes) };
 }
 
 impl FrameLog {
@@ -80,10 +79,9 @@ impl FrameLog {
         ensures ok { OnOk result
             (Adds from (lent_fate fate.entry) bytes.now self.old.items self.new.items) }
         ensures err { OnErr result (self.new.items ≡ self.old.items) }
-        ensures used { OnErr result (self.new.used ≡ self.old.used) }
         ensures room { KeepsRoom self.old self.new }
         ensures full { OnErr result ((self.old.room ≤ length self.old.items)
-            ⊎ (self.old.byte_room < self.old.used + 2080)) }
+            ⊎ (self.old.byte_room < byte_count self.old.items + 2080)) }
     {
         self.entries.reserve(1)?;
         self.bytes.reserve(fate.bytes.len() + bytes.len())?;

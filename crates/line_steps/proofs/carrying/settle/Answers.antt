@@ -53,7 +53,8 @@ returns-in_err-step-clause-counted c = λ was. c.step.ensures.counted (c.loop-wi
 pub returns-in_err-step-clause-room : goal.returns-in_err-step-clause-room
 returns-in_err-step-clause-room c =
     let p = err_from_is_err_and c.from_residual.result c.from_residual.ensures.1 in
-    rw (p.1, p.2) (room_behind {A = Bool} (Err c.in_err-step.field-0.0) c.args.wire.now.frames c.loop-wire.wire.frames c.step.new.wire.frames c.loop-wire.invariant.7 c.in_err-step.ensures.room)
+    rw (p.1, p.2) (room_behind {A = Bool} (Err c.in_err-step.field-0.0)
+    c.args.wire.now.frames c.loop-wire.wire.frames c.step.new.wire.frames c.loop-wire.invariant.7 c.in_err-step.ensures.room)
 
 pub returns-then-is_none-clause-room : goal.returns-then-is_none-clause-room
 returns-then-is_none-clause-room c = (c.loop-wire.invariant.7, tt)

@@ -115,7 +115,8 @@ returns-clause-halted c =
     err_weaker c.send_piece.result
     (λ halt it. subst (λ s. Halted halt wire x y new (moved x) (record y { sender = s })) (sym next)
     (halted_ack (fate_value c.args.fate.now) c.requires.holds c.requires.next (c.on_ack.ensures.taken.0 c.if-not-on_ack.false) more
-    (subst (λ s. Halts wire.frames.items y.end s.id (part_now (side_of (record y { sender = s }))) (fate_value c.args.fate.now) halt new.frames.items) next it)))
+    (subst (λ s. Halts wire.frames.items y.end s.id (part_now (side_of (record y { sender = s }))) (fate_value c.args.fate.now) halt
+    new.frames.items) next it)))
     c.send_piece.ensures.halt
 
 pub returns-clause-up : goal.returns-clause-up

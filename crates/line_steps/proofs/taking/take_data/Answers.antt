@@ -56,7 +56,8 @@ returns-clause-turn c =
           (turned_after new taken (fate_value c.args.fate.now) y.sender c.requires (same_sender y.sender w.in-Repeated.is)
           (subst (λ h. Sends wire.frames.items h.end key.id (ack_fragment key) (fate_value c.args.fate.now) None new.frames.items) w.y-is sends)
           c.send_ack.ensures.released)) c.send_ack.ensures.ok
-      | in-Accepted w ↦ on_ok_weaker c.send_ack.result (λ sends. rw w.y-is (turned_after new taken (fate_value c.args.fate.now) w.stop_waiting.new.sender c.requires
+      | in-Accepted w ↦ on_ok_weaker c.send_ack.result (λ sends. rw w.y-is
+          (turned_after new taken (fate_value c.args.fate.now) w.stop_waiting.new.sender c.requires
           (idle_sender y.sender w.in-Accepted.is w.stop_waiting.ensures.rest w.stop_waiting.ensures.idle)
           (subst (λ h. Sends wire.frames.items h.end key.id (ack_fragment key) (fate_value c.args.fate.now) None new.frames.items) w.y-is sends)
           c.send_ack.ensures.released)) c.send_ack.ensures.ok

@@ -39,7 +39,11 @@ pub take_data-requires : goal.take_data-requires
 take_data-requires c =
     let n = c.args.x.now.taken in
     let it = c.get.ensures in
-    heard_data c.requires.holds c.requires.next it.here (hears_lent c.args.y.now.receiver (heard_as.Data c.in-Data.key c.in-Data.taken) c.hear_frame-heard.new.half.receiver it c.in-Data.ensures.hears) c.in-Data.ensures.heeded c.in-Data.ensures.gap
+    let key = c.in-Data.key in
+    let taken = c.in-Data.taken in
+    heard_data c.requires.holds c.requires.next it.here
+    (hears_lent c.args.y.now.receiver (heard_as.Data key taken) c.hear_frame-heard.new.half.receiver it c.in-Data.ensures.hears)
+    c.in-Data.ensures.heeded c.in-Data.ensures.gap
 
 -- src/taking.rt:21:1
 pub returns-in-Nothing-clause-holds : goal.returns-in-Nothing-clause-holds

@@ -1,4 +1,4 @@
-use Rattle.std.proofs.Common.{◌<◌, ◌++◌, ◌∙◌, ap, sym, length, take, map, arith}
+use Rattle.std.proofs.Common.{◌++◌, ◌∙◌, ap, sym, take, map}
 use Rattle.std.proofs.lemmas.Slice.{pushed}
 use Rattle.trace_text.specs.TraceLines.{frame_value, trace_text}
 use Rattle.trace_text.proofs.TraceLaws.{trace-more}

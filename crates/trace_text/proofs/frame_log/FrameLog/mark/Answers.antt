@@ -12,20 +12,31 @@ index_mut-requires c =
 pub invariant_of-self : goal.invariant_of-self
 invariant_of-self c =
     let entries = c.self.inside.entries in
-    let inside : c.args.place < length entries.items = omega (arith, length-frames_in c.self.inside.bytes.items 1 entries.items, ap (λ v. length v.items) c.self.view_is, c.requires) in
+    let inside : c.args.place < length entries.items =
+    omega (
+      arith,
+      length-frames_in c.self.inside.bytes.items 1 entries.items,
+      ap (λ v. length v.items) c.self.view_is,
+      c.requires,
+    ) in
     let here = slice_get_read entries.items _ c.args.place c.index_mut.result.now refl inside c.index_mut.ensures.value in
-    within_marked _ entries.items c.args.place here c.self.invariant
+    within_marked 0 _ entries.items c.args.place here c.self.invariant
 
 pub returns : goal.returns
 returns c =
     let entries = c.self.inside.entries in
     let bytes = c.self.inside.bytes.items in
-    let inside : c.args.place < length entries.items = omega (arith, length-frames_in bytes 1 entries.items, ap (λ v. length v.items) c.self.view_is, c.requires) in
+    let inside : c.args.place < length entries.items =
+    omega (
+      arith,
+      length-frames_in bytes 1 entries.items,
+      ap (λ v. length v.items) c.self.view_is,
+      c.requires,
+    ) in
     let here = slice_get_read entries.items _ c.args.place c.index_mut.result.now refl inside c.index_mut.ensures.value in
     let view = c.self.view_is in
     λ i. record {
       items = (frames_in-marked bytes 1 entries.items c.args.place here ∙ ap (λ v. marked c.args.place v.items) view) i;
       room = (view i).room;
-      used = (view i).used;
       byte_room = (view i).byte_room;
     }

@@ -1,11 +1,11 @@
-use Rattle.std.proofs.Common.{◌≡◌, ◌++◌, ◌∷◌, [], ◌∙◌, ap, subst, length, List, false, true, refl, arith, inl}
+use Rattle.std.proofs.Common.{◌≡◌, ◌++◌, ◌∷◌, [], ◌∙◌, ap, sym, subst, length, List, false, true, refl, arith, inl, inr}
 use Rattle.std.proofs.lemmas.Result.{err_from_is_err_and}
 use Rattle.std.specs.Prelude.{is_ok}
 use Rattle.trace_text.specs.declared.frame_log.Entry.{Entry}
 use Rattle.trace_text.specs.FrameEntries.{AllWithin, frames_in}
-use Rattle.trace_text.specs.FrameLogs.{Adds}
+use Rattle.trace_text.specs.FrameLogs.{Adds, byte_count}
 use Rattle.trace_text.specs.Lent.{lent_fate}
-use Rattle.trace_text.proofs.LogLaws.{Behind, length-frames_in, log-adds, log-within}
+use Rattle.trace_text.proofs.LogLaws.{Behind, count-in, length-frames_in, log-adds, log-within}
 use Rattle.trace_text.proofs.frame_log.FrameLog.push.Goals as goal
 
 pub returns-in_err-reserve-clause-full : goal.returns-in_err-reserve-clause-full
@@ -43,8 +43,8 @@ invariant_of-self-2 c =
       end_is = omega (arith, c.len-end.ensures, c.append-2.ensures.len, c.append.ensures.len, c.in_ok-reserve-2.ensures.len, bytes.ok.0);
       came_is = refl;
     } in
-    let within : AllWithin (length bytes.items) entries.items = subst (λ n. AllWithin n entries.items) bytes.ok.0 c.self.invariant in
-    rw later (log-within entries.items c.append-2.new.bytes.len behind within c.args.fate.short c.requires
+    let within : AllWithin 0 entries.items (length bytes.items) = subst (AllWithin 0 entries.items) bytes.ok.0 c.self.invariant in
+    rw later (log-within entries.items c.append-2.new.bytes.len behind within c.args.fate.short c.args.fate.fits c.requires
     (omega (arith, c.append-2.ensures.len, c.append.ensures.len, c.in_ok-reserve-2.ensures.len, bytes.ok.0)))
 
 pub returns-clause-ok : goal.returns-clause-ok
@@ -68,9 +68,20 @@ returns-clause-ok c =
       end_is = omega (arith, c.len-end.ensures, c.append-2.ensures.len, c.append.ensures.len, c.in_ok-reserve-2.ensures.len, bytes.ok.0);
       came_is = refl;
     } in
-    let within : AllWithin (length bytes.items) entries.items = subst (λ n. AllWithin n entries.items) bytes.ok.0 c.self.invariant in
+    let within : AllWithin 0 entries.items (length bytes.items) = subst (AllWithin 0 entries.items) bytes.ok.0 c.self.invariant in
     let all : c.append-2.new.bytes.items ≡ bytes.items ++ c.args.fate.bytes.now ++ c.args.bytes.now = c.append-2.ensures.items
     ∙ ap (λ b. b ++ c.args.bytes.now) (c.append.ensures.items ∙ ap (λ b. b ++ c.args.fate.bytes.now) c.in_ok-reserve-2.ensures.items) in
     rw (all, later) (subst (λ fs. Adds c.args.from (lent_fate c.args.fate) c.args.bytes.now fs
     (frames_in (bytes.items ++ c.args.fate.bytes.now ++ c.args.bytes.now) 1 (entries.items ++ entry ∷ []))) (ap (λ v. v.items) c.self.view_is)
     (log-adds entries.items behind within))
+
+pub returns-in_err-reserve-2-clause-full : goal.returns-in_err-reserve-2-clause-full
+returns-in_err-reserve-2-clause-full c =
+    let entries = c.self.inside.entries in
+    let bytes = c.self.inside.bytes in
+    let view = c.self.view_is in
+    let within : AllWithin 0 entries.items (length bytes.items) = subst (AllWithin 0 entries.items) bytes.ok.0 c.self.invariant in
+    let count : byte_count c.args.self.now.items ≡ bytes.len =
+    ap byte_count (sym (ap (λ v. v.items) view)) ∙ omega (arith, count-in bytes.items 1 0 entries.items within, bytes.ok.0) in
+    let p = err_from_is_err_and c.from_residual-in_err-reserve-2.result c.from_residual-in_err-reserve-2.ensures.1 in
+    rw p.1 (inr (omega (arith, count, ap (λ v. v.byte_room) view, c.in_err-reserve-2.ensures.full, c.args.fate.short, c.requires)))
