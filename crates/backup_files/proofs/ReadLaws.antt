@@ -9,7 +9,7 @@ use Rattle.palm_device.specs.Bounds.{IsBoundedDatabase}
 use Rattle.pdb_values.specs.Databases.{DatabaseValue}
 use Rattle.pdb_values.proofs.NamedLaws.{AllByRecursion-with_new, bytes_eq-is}
 use Rattle.handheld_files.specs.Openings.{among}
-use Rattle.backup_files.specs.BackupFolders.{AreBackups, HoldsBackups, HoldsDatabase, IsFirstBroken, IsFirstSame, Shows, backup_count}
+use Rattle.backup_files.specs.BackupFolders.{AreBackups, HoldsBackups, HoldsDatabase, IsFirstBadFile, IsFirstSame, ShowsBackupFault, backup_count}
 use Rattle.backup_files.specs.BackupNames.{is_backup}
 use Rattle.backup_files.specs.FoundFiles.{IsPassedOver, ReadsOn, RefusesFile, RefusesOne}
 use Rattle.backup_files.specs.declared.fault.BackupFault.{BackupFault}
@@ -87,7 +87,7 @@ pub refused_on : (told : Option FileMap) (names before after : List (List ℕ)) 
     → RefusesFile told name origins fault → names ≡ before ++ name ∷ after → IfSome told (RefusesOne names fault)
 refused_on (Some held) names before after name databases origins TooMany found refuses order = refuses
 refused_on (Some held) names before after name databases origins (BadFile file kind place) found refuses order =
-    subst (λ n. IsFirstBroken names held n kind place) (sym refuses.0) (record {
+    subst (λ n. IsFirstBadFile names held n kind place) (sym refuses.0) (record {
       behind = record { before = before; after = after; order = order; databases = databases; good = found.backups };
       is_named = refuses.1.1.is_named;
       bytes = refuses.1.0;
@@ -119,10 +119,10 @@ holds_all (Some held) names databases listed few are =
 
 -- why one of all files was refused is why the folder was
 pub shows_all : (told : Option FileMap) (names : List (List ℕ)) (fault : BackupFault) → IfSome told (λ held. names ≡ finmap.keys held)
-    → count_by is_backup names ≤ 200 → IfSome told (RefusesOne names fault) → IfSome told (Shows fault)
+    → count_by is_backup names ≤ 200 → IfSome told (RefusesOne names fault) → IfSome told (ShowsBackupFault fault)
 shows_all (Some held) names TooMany listed few refuses = absurd refuses
 shows_all (Some held) names (BadFile file kind place) listed few refuses =
-    (few_are_held held names listed few, subst (λ ns. IsFirstBroken ns held (string_bytes {Z = Global} file) kind place) listed refuses)
+    (few_are_held held names listed few, subst (λ ns. IsFirstBadFile ns held (string_bytes {Z = Global} file) kind place) listed refuses)
 shows_all (Some held) names (SameDatabase first second) listed few refuses = (
   few_are_held held names listed few,
   subst (λ ns. IsFirstSame ns held (string_bytes {Z = Global} first) (string_bytes {Z = Global} second)) listed refuses,

@@ -78,7 +78,7 @@ pub record IsBehindGood (names : List (List ℕ)) (held : FileMap) (name : List 
 
 -- The first bad file of these names: those in front of it hold databases of different names, and
 -- its bytes break a rule.
-pub record IsFirstBroken (names : List (List ℕ)) (held : FileMap) (name : List ℕ) (kind : BadKind)
+pub record IsFirstBadFile (names : List (List ℕ)) (held : FileMap) (name : List ℕ) (kind : BadKind)
     (place : ℕ) : Type 0 where
   pub behind : IsBehindGood names held name
   pub is_named : is_backup name ≡ true
@@ -98,14 +98,14 @@ pub record IsFirstSame (names : List (List ℕ)) (held : FileMap)
   pub same : earlier.head.name ≡ later.head.name
 
 -- what a folder shows of the cause of each refusal to read it
-abbrev pub Shows : BackupFault → FileMap → Type 0
-Shows Failed held = ⊤
-Shows TooMany held = most_databases < backup_count held
-Shows (BadFile name kind place) held =
+abbrev pub ShowsBackupFault : BackupFault → FileMap → Type 0
+ShowsBackupFault Failed held = ⊤
+ShowsBackupFault TooMany held = most_databases < backup_count held
+ShowsBackupFault (BadFile name kind place) held =
     (backup_count held ≤ most_databases)
-    × IsFirstBroken (finmap.keys held) held (string_bytes {Z = Global} name) kind place
-Shows (SameDatabase first second) held =
+    × IsFirstBadFile (finmap.keys held) held (string_bytes {Z = Global} name) kind place
+ShowsBackupFault (SameDatabase first second) held =
     (backup_count held ≤ most_databases)
     × IsFirstSame (finmap.keys held) held (string_bytes {Z = Global} first)
     (string_bytes {Z = Global} second)
-Shows NoMemory held = ⊤
+ShowsBackupFault NoMemory held = ⊤

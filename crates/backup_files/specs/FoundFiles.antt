@@ -10,7 +10,7 @@ use Rattle.pdb_files.specs.BadKinds.{bad_file}
 use Rattle.pdb_files.specs.Files.{IsFileText}
 use Rattle.pdb_files.specs.declared.fault.FileFault.{FileFault}
 use Rattle.handheld_files.specs.BadFiles.{BreaksRule}
-use Rattle.backup_files.specs.BackupFolders.{IsFirstBroken, IsFirstSame}
+use Rattle.backup_files.specs.BackupFolders.{IsFirstBadFile, IsFirstSame}
 use Rattle.backup_files.specs.BackupNames.{is_backup}
 use Rattle.backup_files.specs.declared.fault.BackupFault.{BackupFault}
 use Rattle.backup_files.specs.declared.fault.BackupFault.TheVariants.{Failed, TooMany, BadFile, SameDatabase, NoMemory}
@@ -131,7 +131,7 @@ abbrev pub RefusesOne : List (List ℕ) → BackupFault → FileMap → Type 0
 RefusesOne names Failed held = ⊤
 RefusesOne names TooMany held = ⊥
 RefusesOne names (BadFile file kind place) held =
-    IsFirstBroken names held (string_bytes {Z = Global} file) kind place
+    IsFirstBadFile names held (string_bytes {Z = Global} file) kind place
 RefusesOne names (SameDatabase first second) held =
     IsFirstSame names held (string_bytes {Z = Global} first) (string_bytes {Z = Global} second)
 RefusesOne names NoMemory held = ⊤

@@ -6,7 +6,7 @@ ghost use Rattle.hs_folders.specs.Moments.{OnlyRead};
 ghost use Rattle.palm_device.specs.Bounds.{IsBoundedDatabase};
 ghost use Rattle.pdb_values.specs.NamedDatabases.{NamesRise};
 ghost use Rattle.handheld_files.specs.Openings.{among};
-ghost use Rattle.backup_files.specs.BackupFolders.{AreBackups, HoldsBackups, Shows};
+ghost use Rattle.backup_files.specs.BackupFolders.{AreBackups, HoldsBackups, ShowsBackupFault};
 ghost use Rattle.backup_files.specs.BackupNames as file_names;
 ghost use Rattle.backup_files.specs.FoundFiles.{ReadsFile, RefusesOne};
 
@@ -29,7 +29,7 @@ pub fn read_backups<F: Folder>(alloc: Global, folder: &mut F) -> Result<Vec<Data
     ensures order { IfOk result (λ databases. NamesRise databases.items) }
     ensures bounded { IfOk result (λ databases.
         AllByRecursion IsBoundedDatabase databases.items) }
-    ensures shown { IfErr result (λ fault. IfSome (F.contents folder.old) (Shows fault)) }
+    ensures shown { IfErr result (λ fault. IfSome (F.contents folder.old) (ShowsBackupFault fault)) }
     ensures cause { HasCause (F.faults folder.old) (F.faults folder.new)
         (IsErrOf result BackupFault.Failed) }
     ensures only_read { OnlyRead F.contents F.moments F.paths F.faults folder.old folder.new }

@@ -18,8 +18,8 @@ use Rattle.padp_link.specs.Receivers.{bytes_of, goes_on, is_complete, is_next, i
 use Rattle.padp_link.specs.Senders.{SenderValue, waiting}
 use Rattle.padp_link.specs.declared.piece.Key.{Key}
 use Rattle.padp_link.specs.declared.piece.Piece.{Piece}
-use Rattle.cable_laws.specs.Cables.{AcksPiece, AllBear, AtMost, BearsFor, Cable, Count, HasParts, IsAhead, IsOver, IsPiece, Knows, Rise, Sends, Side, Stamped, Way}
-use Rattle.cable_laws.specs.Cables.{key_now, number_now, packet_of, part_count, piece_now, stamped}
+use Rattle.cable_laws.specs.Cables.{AcksPiece, AllBear, AtMost, BearsFor, Cable, Count, HasParts, IsAhead, IsOver, IsPiece, Knows, Rise, Sends, Side, Parcel, Way}
+use Rattle.cable_laws.specs.Cables.{key_now, number_now, packet_of, part_count, piece_now, parcels}
 use Rattle.cable_laws.specs.Moments.{HeardRightly, StaysOn, TakesOne}
 use Rattle.cable_laws.proofs.QueueLaws.{at_most-itself, bear-append, bear-on, rise-append, rise-ends, rise-from}
 use Rattle.cable_laws.proofs.SayLaws.{ack-arrives, none-waiting, number_within}
@@ -91,14 +91,14 @@ taken_before x y parts ahead next =
 -- ---- a piece is taken
 
 -- what that tells
-pub record Accepts (x y : Side) (first : Stamped) (id : ℕ) (fragment : FragmentValue) : Type 0 where
+pub record Accepts (x y : Side) (first : Parcel) (id : ℕ) (fragment : FragmentValue) : Type 0 where
   pub ahead : IsAhead x y
   pub begun : first.at.begun ≡ x.count.begun
   pub stamp : first.at.taken ≡ x.count.taken
   pub over : IsOver y x
   pub newest : record { id = id; fragment = fragment } ≡ piece_said x.end.message (piece_now x.end.sender)
 
-pub accepts : (x y : Side) (first : Stamped) (there back : List Stamped) (id : ℕ) (fragment : FragmentValue) → Cable x y (first ∷ there) back
+pub accepts : (x y : Side) (first : Parcel) (there back : List Parcel) (id : ℕ) (fragment : FragmentValue) → Cable x y (first ∷ there) back
     → IsPiece x y first.at id fragment → (y.end.receiver.last ≡ Some (key_of id fragment) → ⊥) → Accepts x y first id fragment
 accepts x y first there back id fragment cable piece new =
     let stamps = oldest x y first there cable.there_is in
@@ -151,7 +151,7 @@ part_then : (x y : Side) (id : ℕ) (fragment : FragmentValue) (acknowledged : �
     → part_count x (received y id fragment acknowledged) ≡ number_now x.end.sender + 1
 part_then x y id fragment acknowledged ahead = omega (arith, ahead)
 
-received-to : (x y : Side) (first : Stamped) (there back : List Stamped) (id : ℕ) (fragment : FragmentValue) (acknowledged : ℕ)
+received-to : (x y : Side) (first : Parcel) (there back : List Parcel) (id : ℕ) (fragment : FragmentValue) (acknowledged : ℕ)
     → Cable x y (first ∷ there) back → Accepts x y first id fragment
     → number_now (counted y.end acknowledged y.end.sender.tries).sender ≡ number_now y.end.sender
     → is_next_piece y.end.receiver.pieces fragment ≡ true → Way x (received y id fragment acknowledged) there
@@ -200,11 +200,11 @@ received-to x y first there back id fragment acknowledged cable takes number nex
           ∙ ap (λ (n : ℕ). taken_pieces (length x.end.message) n x.end.message) (sym (part_then x y id fragment acknowledged ahead));
     }
 
-received-from : (x y : Side) (first : Stamped) (there back : List Stamped) (id : ℕ) (fragment : FragmentValue) (acknowledged : ℕ)
+received-from : (x y : Side) (first : Parcel) (there back : List Parcel) (id : ℕ) (fragment : FragmentValue) (acknowledged : ℕ)
     → Cable x y (first ∷ there) back → IsPiece x y first.at id fragment → Accepts x y first id fragment
     → number_now (counted y.end acknowledged y.end.sender.tries).sender ≡ number_now y.end.sender
     → piece_count y.end.sender.length ≤ acknowledged
-    → Way (received y id fragment acknowledged) x (back ++ stamped (received y id fragment acknowledged).count (acknowledgement (key_of id fragment) ∷ []))
+    → Way (received y id fragment acknowledged) x (back ++ parcels (received y id fragment acknowledged).count (acknowledgement (key_of id fragment) ∷ []))
 received-from x y first there back id fragment acknowledged cable piece takes number all =
     let from = cable.back_is in
     let ahead = takes.ahead in
@@ -221,9 +221,9 @@ received-from x y first there back id fragment acknowledged cable piece takes nu
       low = from.low;
       low_is = from.low_is;
       answered = from.answered;
-      rise = rise-append low back y.count (stamped newer.count (acknowledgement (key_of id fragment) ∷ [])) newer.count from.rise
+      rise = rise-append low back y.count (parcels newer.count (acknowledgement (key_of id fragment) ∷ [])) newer.count from.rise
           (record { taken = omega arith; begun = omega arith }, at_most-itself newer.count);
-      bear = bear-append newer x back (stamped newer.count (acknowledgement (key_of id fragment) ∷ []))
+      bear = bear-append newer x back (parcels newer.count (acknowledgement (key_of id fragment) ∷ []))
           (bear-on y x newer x low back y.count (record {
             acks = λ at k above below acks. record { any = acks.any; newest = acks.newest; older = acks.older };
             data_is = λ at i f above below other. record {
@@ -275,7 +275,7 @@ hears_no_delivery pieces is = elim (cases_Bool (is_complete pieces)) [
   | inr part ↦ (let e : heard.Nothing ≡ heard.Delivered = sym (cond-false (is_complete pieces) heard.Message heard.Nothing part) ∙ is in absurd cc)
 ]
 
-whole_then : (x y : Side) (first : Stamped) (there back : List Stamped) (id : ℕ) (fragment : FragmentValue) (acknowledged : ℕ)
+whole_then : (x y : Side) (first : Parcel) (there back : List Parcel) (id : ℕ) (fragment : FragmentValue) (acknowledged : ℕ)
     → Cable x y (first ∷ there) back → Accepts x y first id fragment → is_next_piece y.end.receiver.pieces fragment ≡ true
     → heard_with y.end.receiver fragment ≡ heard.Message
     → IsOver x (received y id fragment acknowledged) × (whole_of (y.end.receiver.pieces ++ fragment ∷ []) ≡ Some x.end.message)
@@ -290,7 +290,7 @@ whole_then x y first there back id fragment acknowledged cable takes next hears 
     (record { all = sym ahead; last = omega (arith, all) }, found.1)
 
 -- y takes a piece of x
-pub takes_piece : (x y : Side) (first : Stamped) (there back : List Stamped) (id : ℕ) (fragment : FragmentValue) → Cable x y (first ∷ there) back
+pub takes_piece : (x y : Side) (first : Parcel) (there back : List Parcel) (id : ℕ) (fragment : FragmentValue) → Cable x y (first ∷ there) back
     → IsPiece x y first.at id fragment → (y.end.receiver.last ≡ Some (key_of id fragment) → ⊥) → is_next_piece y.end.receiver.pieces fragment ≡ true
     → end_takes y.end first.packet ≡ accepting y.end id fragment → TakesOne x y first there back
 takes_piece x y first there back id fragment cable piece new next is =
@@ -311,7 +311,7 @@ takes_piece x y first there back id fragment cable piece new next is =
     record {
       next = newer;
       end_is = sym (ap (λ (a : Answer). a.end) answer);
-      cable = subst (λ (said : List OutgoingFragment). Cable x newer there (back ++ stamped newer.count said)) (sym (ap (λ (a : Answer). a.said) answer)) (record {
+      cable = subst (λ (said : List OutgoingFragment). Cable x newer there (back ++ parcels newer.count said)) (sym (ap (λ (a : Answer). a.said) answer)) (record {
         x_sends = cable.x_sends;
         y_sends = record { length_is = cable.y_sends.length_is; short = cable.y_sends.short; within = omega (arith, all) };
         there_is = received-to x y first there back id fragment acknowledged cable takes number next;

@@ -14,8 +14,8 @@ use Rattle.padp_link.specs.Receivers.{is_next}
 use Rattle.padp_link.specs.Senders.{SenderValue, waiting, waiting_key}
 use Rattle.padp_link.specs.declared.piece.Key.{Key}
 use Rattle.padp_link.specs.declared.piece.Piece.{Piece}
-use Rattle.cable_laws.specs.Cables.{AcksPiece, BearsFor, Cable, Count, HasParts, IsAhead, IsOver, IsPiece, Rise, Side, Stamped, Way}
-use Rattle.cable_laws.specs.Cables.{key_now, number_now, packet_of, part_count, piece_now, stamped}
+use Rattle.cable_laws.specs.Cables.{AcksPiece, BearsFor, Cable, Count, HasParts, IsAhead, IsOver, IsPiece, Rise, Side, Parcel, Way}
+use Rattle.cable_laws.specs.Cables.{key_now, number_now, packet_of, part_count, piece_now, parcels}
 use Rattle.cable_laws.specs.Moments.{BeginsOne, SaysAgain, TakesOne}
 use Rattle.cable_laws.proofs.DataLaws.{key_newest, takes_piece}
 use Rattle.cable_laws.proofs.QueueLaws.{bear-on}
@@ -26,7 +26,7 @@ use Rattle.cable_laws.proofs.TakeLaws.{acked, oldest, takes_last, takes_next, ta
 nothing : {X : Type 0} {a : X} → None ≡ Some a → ⊥
 nothing e = cc
 
-pub turned : (x y : Side) (there back : List Stamped) → Cable x y there back → Cable y x back there
+pub turned : (x y : Side) (there back : List Parcel) → Cable x y there back → Cable y x back there
 turned x y there back cable = record {
   x_sends = cable.y_sends;
   y_sends = cable.x_sends;
@@ -37,7 +37,7 @@ turned x y there back cable = record {
 
 -- ---- a packet is lost
 
-pub loses : (x y : Side) (before : List Stamped) (lost : Stamped) (after back : List Stamped) → Cable x y (before ++ lost ∷ after) back
+pub loses : (x y : Side) (before : List Parcel) (lost : Parcel) (after back : List Parcel) → Cable x y (before ++ lost ∷ after) back
     → Cable x y (before ++ after) back
 loses x y before lost after back cable = record {
   x_sends = cable.x_sends;
@@ -55,7 +55,7 @@ dropped e = cc
 dropped_too : heard.Nothing ≡ heard.Delivered → ⊥
 dropped_too e = cc
 
-takes_arrival : (x y : Side) (first : Stamped) (there back : List Stamped) → Cable x y (first ∷ there) back → (arrival : Arrival)
+takes_arrival : (x y : Side) (first : Parcel) (there back : List Parcel) → Cable x y (first ∷ there) back → (arrival : Arrival)
     → end_takes y.end first.packet ≡ arrival_taken y.end arrival → BearsFor x y first.at arrival → TakesOne x y first there back
 takes_arrival x y first there back cable Drop is bears = takes_silent x y first there back cable heard.Nothing dropped dropped_too is
 takes_arrival x y first there back cable Tickle is bears = takes_silent x y first there back cable heard.Tickle (λ e. cc) (λ e. cc) is
@@ -86,7 +86,7 @@ takes_arrival x y first there back cable (Data id fragment) is bears = elim (cas
   unlike : true ≡ false → ⊥
   unlike e = cc
 
-pub takes : (x y : Side) (first : Stamped) (there back : List Stamped) → Cable x y (first ∷ there) back → TakesOne x y first there back
+pub takes : (x y : Side) (first : Parcel) (there back : List Parcel) → Cable x y (first ∷ there) back → TakesOne x y first there back
 takes x y first there back cable = takes_arrival x y first there back cable (arrival_of first.packet) refl cable.there_is.bear.0
 
 -- ---- a piece goes again
@@ -95,13 +95,13 @@ takes x y first there back cable = takes_arrival x y first there back cable (arr
 abbrev again : EndValue → EndValue
 again end = record end { sender = record end.sender { tries = end.sender.tries + 1 } }
 
-says_waiting : (x y : Side) (there back : List Stamped) → Cable x y there back → (waits : Option Piece) → waiting y.end.sender ≡ waits
+says_waiting : (x y : Side) (there back : List Parcel) → Cable x y there back → (waits : Option Piece) → waiting y.end.sender ≡ waits
     → end_waits y.end ≡ tried_again y.end waits → SaysAgain x y there back
 says_waiting x y there back cable None none is = record {
   next = y;
   end_is = sym (ap (λ (s : List OutgoingFragment × EndValue). s.1) is);
-  cable = subst (λ (said : List OutgoingFragment). Cable x y there (back ++ stamped y.count said)) (sym (ap (λ (s : List OutgoingFragment × EndValue). s.0) is))
-      (subst (λ (queue : List Stamped). Cable x y there queue) (sym (append-nil back)) cable);
+  cable = subst (λ (said : List OutgoingFragment). Cable x y there (back ++ parcels y.count said)) (sym (ap (λ (s : List OutgoingFragment × EndValue). s.0) is))
+      (subst (λ (queue : List Parcel). Cable x y there queue) (sym (append-nil back)) cable);
   stays = record { message = refl; id = refl; over = λ o. o; other = λ o. o };
 }
 says_waiting x y there back cable (Some piece) some is = elim (cases_Bool (nat_eq y.end.sender.tries 10)) [
@@ -109,9 +109,9 @@ says_waiting x y there back cable (Some piece) some is = elim (cases_Bool (nat_e
       record {
         next = y;
         end_is = sym (ap (λ (s : List OutgoingFragment × EndValue). s.1) none);
-        cable = subst (λ (said : List OutgoingFragment). Cable x y there (back ++ stamped y.count said))
+        cable = subst (λ (said : List OutgoingFragment). Cable x y there (back ++ parcels y.count said))
             (sym (ap (λ (s : List OutgoingFragment × EndValue). s.0) none))
-            (subst (λ (queue : List Stamped). Cable x y there queue) (sym (append-nil back)) cable);
+            (subst (λ (queue : List Parcel). Cable x y there queue) (sym (append-nil back)) cable);
         stays = record { message = refl; id = refl; over = λ o. o; other = λ o. o };
       })
   | inr left ↦ (let now = waiting-now y.end.sender piece some in
@@ -123,7 +123,7 @@ says_waiting x y there back cable (Some piece) some is = elim (cases_Bool (nat_e
       record {
         next = next;
         end_is = sym (ap (λ (s : List OutgoingFragment × EndValue). s.1) more);
-        cable = subst (λ (said : List OutgoingFragment). Cable x next there (back ++ stamped next.count said))
+        cable = subst (λ (said : List OutgoingFragment). Cable x next there (back ++ parcels next.count said))
             (sym (ap (λ (s : List OutgoingFragment × EndValue). s.0) more)) (record {
               x_sends = cable.x_sends;
               y_sends = record { length_is = cable.y_sends.length_is; short = cable.y_sends.short; within = cable.y_sends.within };
@@ -151,12 +151,12 @@ says_waiting x y there back cable (Some piece) some is = elim (cases_Bool (nat_e
       })
 ]
 
-pub says_again : (x y : Side) (there back : List Stamped) → Cable x y there back → SaysAgain x y there back
+pub says_again : (x y : Side) (there back : List Parcel) → Cable x y there back → SaysAgain x y there back
 says_again x y there back cable = says_waiting x y there back cable (waiting y.end.sender) refl refl
 
 -- ---- a message begins
 
-pub begins : (x y : Side) (there back : List Stamped) (id : ℕ) (message : List ℕ) → Cable x y there back → IsOver x y → IsOver y x
+pub begins : (x y : Side) (there back : List Parcel) (id : ℕ) (message : List ℕ) → Cable x y there back → IsOver x y → IsOver y x
     → waiting y.end.sender ≡ None → length message ≤ 65535 → (y.count.begun ≡ 0) ⊎ (y.end.sender.id ≡ id → ⊥) → BeginsOne x y id message there back
 begins x y there back id message cable over other none short differs =
     let sender = (with_message y.end id message).sender in
@@ -186,7 +186,7 @@ begins x y there back id message cable over other none short differs =
     record {
       next = newer;
       end_is = sym (ap (λ (s : List OutgoingFragment × EndValue). s.1) answer);
-      cable = subst (λ (said : List OutgoingFragment). Cable x newer there (back ++ stamped newer.count said))
+      cable = subst (λ (said : List OutgoingFragment). Cable x newer there (back ++ parcels newer.count said))
           (sym (ap (λ (s : List OutgoingFragment × EndValue). s.0) answer)) (record {
             x_sends = cable.x_sends;
             y_sends = record { length_is = refl; short = short; within = omega arith };
@@ -203,7 +203,7 @@ begins x y there back id message cable over other none short differs =
 abbrev expecting : Side → ℕ → Side
 expecting y id = record { end = end_expects y.end id; count = y.count }
 
-expects-to : (x y : Side) (there : List Stamped) (id : ℕ) → Way x y there → IsOver x y → Way x (expecting y id) there
+expects-to : (x y : Side) (there : List Parcel) (id : ℕ) → Way x y there → IsOver x y → Way x (expecting y id) there
 expects-to x y there id to over =
     let newer = expecting y id in
     let all = over.all in
@@ -230,7 +230,7 @@ expects-to x y there id to over =
       parts = λ some few. let e : ⊥ = omega (arith, few, all, last) in absurd e;
     }
 
-expects-from : (x y : Side) (back : List Stamped) (id : ℕ) → Way y x back → Way (expecting y id) x back
+expects-from : (x y : Side) (back : List Parcel) (id : ℕ) → Way y x back → Way (expecting y id) x back
 expects-from x y back id from =
     let newer = expecting y id in
     record {
@@ -255,7 +255,7 @@ expects-from x y back id from =
       parts = from.parts;
     }
 
-pub expects : (x y : Side) (there back : List Stamped) (id : ℕ) → Cable x y there back → IsOver x y
+pub expects : (x y : Side) (there back : List Parcel) (id : ℕ) → Cable x y there back → IsOver x y
     → Cable x (record { end = end_expects y.end id; count = y.count }) there back
 expects x y there back id cable over = record {
   x_sends = cable.x_sends;
@@ -268,7 +268,7 @@ expects x y there back id cable over = record {
 -- ---- what comes, by its stamp
 
 -- data is a repeat where y took all that its sender had begun by then
-pub known_by-stamp : (x y : Side) (first : Stamped) (there back : List Stamped) (id : ℕ) (fragment : FragmentValue) → Cable x y (first ∷ there) back
+pub known_by-stamp : (x y : Side) (first : Parcel) (there back : List Parcel) (id : ℕ) (fragment : FragmentValue) → Cable x y (first ∷ there) back
     → arrival_of first.packet ≡ Data id fragment → (y.end.receiver.last ≡ Some (key_of id fragment)) ↔ (first.at.begun ≡ y.count.taken)
 known_by-stamp x y first there back id fragment cable is =
     let piece : IsPiece x y first.at id fragment = subst (BearsFor x y first.at) is cable.there_is.bear.0 in
@@ -286,7 +286,7 @@ known_by-stamp x y first there back id fragment cable is =
     )
 
 -- an acknowledgement with the key of the piece that waits is for that piece
-pub acked_by-stamp : (x y : Side) (first : Stamped) (there back : List Stamped) (key : Key) → Cable x y (first ∷ there) back
+pub acked_by-stamp : (x y : Side) (first : Parcel) (there back : List Parcel) (key : Key) → Cable x y (first ∷ there) back
     → arrival_of first.packet ≡ Ack key → waiting_key y.end.sender ≡ Some key → first.at.taken ≡ y.count.begun
 acked_by-stamp x y first there back key cable is waits =
     let acks : AcksPiece x y first.at key = subst (BearsFor x y first.at) is cable.there_is.bear.0 in

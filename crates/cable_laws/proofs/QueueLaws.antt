@@ -3,7 +3,7 @@ use Rattle.std.proofs.Common.{◌≡◌, ◌≤◌, ℕ, ◌+◌, List, [], ◌�
 use Rattle.padp_end.specs.Arrivals.{Arrival, Drop, Tickle, Stop, Ack, Data, arrival_of}
 use Rattle.padp_link.specs.FragmentText.{FragmentValue}
 use Rattle.padp_link.specs.declared.piece.Key.{Key}
-use Rattle.cable_laws.specs.Cables.{AcksPiece, AllBear, AtMost, BearsFor, Count, IsPiece, Rise, Side, Stamped}
+use Rattle.cable_laws.specs.Cables.{AcksPiece, AllBear, AtMost, BearsFor, Count, IsPiece, Rise, Side, Parcel}
 
 pub at_most-then : (a b c : Count) → AtMost a b → AtMost b c → AtMost a c
 at_most-then a b c first next =
@@ -19,39 +19,39 @@ at_most-itself a = record { taken = omega arith; begun = omega arith }
 -- ---- the stamps
 
 -- from below to above
-pub rise-ends : (low : Count) (queue : List Stamped) (high : Count) → Rise low queue high → AtMost low high
+pub rise-ends : (low : Count) (queue : List Parcel) (high : Count) → Rise low queue high → AtMost low high
 rise-ends low [] high rise = rise
 rise-ends low (each ∷ later) high rise = at_most-then low each.at high rise.0 (rise-ends each.at later high rise.1)
 
 -- from lower
-pub rise-from : (lower low : Count) (queue : List Stamped) (high : Count) → AtMost lower low → Rise low queue high → Rise lower queue high
+pub rise-from : (lower low : Count) (queue : List Parcel) (high : Count) → AtMost lower low → Rise low queue high → Rise lower queue high
 rise-from lower low [] high less rise = at_most-then lower low high less rise
 rise-from lower low (each ∷ later) high less rise = (at_most-then lower low each.at less rise.0, rise.1)
 
 -- to higher
-pub rise-to : (low : Count) (queue : List Stamped) (high higher : Count) → Rise low queue high → AtMost high higher → Rise low queue higher
+pub rise-to : (low : Count) (queue : List Parcel) (high higher : Count) → Rise low queue high → AtMost high higher → Rise low queue higher
 rise-to low [] high higher rise more = at_most-then low high higher rise more
 rise-to low (each ∷ later) high higher rise more = (rise.0, rise-to each.at later high higher rise.1 more)
 
 -- with packets more that are stamped at the end
-pub rise-append : (low : Count) (queue : List Stamped) (high : Count) (more : List Stamped) (higher : Count) → Rise low queue high → Rise high more higher
+pub rise-append : (low : Count) (queue : List Parcel) (high : Count) (more : List Parcel) (higher : Count) → Rise low queue high → Rise high more higher
     → Rise low (queue ++ more) higher
 rise-append low [] high more higher rise later = rise-from low high more higher rise later
 rise-append low (each ∷ queue) high more higher rise later = (rise.0, rise-append each.at queue high more higher rise.1 later)
 
 -- without one
-pub rise-lost : (low : Count) (before : List Stamped) (lost : Stamped) (after : List Stamped) (high : Count) → Rise low (before ++ lost ∷ after) high
+pub rise-lost : (low : Count) (before : List Parcel) (lost : Parcel) (after : List Parcel) (high : Count) → Rise low (before ++ lost ∷ after) high
     → Rise low (before ++ after) high
 rise-lost low [] lost after high rise = rise-from low lost.at after high rise.0 rise.1
 rise-lost low (each ∷ before) lost after high rise = (rise.0, rise-lost each.at before lost after high rise.1)
 
 -- ---- what they bear
 
-pub bear-append : (x y : Side) (queue more : List Stamped) → AllBear x y queue → AllBear x y more → AllBear x y (queue ++ more)
+pub bear-append : (x y : Side) (queue more : List Parcel) → AllBear x y queue → AllBear x y more → AllBear x y (queue ++ more)
 bear-append x y [] more bear later = later
 bear-append x y (each ∷ queue) more bear later = (bear.0, bear-append x y queue more bear.1 later)
 
-pub bear-lost : (x y : Side) (before : List Stamped) (lost : Stamped) (after : List Stamped) → AllBear x y (before ++ lost ∷ after)
+pub bear-lost : (x y : Side) (before : List Parcel) (lost : Parcel) (after : List Parcel) → AllBear x y (before ++ lost ∷ after)
     → AllBear x y (before ++ after)
 bear-lost x y [] lost after bear = bear.1
 bear-lost x y (each ∷ before) lost after bear = (bear.0, bear-lost x y before lost after bear.1)
@@ -76,7 +76,7 @@ carries-from x y newer other lower low high less carries = record {
   data_is = λ at id fragment above below. carries.data_is at id fragment (at_most-then lower low at less above) below;
 }
 
-pub bear-on : (x y newer other : Side) (low : Count) (queue : List Stamped) (high : Count) → Carries x y newer other low high → Rise low queue high
+pub bear-on : (x y newer other : Side) (low : Count) (queue : List Parcel) (high : Count) → Carries x y newer other low high → Rise low queue high
     → AllBear x y queue → AllBear newer other queue
 bear-on x y newer other low [] high carries rise bear = tt
 bear-on x y newer other low (each ∷ queue) high carries rise bear = (

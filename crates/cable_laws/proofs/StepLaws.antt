@@ -9,8 +9,8 @@ use Rattle.padp_link.specs.Pieces.{fragment_of, key_of, piece_count, piece_of}
 use Rattle.padp_link.specs.Senders.{SenderValue, waiting}
 use Rattle.padp_link.specs.declared.fragment.PadpKind.TheVariants as kind
 use Rattle.padp_link.specs.declared.piece.Key.{Key}
-use Rattle.cable_laws.specs.Cables.{AcksPiece, AllBear, AtMost, BearsFor, Cable, Count, HasParts, IsAhead, IsOver, IsPiece, Knows, Rise, Sends, Side, Stamped, Way}
-use Rattle.cable_laws.specs.Cables.{key_now, number_now, packet_of, part_count, piece_now, stamped}
+use Rattle.cable_laws.specs.Cables.{AcksPiece, AllBear, AtMost, BearsFor, Cable, Count, HasParts, IsAhead, IsOver, IsPiece, Knows, Rise, Sends, Side, Parcel, Way}
+use Rattle.cable_laws.specs.Cables.{key_now, number_now, packet_of, part_count, piece_now, parcels}
 use Rattle.cable_laws.proofs.QueueLaws.{Carries, at_most-itself, at_most-then, bear-append, bear-lost, bear-on, rise-append, rise-ends, rise-from, rise-lost}
 use Rattle.cable_laws.proofs.SayLaws.{flags_within, newest_text, number_within, piece-arrives}
 
@@ -30,7 +30,7 @@ abbrev pub newest_said : SenderValue → List ℕ → OutgoingFragment
 newest_said sender message = piece_said message (piece_now sender)
 
 -- What has to hold at that: all pieces so far are over, and the new one has another key.
-pub record MayBegin (x y : Side) (there back : List Stamped) (sender : SenderValue) (message : List ℕ) : Type 0 where
+pub record MayBegin (x y : Side) (there back : List Parcel) (sender : SenderValue) (message : List ℕ) : Type 0 where
   pub to : Way x y there
   pub from : Way y x back
   pub none_older : y.count.begun ≤ to.low
@@ -42,7 +42,7 @@ pub record MayBegin (x y : Side) (there back : List Stamped) (sender : SenderVal
   pub differs : (y.count.begun ≡ 0 → ⊥) → key_now y.end.sender ≡ key_now sender → ⊥
   pub parts : HasParts (begun_more y sender message) x
 
-begun-to : (x y : Side) (there back : List Stamped) (sender : SenderValue) (message : List ℕ) → MayBegin x y there back sender message
+begun-to : (x y : Side) (there back : List Parcel) (sender : SenderValue) (message : List ℕ) → MayBegin x y there back sender message
     → (waiting sender ≡ None → ⊥) → Way x (begun_more y sender message) there
 begun-to x y there back sender message may waits =
     let to = may.to in
@@ -84,7 +84,7 @@ begun-to x y there back sender message may waits =
     }
 
 -- the piece that is said
-new_piece : (x y : Side) (there back : List Stamped) (sender : SenderValue) (message : List ℕ) → MayBegin x y there back sender message
+new_piece : (x y : Side) (there back : List Parcel) (sender : SenderValue) (message : List ℕ) → MayBegin x y there back sender message
     → IsPiece (begun_more y sender message) x (begun_more y sender message).count sender.id (fragment_of message (piece_now sender))
 new_piece x y there back sender message may =
     let taken = may.taken in
@@ -104,8 +104,8 @@ newest-arrives sender message length_is short =
     (sym length_is) (piece-arrives sender.id (number_now sender) message short
     (subst (λ (n : ℕ). number_now sender < piece_count n) length_is (number_within sender)))
 
-begun-from : (x y : Side) (there back : List Stamped) (sender : SenderValue) (message : List ℕ) → MayBegin x y there back sender message
-    → Way (begun_more y sender message) x (back ++ stamped (begun_more y sender message).count (newest_said sender message ∷ []))
+begun-from : (x y : Side) (there back : List Parcel) (sender : SenderValue) (message : List ℕ) → MayBegin x y there back sender message
+    → Way (begun_more y sender message) x (back ++ parcels (begun_more y sender message).count (newest_said sender message ∷ []))
 begun-from x y there back sender message may =
     let from = may.from in
     let from_taken = from.taken in
@@ -119,9 +119,9 @@ begun-from x y there back sender message may =
       low = from.low;
       low_is = from.low_is;
       answered = from.answered;
-      rise = rise-append low_count back y.count (stamped newer.count (newest_said sender message ∷ [])) newer.count from.rise
+      rise = rise-append low_count back y.count (parcels newer.count (newest_said sender message ∷ [])) newer.count from.rise
           (record { taken = omega arith; begun = omega arith }, at_most-itself newer.count);
-      bear = bear-append newer x back (stamped newer.count (newest_said sender message ∷ []))
+      bear = bear-append newer x back (parcels newer.count (newest_said sender message ∷ []))
           (bear-on y x newer x low_count back y.count (record {
             acks = λ at key above below acks. record { any = acks.any; newest = acks.newest; older = acks.older };
             data_is = λ at id fragment above below piece.
@@ -157,11 +157,11 @@ begun-from x y there back sender message may =
           may.differs some (some_of (sym (may.from.knows.newest (sym taken) some) ∙ now))
 
 -- Both ways behind it.
-pub record Begun (x y : Side) (there back : List Stamped) (sender : SenderValue) (message : List ℕ) : Type 0 where
+pub record Begun (x y : Side) (there back : List Parcel) (sender : SenderValue) (message : List ℕ) : Type 0 where
   pub to : Way x (begun_more y sender message) there
-  pub from : Way (begun_more y sender message) x (back ++ stamped (begun_more y sender message).count (newest_said sender message ∷ []))
+  pub from : Way (begun_more y sender message) x (back ++ parcels (begun_more y sender message).count (newest_said sender message ∷ []))
 
-pub begins_piece : (x y : Side) (there back : List Stamped) (sender : SenderValue) (message : List ℕ) → MayBegin x y there back sender message
+pub begins_piece : (x y : Side) (there back : List Parcel) (sender : SenderValue) (message : List ℕ) → MayBegin x y there back sender message
     → (waiting sender ≡ None → ⊥) → Begun x y there back sender message
 begins_piece x y there back sender message may waits = record {
   to = begun-to x y there back sender message may waits;
@@ -190,7 +190,7 @@ said_same : (end : EndValue) (acknowledged tries : ℕ) → number_now (counted 
 said_same end acknowledged tries same = ap (λ (n : ℕ). piece_said end.message (piece_of end.sender.id end.sender.length n)) same
 
 -- packets come to it as before
-pub counted-to : (x y : Side) (there : List Stamped) (acknowledged tries : ℕ) → number_now (counted y.end acknowledged tries).sender ≡ number_now y.end.sender
+pub counted-to : (x y : Side) (there : List Parcel) (acknowledged tries : ℕ) → number_now (counted y.end acknowledged tries).sender ≡ number_now y.end.sender
     → (to : Way x y there) → (waiting (counted y.end acknowledged tries).sender ≡ None → y.count.begun ≤ to.low) → Way x (counted_side y acknowledged tries) there
 counted-to x y there acknowledged tries same to answered =
     let newer = counted_side y acknowledged tries in
@@ -226,7 +226,7 @@ part_same : (x y : Side) (acknowledged tries : ℕ) → number_now (counted y.en
 part_same x y acknowledged tries same = ap (λ (n : ℕ). n + 1 + x.count.taken - y.count.begun) same
 
 -- and go from it as before
-pub counted-from : (x y : Side) (back : List Stamped) (acknowledged tries : ℕ) → number_now (counted y.end acknowledged tries).sender ≡ number_now y.end.sender
+pub counted-from : (x y : Side) (back : List Parcel) (acknowledged tries : ℕ) → number_now (counted y.end acknowledged tries).sender ≡ number_now y.end.sender
     → (y.count.begun ≡ 0 → waiting (counted y.end acknowledged tries).sender ≡ None) → Way y x back → Way (counted_side y acknowledged tries) x back
 counted-from x y back acknowledged tries same quiet from =
     let newer = counted_side y acknowledged tries in
@@ -265,23 +265,23 @@ counted-from x y back acknowledged tries same quiet from =
 -- ---- one more packet that is no new piece
 
 -- what is said now
-pub more-from : (x y : Side) (back : List Stamped) (said : OutgoingFragment) → Way y x back
-    → BearsFor y x y.count (arrival_of (packet_of said)) → Way y x (back ++ stamped y.count (said ∷ []))
+pub more-from : (x y : Side) (back : List Parcel) (said : OutgoingFragment) → Way y x back
+    → BearsFor y x y.count (arrival_of (packet_of said)) → Way y x (back ++ parcels y.count (said ∷ []))
 more-from x y back said from bears = record {
   taken = from.taken;
   begun = from.begun;
   low = from.low;
   low_is = from.low_is;
   answered = from.answered;
-  rise = rise-append (record { taken = from.low; begun = x.count.taken }) back y.count (stamped y.count (said ∷ [])) y.count from.rise
+  rise = rise-append (record { taken = from.low; begun = x.count.taken }) back y.count (parcels y.count (said ∷ [])) y.count from.rise
       (at_most-itself y.count, at_most-itself y.count);
-  bear = bear-append y x back (stamped y.count (said ∷ [])) from.bear (bears, tt);
+  bear = bear-append y x back (parcels y.count (said ∷ [])) from.bear (bears, tt);
   knows = from.knows;
   parts = from.parts;
 }
 
 -- the oldest packet is heard
-pub next-to : (x y : Side) (first : Stamped) (there : List Stamped) → Way x y (first ∷ there) → Way x y there
+pub next-to : (x y : Side) (first : Parcel) (there : List Parcel) → Way x y (first ∷ there) → Way x y there
 next-to x y first there to = record {
   taken = to.taken;
   begun = to.begun;
@@ -295,7 +295,7 @@ next-to x y first there to = record {
 }
 
 -- a packet is lost
-pub lost-to : (x y : Side) (before : List Stamped) (lost : Stamped) (after : List Stamped) → Way x y (before ++ lost ∷ after) → Way x y (before ++ after)
+pub lost-to : (x y : Side) (before : List Parcel) (lost : Parcel) (after : List Parcel) → Way x y (before ++ lost ∷ after) → Way x y (before ++ after)
 lost-to x y before lost after to = record {
   taken = to.taken;
   begun = to.begun;

@@ -19,8 +19,8 @@ use Rattle.padp_link.specs.Senders.{SenderValue, waiting, waiting_key}
 use Rattle.padp_link.specs.declared.fragment.PadpKind.TheVariants as kind
 use Rattle.padp_link.specs.declared.piece.Key.{Key}
 use Rattle.padp_link.specs.declared.piece.Piece.{Piece}
-use Rattle.cable_laws.specs.Cables.{AcksPiece, AllBear, AtMost, BearsFor, Cable, Count, HasParts, IsAhead, IsOver, IsPiece, Knows, Rise, Sends, Side, Stamped, Way}
-use Rattle.cable_laws.specs.Cables.{key_now, number_now, packet_of, part_count, piece_now, stamped}
+use Rattle.cable_laws.specs.Cables.{AcksPiece, AllBear, AtMost, BearsFor, Cable, Count, HasParts, IsAhead, IsOver, IsPiece, Knows, Rise, Sends, Side, Parcel, Way}
+use Rattle.cable_laws.specs.Cables.{key_now, number_now, packet_of, part_count, piece_now, parcels}
 use Rattle.cable_laws.specs.Moments.{HeardRightly, StaysOn, TakesOne}
 use Rattle.cable_laws.proofs.QueueLaws.{Carries, at_most-itself, at_most-then, bear-append, bear-on, rise-append, rise-ends, rise-from, rise-to}
 use Rattle.cable_laws.proofs.SayLaws.{ack-arrives, count_some, flags_within, none-waiting, now-waiting, number_within, piece-arrives, piece-text, waiting-now}
@@ -40,13 +40,13 @@ undelivered e = cc
 
 -- ---- the stamps of the oldest packet
 
-pub record Oldest (x y : Side) (first : Stamped) (low : ℕ) : Type 0 where
+pub record Oldest (x y : Side) (first : Parcel) (low : ℕ) : Type 0 where
   pub taken_low : low ≤ first.at.taken
   pub taken_high : first.at.taken ≤ x.count.taken
   pub begun_low : y.count.taken ≤ first.at.begun
   pub begun_high : first.at.begun ≤ x.count.begun
 
-pub oldest : (x y : Side) (first : Stamped) (there : List Stamped) → (to : Way x y (first ∷ there)) → Oldest x y first to.low
+pub oldest : (x y : Side) (first : Parcel) (there : List Parcel) → (to : Way x y (first ∷ there)) → Oldest x y first to.low
 oldest x y first there to =
     let low = to.rise.0 in
     let high = rise-ends first.at there x.count to.rise.1 in
@@ -55,14 +55,14 @@ oldest x y first there to =
 -- ---- nothing changes
 
 -- a packet of which nothing is made
-pub takes_silent : (x y : Side) (first : Stamped) (there back : List Stamped) → Cable x y (first ∷ there) back → (hears : Heard)
+pub takes_silent : (x y : Side) (first : Parcel) (there back : List Parcel) → Cable x y (first ∷ there) back → (hears : Heard)
     → (hears ≡ heard.Message → ⊥) → (hears ≡ heard.Delivered → ⊥)
     → end_takes y.end first.packet ≡ silent y.end hears → TakesOne x y first there back
 takes_silent x y first there back cable hears no_message no_delivery is = record {
   next = y;
   end_is = sym (ap (λ (a : Answer). a.end) is);
-  cable = subst (λ (said : List OutgoingFragment). Cable x y there (back ++ stamped y.count said)) (sym (ap (λ (a : Answer). a.said) is))
-      (subst (λ (queue : List Stamped). Cable x y there queue) (sym (append-nil back)) (record {
+  cable = subst (λ (said : List OutgoingFragment). Cable x y there (back ++ parcels y.count said)) (sym (ap (λ (a : Answer). a.said) is))
+      (subst (λ (queue : List Parcel). Cable x y there queue) (sym (append-nil back)) (record {
         x_sends = cable.x_sends;
         y_sends = cable.y_sends;
         there_is = next-to x y first there cable.there_is;
@@ -83,7 +83,7 @@ takes_silent x y first there back cable hears no_message no_delivery is = record
 -- ---- a repeat
 
 -- the last piece that y took is acknowledged again
-again_acks : (x y : Side) (there : List Stamped) (id : ℕ) (fragment : FragmentValue) → Way x y there → y.end.receiver.last ≡ Some (key_of id fragment)
+again_acks : (x y : Side) (there : List Parcel) (id : ℕ) (fragment : FragmentValue) → Way x y there → y.end.receiver.last ≡ Some (key_of id fragment)
     → AcksPiece y x y.count (key_of id fragment)
 again_acks x y there id fragment to last = record {
   any = λ none. nothing (sym (to.knows.none none) ∙ last);
@@ -91,14 +91,14 @@ again_acks x y there id fragment to last = record {
   older = λ is now. to.knows.older (sym is) (last ∙ ap Some now);
 }
 
-pub takes_repeat : (x y : Side) (first : Stamped) (there back : List Stamped) (id : ℕ) (fragment : FragmentValue) → Cable x y (first ∷ there) back
+pub takes_repeat : (x y : Side) (first : Parcel) (there back : List Parcel) (id : ℕ) (fragment : FragmentValue) → Cable x y (first ∷ there) back
     → IsPiece x y first.at id fragment → y.end.receiver.last ≡ Some (key_of id fragment)
     → end_takes y.end first.packet ≡ record { said = acknowledgement (key_of id fragment) ∷ []; heard = heard.Nothing; end = y.end }
     → TakesOne x y first there back
 takes_repeat x y first there back id fragment cable piece last is = record {
   next = y;
   end_is = sym (ap (λ (a : Answer). a.end) is);
-  cable = subst (λ (said : List OutgoingFragment). Cable x y there (back ++ stamped y.count said)) (sym (ap (λ (a : Answer). a.said) is)) (record {
+  cable = subst (λ (said : List OutgoingFragment). Cable x y there (back ++ parcels y.count said)) (sym (ap (λ (a : Answer). a.said) is)) (record {
     x_sends = cable.x_sends;
     y_sends = cable.y_sends;
     there_is = next-to x y first there cable.there_is;
@@ -121,7 +121,7 @@ takes_repeat x y first there back id fragment cable piece last is = record {
 -- ---- an acknowledgement
 
 -- of packets behind this one all acknowledgements are for the newest piece of y
-pub raised-to : (x y : Side) (first : Stamped) (there : List Stamped) → Way x y (first ∷ there) → y.count.begun ≤ first.at.taken → Way x y there
+pub raised-to : (x y : Side) (first : Parcel) (there : List Parcel) → Way x y (first ∷ there) → y.count.begun ≤ first.at.taken → Way x y there
 raised-to x y first there to above =
     let stamps = oldest x y first there to in
     let low = stamps.begun_low in
@@ -144,13 +144,13 @@ waiting_with None key is = absurd (nothing is)
 waiting_with (Some piece) key is = (piece, refl, some_of is)
 
 -- what an acknowledgement of the waiting piece tells
-pub record IsAcked (x y : Side) (first : Stamped) : Type 0 where
+pub record IsAcked (x y : Side) (first : Parcel) : Type 0 where
   pub waits : y.end.sender.acknowledged < piece_count y.end.sender.length
   pub stamp : y.count.begun ≤ first.at.taken
   pub taken : x.count.taken ≡ y.count.begun
   pub some : y.count.begun ≡ 0 → ⊥
 
-pub acked : (x y : Side) (first : Stamped) (there back : List Stamped) (key : Key) → Cable x y (first ∷ there) back → AcksPiece x y first.at key
+pub acked : (x y : Side) (first : Parcel) (there back : List Parcel) (key : Key) → Cable x y (first ∷ there) back → AcksPiece x y first.at key
     → is_key (waiting_key y.end.sender) key ≡ true → IsAcked x y first
 acked x y first there back key cable acks same =
     let found = waiting_with (waiting y.end.sender) key (is_key-true (waiting_key y.end.sender) key same) in
@@ -190,13 +190,13 @@ next_parts x y below taken =
     let b : number_now (next_sender y.end.sender) ≡ y.end.sender.acknowledged + 1 = omega (arith, below) in
     omega (arith, a, b, taken)
 
-over_there : (x y : Side) (there back : List Stamped) → Cable x y there back → y.end.sender.acknowledged + 1 < piece_count y.end.sender.length → IsOver x y
+over_there : (x y : Side) (there back : List Parcel) → Cable x y there back → y.end.sender.acknowledged + 1 < piece_count y.end.sender.length → IsOver x y
 over_there x y there back cable below = elim cable.one [
   | inl over ↦ over
   | inr over ↦ (let last = over.last in let e : ⊥ = omega (arith, last, below) in absurd e)
 ]
 
-may_next : (x y : Side) (first : Stamped) (there back : List Stamped) → (cable : Cable x y (first ∷ there) back) → IsAcked x y first
+may_next : (x y : Side) (first : Parcel) (there back : List Parcel) → (cable : Cable x y (first ∷ there) back) → IsAcked x y first
     → y.end.sender.acknowledged + 1 < piece_count y.end.sender.length → MayBegin x y there back (next_sender y.end.sender) y.end.message
 unfolding raised-to
 may_next x y first there back cable acks below = record {
@@ -216,7 +216,7 @@ may_next x y first there back cable acks below = record {
 }
 
 -- the answer to it
-pub takes_next : (x y : Side) (first : Stamped) (there back : List Stamped) → Cable x y (first ∷ there) back → IsAcked x y first
+pub takes_next : (x y : Side) (first : Parcel) (there back : List Parcel) → Cable x y (first ∷ there) back → IsAcked x y first
     → y.end.sender.acknowledged + 1 < piece_count y.end.sender.length → end_takes y.end first.packet ≡ goes_on_with (with_next y.end)
     → TakesOne x y first there back
 takes_next x y first there back cable acks below is =
@@ -231,7 +231,7 @@ takes_next x y first there back cable acks below is =
     record {
       next = next;
       end_is = sym (ap (λ (a : Answer). a.end) answer);
-      cable = subst (λ (said : List OutgoingFragment). Cable x next there (back ++ stamped next.count said)) (sym (ap (λ (a : Answer). a.said) answer)) (record {
+      cable = subst (λ (said : List OutgoingFragment). Cable x next there (back ++ parcels next.count said)) (sym (ap (λ (a : Answer). a.said) answer)) (record {
         x_sends = cable.x_sends;
         y_sends = record { length_is = cable.y_sends.length_is; short = cable.y_sends.short; within = inside };
         there_is = ways.to;
@@ -255,7 +255,7 @@ takes_next x y first there back cable acks below is =
     }
 
 -- the last piece of the message is acknowledged
-pub takes_last : (x y : Side) (first : Stamped) (there back : List Stamped) → Cable x y (first ∷ there) back → IsAcked x y first
+pub takes_last : (x y : Side) (first : Parcel) (there back : List Parcel) → Cable x y (first ∷ there) back → IsAcked x y first
     → piece_count y.end.sender.length ≤ y.end.sender.acknowledged + 1 → end_takes y.end first.packet ≡ goes_on_with (with_next y.end)
     → TakesOne x y first there back
 unfolding raised-to
@@ -272,8 +272,8 @@ takes_last x y first there back cable acks last is =
     record {
       next = next;
       end_is = sym (ap (λ (a : Answer). a.end) answer);
-      cable = subst (λ (said : List OutgoingFragment). Cable x next there (back ++ stamped next.count said)) (sym (ap (λ (a : Answer). a.said) answer))
-          (subst (λ (queue : List Stamped). Cable x next there queue) (sym (append-nil back)) (record {
+      cable = subst (λ (said : List OutgoingFragment). Cable x next there (back ++ parcels next.count said)) (sym (ap (λ (a : Answer). a.said) answer))
+          (subst (λ (queue : List Parcel). Cable x next there queue) (sym (append-nil back)) (record {
             x_sends = cable.x_sends;
             y_sends = record { length_is = cable.y_sends.length_is; short = cable.y_sends.short; within = inside };
             there_is = counted-to x y there acknowledged 1 number (raised-to x y first there cable.there_is acks.stamp) (λ e. acks.stamp);

@@ -27,7 +27,7 @@ pub record Side : Type 0 where
   pub count : Count
 
 -- a packet under way, and the count of its sender when it was said
-pub record Stamped : Type 0 where
+pub record Parcel : Type 0 where
   pub packet : PacketValue
   pub at : Count
 
@@ -46,12 +46,12 @@ abbrev pub packets_of : List OutgoingFragment → List PacketValue
 packets_of said = map packet_of said
 
 -- what is said with this count
-abbrev pub stamped : Count → List OutgoingFragment → List Stamped
-stamped count said = map (λ outgoing. record { packet = packet_of outgoing; at = count }) said
+abbrev pub parcels : Count → List OutgoingFragment → List Parcel
+parcels count said = map (λ outgoing. record { packet = packet_of outgoing; at = count }) said
 
 -- the packets without their stamps
-abbrev pub packets_in : List Stamped → List PacketValue
-packets_in queue = map (λ (each : Stamped). each.packet) queue
+abbrev pub packets_in : List Parcel → List PacketValue
+packets_in queue = map (λ (each : Parcel). each.packet) queue
 
 -- ---- the newest piece of an end
 
@@ -88,7 +88,7 @@ pub record AtMost (a b : Count) : Type 0 where
   pub begun : a.begun ≤ b.begun
 
 -- the stamps never fall, from the one count to the other
-abbrev pub Rise : Count → List Stamped → Count → Type 0
+abbrev pub Rise : Count → List Parcel → Count → Type 0
 Rise low [] high = AtMost low high
 Rise low (each ∷ later) high = AtMost low each.at × Rise each.at later high
 
@@ -118,7 +118,7 @@ BearsFor x y at (Ack key) = AcksPiece x y at key
 BearsFor x y at (Data id fragment) = IsPiece x y at id fragment
 
 -- all packets bear such
-abbrev pub AllBear : Side → Side → List Stamped → Type 0
+abbrev pub AllBear : Side → Side → List Parcel → Type 0
 AllBear x y [] = Unit {0}
 AllBear x y (each ∷ later) = BearsFor x y each.at (arrival_of each.packet) × AllBear x y later
 
@@ -145,7 +145,7 @@ HasParts x y =
 -- One way of the cable. No data under way is older than the last piece that y took, and no
 -- acknowledgement is older than for the piece of y before its newest one, or for that one where it
 -- waits no more.
-pub record Way (x y : Side) (queue : List Stamped) : Type 0 where
+pub record Way (x y : Side) (queue : List Parcel) : Type 0 where
   pub taken : y.count.taken ≤ x.count.begun
   pub begun : x.count.begun ≤ y.count.taken + 1
   pub low : ℕ
@@ -160,7 +160,7 @@ pub record Way (x y : Side) (queue : List Stamped) : Type 0 where
 
 -- Both ends, with what is under way from x to y and back: one of their messages at least was taken
 -- whole.
-pub record Cable (x y : Side) (there back : List Stamped) : Type 0 where
+pub record Cable (x y : Side) (there back : List Parcel) : Type 0 where
   pub x_sends : Sends x.end
   pub y_sends : Sends y.end
   pub there_is : Way x y there

@@ -6,7 +6,7 @@ use Rattle.padp_end.specs.declared.heard.Heard.{Heard}
 use Rattle.padp_end.specs.declared.heard.Heard.TheVariants as heard
 use Rattle.padp_link.specs.Receivers.{whole_of}
 use Rattle.padp_link.specs.Senders.{waiting}
-use Rattle.cable_laws.specs.Cables.{Cable, Side, Stamped, IsAhead, IsOver, stamped}
+use Rattle.cable_laws.specs.Cables.{Cable, Side, Parcel, IsAhead, IsOver, parcels}
 
 -- what y heard, where it took a packet of x
 pub record HeardRightly (x old y : Side) (hears : Heard) : Type 0 where
@@ -28,26 +28,26 @@ pub record StaysOn (x old y : Side) : Type 0 where
   pub other : IsOver x old → IsOver x y
 
 -- y takes the oldest packet of x
-pub record TakesOne (x y : Side) (first : Stamped) (there back : List Stamped) : Type 0 where
+pub record TakesOne (x y : Side) (first : Parcel) (there back : List Parcel) : Type 0 where
   pub next : Side
   pub end_is : next.end ≡ (end_takes y.end first.packet).end
   pub cable : Cable x next there
-      (back ++ stamped next.count (end_takes y.end first.packet).said)
+      (back ++ parcels next.count (end_takes y.end first.packet).said)
   pub heard : HeardRightly x y next (end_takes y.end first.packet).heard
   pub stays : StaysOn x y next
 
 -- y says the piece that waits once more
-pub record SaysAgain (x y : Side) (there back : List Stamped) : Type 0 where
+pub record SaysAgain (x y : Side) (there back : List Parcel) : Type 0 where
   pub next : Side
   pub end_is : next.end ≡ (end_waits y.end).1
-  pub cable : Cable x next there (back ++ stamped next.count (end_waits y.end).0)
+  pub cable : Cable x next there (back ++ parcels next.count (end_waits y.end).0)
   pub stays : StaysOn x y next
 
 -- y begins a message, where both messages before it were taken whole and nothing of it waits
-pub record BeginsOne (x y : Side) (id : ℕ) (message : List ℕ) (there back : List Stamped)
+pub record BeginsOne (x y : Side) (id : ℕ) (message : List ℕ) (there back : List Parcel)
     : Type 0 where
   pub next : Side
   pub end_is : next.end ≡ (end_begins y.end id message).1
-  pub cable : Cable x next there (back ++ stamped next.count (end_begins y.end id message).0)
+  pub cable : Cable x next there (back ++ parcels next.count (end_begins y.end id message).0)
   pub other : IsOver x next
   pub ahead : IsAhead next x

@@ -6,17 +6,17 @@ ghost use Rattle.padp_link.specs.FragmentText.{FragmentValue};
 ghost use Rattle.padp_link.specs.Pieces.{key_of};
 ghost use Rattle.padp_link.specs.Senders.{waiting, waiting_key};
 ghost use Rattle.padp_link.specs.declared.piece.Key.{Key};
-ghost use Rattle.cable_laws.specs.Cables.{Cable, IsOver, Side, Stamped};
+ghost use Rattle.cable_laws.specs.Cables.{Cable, IsOver, Side, Parcel};
 ghost use Rattle.cable_laws.specs.Moments.{BeginsOne, SaysAgain, TakesOne};
 
 /// Both ends are alike.
 pub fn ends_are_alike()
-    ensures { (x y : Side) (there back : List Stamped) → Cable x y there back → Cable y x back there }
+    ensures { (x y : Side) (there back : List Parcel) → Cable x y there back → Cable y x back there }
 {}
 
 /// A packet is lost, and all holds as before.
 pub fn a_packet_may_be_lost()
-    ensures { (x y : Side) (before : List Stamped) (lost : Stamped) (after back : List Stamped)
+    ensures { (x y : Side) (before : List Parcel) (lost : Parcel) (after back : List Parcel)
         → Cable x y (before ++ lost ∷ after) back → Cable x y (before ++ after) back }
 {}
 
@@ -24,20 +24,20 @@ pub fn a_packet_may_be_lost()
 /// other end's, whole, whose newest piece it hadn't taken before; and of a message that counts as
 /// delivered the other end took all.
 pub fn a_packet_is_taken_rightly()
-    ensures { (x y : Side) (first : Stamped) (there back : List Stamped)
+    ensures { (x y : Side) (first : Parcel) (there back : List Parcel)
         → Cable x y (first ∷ there) back → TakesOne x y first there back }
 {}
 
 /// A piece that waits may go again at any time.
 pub fn a_piece_may_go_again()
-    ensures { (x y : Side) (there back : List Stamped) → Cable x y there back
+    ensures { (x y : Side) (there back : List Parcel) → Cable x y there back
         → SaysAgain x y there back }
 {}
 
 /// An end may begin a message where both messages before it were taken whole and none of its pieces
 /// waits, under another transaction than the one before.
 pub fn a_message_may_begin()
-    ensures { (x y : Side) (there back : List Stamped) (id : ℕ) (message : List ℕ)
+    ensures { (x y : Side) (there back : List Parcel) (id : ℕ) (message : List ℕ)
         → Cable x y there back → IsOver x y → IsOver y x → waiting y.end.sender ≡ None
         → length message ≤ 65535 → (y.count.begun ≡ 0) ⊎ ¬ (y.end.sender.id ≡ id)
         → BeginsOne x y id message there back }
@@ -45,7 +45,7 @@ pub fn a_message_may_begin()
 
 /// An end may await another message where it took the one before it whole.
 pub fn a_message_may_be_awaited()
-    ensures { (x y : Side) (there back : List Stamped) (id : ℕ) → Cable x y there back → IsOver x y
+    ensures { (x y : Side) (there back : List Parcel) (id : ℕ) → Cable x y there back → IsOver x y
         → Cable x (record { end = end_expects y.end id; count = y.count }) there back }
 {}
 
@@ -53,7 +53,7 @@ pub fn a_message_may_be_awaited()
 /// had begun when it said it: no piece is taken twice, and none is taken for another, however often
 /// transactions come round.
 pub fn a_repeat_is_known()
-    ensures { (x y : Side) (first : Stamped) (there back : List Stamped) (id : ℕ)
+    ensures { (x y : Side) (first : Parcel) (there back : List Parcel) (id : ℕ)
         (fragment : FragmentValue) → Cable x y (first ∷ there) back
         → arrival_of first.packet ≡ Data id fragment
         → (y.end.receiver.last ≡ Some (key_of id fragment)) ↔ (first.at.begun ≡ y.count.taken) }
@@ -61,7 +61,7 @@ pub fn a_repeat_is_known()
 
 /// An acknowledgement with the key of the piece that waits was said by an end that had taken that piece.
 pub fn an_acknowledgement_is_for_its_piece()
-    ensures { (x y : Side) (first : Stamped) (there back : List Stamped) (key : Key)
+    ensures { (x y : Side) (first : Parcel) (there back : List Parcel) (key : Key)
         → Cable x y (first ∷ there) back → arrival_of first.packet ≡ Ack key
         → waiting_key y.end.sender ≡ Some key → first.at.taken ≡ y.count.begun }
 {}

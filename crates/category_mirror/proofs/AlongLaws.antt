@@ -8,7 +8,7 @@ use Rattle.palm_device.specs.Devices.{Device}
 use Rattle.dlp_commands.specs.Changes.{changes, is_change}
 use Rattle.dlp_commands.specs.DeviceRuns.{Ran, exchanged}
 use Rattle.dlp_commands.specs.DeviceSteps.{DeviceStep, function_number, outcome}
-use Rattle.dlp_commands.specs.Reached.{Tried}
+use Rattle.dlp_commands.specs.Reached.{Trial}
 use Rattle.dlp_commands.proofs.StepLaws.{changes-text}
 use Rattle.dlp_requests.specs.RequestTexts.{IsRequest}
 use Rattle.desktop_session.specs.Acts.{Act, AsksNoId, acted, text}
@@ -117,7 +117,7 @@ acts_one : (one : Act) (old new : Device) (reply : List ℕ) → IsRequest one.a
     → (acted one old).1 ≡ new
 unfolding text acted
 acts_one one old new reply fits fixed step =
-    ap (λ (r : Tried). (outcome old (function_number one.asks) r).1) (tried_fixed one.given step.free old one.asks fixed)
+    ap (λ (r : Trial). (outcome old (function_number one.asks) r).1) (tried_fixed one.given step.free old one.asks fixed)
     ∙ ap (λ (p : List ℕ × Device). p.1) (step_tried old new one.asks reply fits step)
 
 -- a request whose answer is its own

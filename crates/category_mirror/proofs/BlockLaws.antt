@@ -8,7 +8,7 @@ use Rattle.std.specs.Option.{option_map}
 use Rattle.category_tables.specs.declared.table.Table.{Table}
 use Rattle.category_tables.specs.Merges.{merged_table, places_of}
 use Rattle.category_tables.specs.Owned.{is_owned}
-use Rattle.category_tables.specs.Tables.{EntryValue, IsTable, TableValue, entry_at, is_used, no_entry, table_value}
+use Rattle.category_tables.specs.Tables.{CategoryValue, IsTable, TableValue, entry_at, is_used, no_entry, table_value}
 use Rattle.category_tables.specs.Texts.{HoldsTable, table_in}
 use Rattle.category_tables.proofs.MergedLaws.{merged_is_table, places_used}
 use Rattle.category_tables.proofs.OwnedLaws.{owned_table, table_owned}
@@ -76,7 +76,7 @@ pub table-at : (head : List ℕ) → HoldsTable head → head_table head ≡ Som
 table-at head is = rw (is-holds head is) refl
 
 -- a number that is used is one of the 16
-used_small : (entries : List EntryValue) (k : ℕ) → length entries ≡ 16 → is_used entries k ≡ true → k < 16
+used_small : (entries : List CategoryValue) (k : ℕ) → length entries ≡ 16 → is_used entries k ≡ true → k < 16
 used_small entries k whole used = by_size (nat_lt k 16) refl
   where
     by_size : (b : Bool) → nat_lt k 16 ≡ b → k < 16

@@ -6,7 +6,7 @@ use Rattle.dlp_replies.specs.declared.fault.ReplyFault.{ReplyFault}
 use Rattle.desktop_session.specs.Answers.{block_of, or_none}
 use Rattle.desktop_session.specs.Requests.{reading_app}
 use Rattle.desktop_session.specs.Says.{grown, sent}
-use Rattle.session_parts.proofs.LinkWords.{Act, Asked, LinkFault, SessionFault, SessionValue, Talk, acted, answer_by, said_in, saying}
+use Rattle.session_parts.proofs.LinkWords.{Act, AsksOne, LinkFault, SessionFault, SessionValue, Talk, acted, answer_by, said_in, saying}
 use Rattle.slow_mirror.specs.Asks.{Asks}
 use Rattle.slow_mirror.proofs.AskLaws.{asked_part, asks_then, none_said, one_said, said_all, said_part}
 use Rattle.category_mirror.specs.Blocks.{MergeValue, blocks_merge, written_block}
@@ -59,19 +59,19 @@ module _ {L A : Type 0} {talk : L → Option Talk} {since : L → L → Type 0} 
 
   -- an act, answered, and then others
   pub asks_behind : (since_more : (a b c : L) → since a b → since b c → since a c) (one : Act) (rest : List Act) {now new : SessionValue L}
-      {answer : Result A SessionFault} → fault now.link ≡ None → Asked talk since fault downs one old now → Asks talk since fault downs rest now new answer
+      {answer : Result A SessionFault} → fault now.link ≡ None → AsksOne talk since fault downs one old now → Asks talk since fault downs rest now new answer
       → Asks talk since fault downs (one ∷ rest) old new answer
   asks_behind since_more one rest {now} {new} {answer} none asked asks =
       asks_then talk since fault downs since_more (one ∷ []) rest old now new answer (one_said talk since fault downs one old now none asked) asks
 
   -- an act was answered, and then no more was asked for
   pub asked_only : (one : Act) (rest : List Act) {now : SessionValue L} (cause : SessionFault) → fault now.link ≡ None
-      → Asked talk since fault downs one old now → Asks {A = A} talk since fault downs (one ∷ rest) old now (Err cause)
+      → AsksOne talk since fault downs one old now → Asks {A = A} talk since fault downs (one ∷ rest) old now (Err cause)
   asked_only one rest {now} cause none asked = said_part rest cause (one_said talk since fault downs one old now none asked)
 
   -- it was refused
   pub unread_asks : (rows_app : Option (List ℕ)) (handle : ℕ) {new : SessionValue L} (cause : SessionFault)
-      → Asked talk since fault downs (reading_app handle) old new → Asks {A = A} talk since fault downs (filed_under rows_app (talk old.link) handle) old new (Err cause)
+      → AsksOne talk since fault downs (reading_app handle) old new → Asks {A = A} talk since fault downs (filed_under rows_app (talk old.link) handle) old new (Err cause)
   unfolding filed_under
   unread_asks rows_app handle {new} cause asked = asked_part talk since fault downs (reading_app handle) _ old new cause asked
 

@@ -8,13 +8,13 @@ use Rattle.std.proofs.Common.{length, length-append, map, replicate, take, set}
 use Rattle.std.specs.Prelude.{Option, None, Some, position}
 use Rattle.std.specs.List.{flat_map, range_with_len}
 use Rattle.palm_records.specs.Strings.{first_zero, until_zero}
-use Rattle.category_tables.specs.Tables.{EntryValue, IsTable, TableValue, entry_at, is_renamed, is_used, no_entry}
+use Rattle.category_tables.specs.Tables.{CategoryValue, IsTable, TableValue, entry_at, is_renamed, is_used, no_entry}
 use Rattle.category_tables.specs.Merges.{MergingValue, begun, by_id, by_label, filled, is_new, joined, kept_at, labelled, merged_table, merging, rounds}
 use Rattle.category_tables.specs.Texts.{HasText, HoldsTable, IsLabel, entry_in, id_of, label_bytes, label_text, table_in, table_text}
 use Rattle.category_tables.proofs.MergedLaws.{merged_is_table}
 
 -- each entry has a label that can be written
-abbrev pub AreLabels : List EntryValue → Type 0
+abbrev pub AreLabels : List CategoryValue → Type 0
 AreLabels entries = (k : ℕ) → IsLabel (entry_at entries k)
 
 empty_label : IsLabel no_entry
@@ -34,12 +34,12 @@ until-whole bytes = by (first_zero bytes) refl
     by None is = rw is is
     by (Some place) is = rw is (none_before bytes place is)
 
-mapped_labels : (f : ℕ → EntryValue) (ns : List ℕ) → ((n : ℕ) → IsLabel (f n)) → AreLabels (map f ns)
+mapped_labels : (f : ℕ → CategoryValue) (ns : List ℕ) → ((n : ℕ) → IsLabel (f n)) → AreLabels (map f ns)
 mapped_labels f [] each k = empty_label
 mapped_labels f (n ∷ ns) each zero = each n
 mapped_labels f (n ∷ ns) each (suc k) = mapped_labels f ns each k
 
-range_labels : (f : ℕ → EntryValue) (begin count : ℕ) → ((n : ℕ) → n < begin + count → IsLabel (f n)) → AreLabels (map f (range_with_len begin count))
+range_labels : (f : ℕ → CategoryValue) (begin count : ℕ) → ((n : ℕ) → n < begin + count → IsLabel (f n)) → AreLabels (map f (range_with_len begin count))
 range_labels f begin zero each k = empty_label
 range_labels f begin (suc count) each zero = each begin (omega arith)
 range_labels f begin (suc count) each (suc k) = range_labels f (begin + 1) count (λ n less. each n (omega arith)) k
@@ -50,14 +50,14 @@ read_labels bytes is = range_labels (entry_in bytes) 0 16 (λ n less. record { s
 
 -- ---- kept by a merge
 
-set_labels : (entries : List EntryValue) (i : ℕ) (entry : EntryValue) → AreLabels entries → IsLabel entry → AreLabels (set entries i entry)
+set_labels : (entries : List CategoryValue) (i : ℕ) (entry : CategoryValue) → AreLabels entries → IsLabel entry → AreLabels (set entries i entry)
 set_labels [] i entry all is k = empty_label
 set_labels (x ∷ xs) zero entry all is zero = is
 set_labels (x ∷ xs) zero entry all is (suc k) = all (suc k)
 set_labels (x ∷ xs) (suc i) entry all is zero = all zero
 set_labels (x ∷ xs) (suc i) entry all is (suc k) = set_labels xs i entry (λ n. all (suc n)) is k
 
-kept_label : (entries : List EntryValue) → AreLabels entries → (k : ℕ) → IsLabel (kept_at entries k)
+kept_label : (entries : List CategoryValue) → AreLabels entries → (k : ℕ) → IsLabel (kept_at entries k)
 kept_label entries all k = by (is_used entries k) refl
   where
     by : (b : Bool) → is_used entries k ≡ b → IsLabel (kept_at entries k)
@@ -128,11 +128,11 @@ merged_text handheld desktop one other labels more = record {
 
 -- ---- the length of a text
 
-length-label : (entry : EntryValue) → length entry.label < 16 → length (label_text entry) ≡ 16
+length-label : (entry : CategoryValue) → length entry.label < 16 → length (label_text entry) ≡ 16
 length-label entry less =
     omega (arith, length-append entry.label (replicate {A = ℕ} (16 - length entry.label) 0), length-replicate {A = ℕ} (16 - length entry.label) 0)
 
-length-labels : (entries : List EntryValue) → AreLabels entries → length (flat_map label_text entries) ≡ 16 * length entries
+length-labels : (entries : List CategoryValue) → AreLabels entries → length (flat_map label_text entries) ≡ 16 * length entries
 length-labels [] are = refl
 length-labels (entry ∷ entries) are =
     let whole = length-label entry (are 0).short in

@@ -15,7 +15,7 @@ use Rattle.dlp_replies.specs.declared.fault.ReplyFault.{ReplyFault}
 use Rattle.palm_device.specs.Devices.{Device}
 use Rattle.pdb_values.specs.declared.head.DbHead.{DbHead}
 use Rattle.desk_store.specs.Desks.{place_of}
-use Rattle.desktop_session.specs.Greetings.{AsksUser, Greeted, HasSlot, begun_by, user_by, user_with}
+use Rattle.desktop_session.specs.Greetings.{AsksUser, AnswersGreeting, HasSlot, begun_by, user_by, user_with}
 use Rattle.desktop_session.specs.Lasts.{IsByLastReply}
 use Rattle.desktop_session.specs.Lists.{has_more, heads_listed, list_reply, listings}
 use Rattle.desktop_session.specs.declared.fault.SessionFault.TheVariants as session
@@ -28,7 +28,7 @@ use Rattle.session_parts.specs.Rests.{IsAtRest}
 use Rattle.session_parts.specs.declared.meeting.Met.{Met}
 use Rattle.session_parts.specs.declared.stop.Stop.TheVariants as stop
 use Rattle.session_parts.proofs.CauseLaws.{later_by, later_said}
-use Rattle.session_parts.proofs.LinkWords.{Act, Does, Halted, IsProper, LinkFault, SessionFault, Stops, Talk, acted, device_after, listing, no_more, reading_user, said_in, saying, text, told, user_of}
+use Rattle.session_parts.proofs.LinkWords.{Act, Does, Halted, IsTellable, LinkFault, SessionFault, Stops, Talk, acted, device_after, listing, no_more, reading_user, said_in, saying, text, told, user_of}
 use Rattle.session_parts.proofs.MeetLaws.{greeted_slot, seated_with}
 use Rattle.session_parts.proofs.RestLaws.{after-append, greeting_same, listings_same}
 use Rattle.session_parts.proofs.StretchLaws.{Leads, Tells, tells_on}
@@ -53,7 +53,7 @@ listings_lead count all few =
     subst (λ n. Leads (listings count) (listings n)) (let same : count + (all - count) ≡ all = omega arith in same) (listings-more count (all - count))
 
 -- no more requests than databases, or one
-few_lists : (device : Device) (count : ℕ) → IsProper device → count ≤ 65536
+few_lists : (device : Device) (count : ℕ) → IsTellable device → count ≤ 65536
     → ((k : ℕ) → k + 1 < count → has_more (list_reply device k) ≡ true) → count ≤ max 1 (length device.databases)
 few_lists device zero proper few more = omega arith
 few_lists device (suc zero) proper few more = omega arith
@@ -70,18 +70,18 @@ told_behind P device told tells holds =
 
 -- ---- the user
 
-user_told : (device : Device) → IsProper device → said_in 0x10 user_of (reply_at 0x10 (acted reading_user device).0) ≡ Ok device.user
+user_told : (device : Device) → IsTellable device → said_in 0x10 user_of (reply_at 0x10 (acted reading_user device).0) ≡ Ok device.user
 unfolding told tried
 user_told device proper = ap (said_in 0x10 user_of) (acted_reads reading_user device proper (act_sayable reading_user.asks device user_fits refl))
 
-user_read : (users : List ℕ) (device : Device) (told : Option Talk) (answer : Result UserInfo SessionFault) → IsProper device
-    → Tells device told → (said : Greeted users false told None answer) → said_in 0x10 user_of (reply_at 0x10 said.first) ≡ Ok device.user
+user_read : (users : List ℕ) (device : Device) (told : Option Talk) (answer : Result UserInfo SessionFault) → IsTellable device
+    → Tells device told → (said : AnswersGreeting users false told None answer) → said_in 0x10 user_of (reply_at 0x10 said.first) ≡ Ok device.user
 user_read users device told answer proper tells said =
     let here : IfSome (Some tells.talk) (λ talk. said.first ≡ (acted reading_user talk.device).0) = rw tells.is at (said.told refl) in
     ap (λ b. said_in 0x10 user_of (reply_at 0x10 b)) (here ∙ ap (λ d. (acted reading_user d).0) tells.same) ∙ user_told device proper
 
-greeted_user : (users : List ℕ) (device : Device) (told : Option Talk) (known : UserInfo) → IsProper device → Tells device told
-    → Greeted users false told None (Ok known) → known ≡ device.user
+greeted_user : (users : List ℕ) (device : Device) (told : Option Talk) (known : UserInfo) → IsTellable device → Tells device told
+    → AnswersGreeting users false told None (Ok known) → known ≡ device.user
 greeted_user users device told known proper tells said =
     let second : Result (Unit {0}) SessionFault = said_in 0x2E no_more (reply_at 0x2E said.second) in
     (seated_with users device.user known (slot_for users device.user.user false) second
@@ -156,16 +156,16 @@ module _ (filing : Filing) where
   pub seated_says : (P : Type 0) (why : SessionFault) → IsOk (seat_of filing) → seat_of filing ≡ Err why → P
   seated_says P why seated is = absurd (let no : IsOk {T = UserInfo} (Err why) = subst IsOk is seated in let never : ⊥ = cc in never)
 
-  module _ {told : Option Talk} (proper : IsProper filing.device) (tells : Tells filing.device told) where
+  module _ {told : Option Talk} (proper : IsTellable filing.device) (tells : Tells filing.device told) where
     seat_told : HasSlot (users_in filing) false told → IsOk (seat_of filing)
     seat_told slot = rw (tells.is, tells.same, user_told filing.device proper) at slot
 
-    pub seat_greeted : {user : UserInfo} → Greeted (users_in filing) false told None (Ok user) → IsOk (seat_of filing)
+    pub seat_greeted : {user : UserInfo} → AnswersGreeting (users_in filing) false told None (Ok user) → IsOk (seat_of filing)
     seat_greeted {user} said = seat_told (greeted_slot (users_in filing) false told user said)
 
     module _ (cause : SessionFault) {why : SessionFault} (unseated : seat_of filing ≡ Err why) where
       -- a user without a slot is the cause, unless the link has a fault
-      greeted_for : (fault_now : Option LinkFault) → Greeted (users_in filing) false told fault_now (Err cause) → StopsFor why (Err (stop.Session cause))
+      greeted_for : (fault_now : Option LinkFault) → AnswersGreeting (users_in filing) false told fault_now (Err cause) → StopsFor why (Err (stop.Session cause))
       greeted_for (Some link.Down) said = inr (inl (ap stop.Session (let same : cause ≡ session.Down = let is = said.is in cc in same)))
       greeted_for (Some link.NoMemory) said = inr (inr (ap stop.Session (let same : cause ≡ session.NoMemory = let is = said.is in cc in same)))
       greeted_for None said =
@@ -176,7 +176,7 @@ module _ (filing : Filing) where
           ∙ ap (λ r. begun_by r second) unseated in
           inl (ap stop.Session (let same : cause ≡ why = cc in same))
 
-      unmet_for : (fault_now : Option LinkFault) → Greeted (users_in filing) false told fault_now (Err cause)
+      unmet_for : (fault_now : Option LinkFault) → AnswersGreeting (users_in filing) false told fault_now (Err cause)
           ⊎ IsUnlisted (users_in filing) false told fault_now cause
           → StopsFor why (Err (stop.Session cause))
       unmet_for fault_now (inl said) = greeted_for fault_now said
@@ -201,7 +201,7 @@ module _ (filing : Filing) where
         rw cause_is (seat, alone why seat none)
     slot_stop slot.Full second read found same is none = absurd (not_full (users_in filing) filing.device.user.user found)
 
-    greeted_stop : (fault_now : Option LinkFault) → fault new ≡ fault_now → Greeted (users_in filing) false (talk old) fault_now (Err cause)
+    greeted_stop : (fault_now : Option LinkFault) → fault new ≡ fault_now → AnswersGreeting (users_in filing) false (talk old) fault_now (Err cause)
         → IsFilingStop talk fault filing old new (stop.Session cause)
     greeted_stop (Some now) is said =
         later_stop talk fault filing old new cause
@@ -246,7 +246,7 @@ module _ (filing : Filing) where
     asks_alone {why} unseated (inr slot) = seated_says _ why (seat_told rests.proper tells slot) unseated
 
     pub met_stop : {new : L} (cause : SessionFault) → AsksUser talk since fault downs old new ⊎ HasSlot (users_in filing) false (talk old)
-        → Greeted (users_in filing) false (talk old) (fault new) (Err cause) ⊎ IsUnlisted (users_in filing) false (talk old) (fault new) cause
+        → AnswersGreeting (users_in filing) false (talk old) (fault new) (Err cause) ⊎ IsUnlisted (users_in filing) false (talk old) (fault new) cause
         → IsByLastReply (talk new) cause → IsFilingStop talk fault filing old new (stop.Session cause)
     met_stop {new} cause asks (inl said) last =
         greeted_stop talk fault old new rests tells cause (λ why is none. (asks_alone is asks).does none) last (fault new) refl said
@@ -256,7 +256,7 @@ module _ (filing : Filing) where
     -- and what it stops for then
     pub unmet_stops : {new : L} (cause : SessionFault) (why : SessionFault) → seat_of filing ≡ Err why
         → AsksUser talk since fault downs old new ⊎ HasSlot (users_in filing) false (talk old)
-        → Greeted (users_in filing) false (talk old) (fault new) (Err cause) ⊎ IsUnlisted (users_in filing) false (talk old) (fault new) cause
+        → AnswersGreeting (users_in filing) false (talk old) (fault new) (Err cause) ⊎ IsUnlisted (users_in filing) false (talk old) (fault new) cause
         → Stops talk since fault downs (text reading_user ∷ []) old new × StopsFor why (Err (stop.Session cause))
     unmet_stops {new} cause why unseated asks by =
         ((asks_alone unseated asks).stops, unmet_for rests.proper tells cause unseated (fault new) by)

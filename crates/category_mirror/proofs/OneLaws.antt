@@ -20,7 +20,7 @@ use Rattle.desktop_session.specs.Acts.{Act, AsksNoId, acted}
 use Rattle.desktop_session.specs.Answers.{block_of, or_none, said_in}
 use Rattle.desktop_session.specs.Orders.{AreInOrder, CanOpen, IsPossible}
 use Rattle.desktop_session.specs.Requests.{closing, opening, reading_app, writing_app}
-use Rattle.desktop_session.specs.Tellings.{AreSayable, IsProper, IsSayable, device_after, told}
+use Rattle.desktop_session.specs.Tellings.{AreSayable, IsTellable, IsSayable, device_after, told}
 use Rattle.desktop_session.proofs.ChangeRows.{row_does}
 use Rattle.desktop_session.proofs.GrowLaws.{take_whole}
 use Rattle.desktop_session.proofs.RequestFits.{app_fits, close_fits, open_fits, write_app_fits}
@@ -65,8 +65,8 @@ goes_then (x ∷ xs) ys {old} {mid} {new} first second =
 pub goes_to : {acts : List Act} {old mid new : Device} → Goes acts old mid → mid ≡ new → Goes acts old new
 goes_to goes is = record { order = goes.order; sayable = goes.sayable; fixed = goes.fixed; after = goes.after ∙ is }
 
-pub goes_proper : {acts : List Act} {old new : Device} → Goes acts old new → IsProper old → IsProper new
-goes_proper {acts} {old} goes proper = subst IsProper goes.after (after_proper acts old proper goes.sayable)
+pub goes_proper : {acts : List Act} {old new : Device} → Goes acts old new → IsTellable old → IsTellable new
+goes_proper {acts} {old} goes proper = subst IsTellable goes.after (after_proper acts old proper goes.sayable)
 
 -- ---- one database
 
@@ -106,7 +106,7 @@ module _ (device : Device) (rests : IsAtRest device) (name : List ℕ) (database
   pub opens : (acted (opening name) device).1 ≡ here
   opens = opens_does device name can
 
-  proper_here : IsProper here
+  proper_here : IsTellable here
   proper_here = opened_proper device name rests.proper named can
 
   abbrev base : Base

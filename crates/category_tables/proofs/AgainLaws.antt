@@ -5,7 +5,7 @@ use Rattle.std.proofs.Math.ListN.{set}
 use Rattle.std.proofs.lemmas.Grind.{common_steps}
 use Rattle.std.proofs.lemmas.Bool.Decides.{nat_tests}
 use Rattle.std.proofs.lemmas.List.{ext_get_or, length-set, set-get_or}
-use Rattle.category_tables.specs.Tables.{EntryValue, TableValue, entry_at, is_renamed, is_used, no_entry}
+use Rattle.category_tables.specs.Tables.{CategoryValue, TableValue, entry_at, is_renamed, is_used, no_entry}
 use Rattle.category_tables.specs.Merges.{MergingValue, begun, by_id, by_label, is_new, joined, kept, labelled, merging, of_id}
 use Rattle.category_tables.specs.Merges.{relabelled, rounds, with_label}
 use Rattle.category_tables.proofs.Settled.{AreSettled, IsHomeless, IsLabelled, IsSettled, IsThere, id_at, label_at}
@@ -17,15 +17,15 @@ or_zero None = 0
 or_zero (Some p) = p
 
 -- where its id stands
-abbrev place_by_id : List EntryValue → TableValue → ℕ → ℕ
+abbrev place_by_id : List CategoryValue → TableValue → ℕ → ℕ
 place_by_id entries desktop j = cond (is_used desktop.entries j) (or_zero (of_id entries (id_at desktop j))) 0
 
 -- the label that a renamed number would write stands there already
-abbrev HasLabel : List EntryValue → TableValue → ℕ → Type 0
+abbrev HasLabel : List CategoryValue → TableValue → ℕ → Type 0
 HasLabel entries desktop j = (p : ℕ) → is_used desktop.entries j ≡ true → of_id entries (id_at desktop j) ≡ Some p → is_renamed desktop j ≡ true
     → (entry_at entries p).label ≡ label_at desktop j
 
-same_label : (entries : List EntryValue) (desktop : TableValue) (j p : ℕ) → (is_renamed desktop j ≡ true → (entry_at entries p).label ≡ label_at desktop j)
+same_label : (entries : List CategoryValue) (desktop : TableValue) (j p : ℕ) → (is_renamed desktop j ≡ true → (entry_at entries p).label ≡ label_at desktop j)
     → with_label desktop j p entries ≡ entries
 same_label entries desktop j p same = by_flag (is_renamed desktop j) refl
   where
@@ -35,13 +35,13 @@ same_label entries desktop j p same = by_flag (is_renamed desktop j) refl
     by_flag false e = rw e refl
 
 -- what a round leaves as it is, and the place that it gives
-pub record Stays (entries : List EntryValue) (j place : ℕ) (old new : MergingValue) : Type 0 where
+pub record Stays (entries : List CategoryValue) (j place : ℕ) (old new : MergingValue) : Type 0 where
   pub same : new.entries ≡ entries
   pub whole : length new.places ≡ 16
   pub here : get_or new.places j 0 ≡ place
   pub others : (k : ℕ) → k ≢ j → get_or new.places k 0 ≡ get_or old.places k 0
 
-unmoved : (entries : List EntryValue) (j : ℕ) (m : MergingValue) → m.entries ≡ entries → length m.places ≡ 16 → Stays entries j (get_or m.places j 0) m m
+unmoved : (entries : List CategoryValue) (j : ℕ) (m : MergingValue) → m.entries ≡ entries → length m.places ≡ 16 → Stays entries j (get_or m.places j 0) m m
 unmoved entries j m are whole = record { same = are; whole = whole; here = refl; others = λ k ne. refl }
 
 by_id_stays : (t desktop : TableValue) (j : ℕ) (m : MergingValue) → HasLabel t.entries desktop j → j < 16 → m.entries ≡ t.entries → length m.places ≡ 16
@@ -121,7 +121,7 @@ by_label_stays t desktop places j m settled some few are whole placed = by_use (
 
 -- ---- all numbers
 
-has_label : (entries : List EntryValue) (desktop : TableValue) (places : List ℕ) (j : ℕ) → AreSettled entries desktop places → 1 ≤ j → j < 16
+has_label : (entries : List CategoryValue) (desktop : TableValue) (places : List ℕ) (j : ℕ) → AreSettled entries desktop places → 1 ≤ j → j < 16
     → HasLabel entries desktop j
 has_label entries desktop places j settled some few p used at renamed = of_settled (settled.used j some few used)
   where
@@ -135,7 +135,7 @@ has_label entries desktop places j settled some few p used at renamed = of_settl
     of_settled (inr (inr homeless)) = let no = sym homeless.id ∙ at in absurd cc
 
 -- the numbers up to this one have these places, and those behind it the old ones
-pub record AreDone (entries : List EntryValue) (k : ℕ) (given before : ℕ → ℕ) (m : MergingValue) : Type 0 where
+pub record AreDone (entries : List CategoryValue) (k : ℕ) (given before : ℕ → ℕ) (m : MergingValue) : Type 0 where
   pub same : m.entries ≡ entries
   pub whole : length m.places ≡ 16
   pub first : get_or m.places 0 0 ≡ 0
@@ -143,7 +143,7 @@ pub record AreDone (entries : List EntryValue) (k : ℕ) (given before : ℕ →
   pub left : (j : ℕ) → k < j → j < 16 → get_or m.places j 0 ≡ before j
 
 -- one number more
-one_more : (entries : List EntryValue) (k : ℕ) (given before : ℕ → ℕ) (old new : MergingValue) → k + 1 < 16 → AreDone entries k given before old
+one_more : (entries : List CategoryValue) (k : ℕ) (given before : ℕ → ℕ) (old new : MergingValue) → k + 1 < 16 → AreDone entries k given before old
     → Stays entries (suc k) (given (suc k)) old new → AreDone entries (suc k) given before new
 one_more entries k given before old new few done stays = record {
   same = stays.same;
@@ -194,7 +194,7 @@ by_labels t desktop places (suc k) m settled few begun =
     one_more t.entries k (λ j. get_or places j 0) (place_by_id t.entries desktop) _ _ (omega arith) done
     (by_label_stays t desktop places (suc k) _ settled (omega arith) few done.same done.whole (done.left (suc k) (omega arith) few))
 
-of_parts : (entries : List EntryValue) (places : List ℕ) (m : MergingValue) → m.entries ≡ entries → m.places ≡ places → m ≡ record { entries = entries; places = places }
+of_parts : (entries : List CategoryValue) (places : List ℕ) (m : MergingValue) → m.entries ≡ entries → m.places ≡ places → m ≡ record { entries = entries; places = places }
 of_parts entries places m e f = rw (← e, ← f) refl
 
 -- a settled table stays, and so do the places

@@ -3,7 +3,7 @@ use Rattle.std.proofs.Common.{arith, ◌≡◌, ◌∙◌, ap, refl, sym, ℕ, �
 use Rattle.std.proofs.Common.{Bool, true, false, List, Option, None, Some, get_or, length, replicate}
 use Rattle.std.proofs.lemmas.Grind.{common_steps}
 use Rattle.std.proofs.lemmas.List.FromFn.{get_or-map-range_with_len, length-map-range_with_len}
-use Rattle.category_tables.specs.Tables.{EntryValue, TableValue, entry_at, has_label, is_renamed, is_used, no_entry}
+use Rattle.category_tables.specs.Tables.{CategoryValue, TableValue, entry_at, has_label, is_renamed, is_used, no_entry}
 use Rattle.category_tables.specs.Merges.{MergingValue, begun, kept, kept_at, number_where, of_id}
 use Rattle.category_tables.proofs.FoundLaws.{number_found, number_is, number_none}
 use Rattle.category_tables.proofs.OwnedLaws.{bears, labelled_used}
@@ -11,7 +11,7 @@ use Rattle.category_tables.proofs.Settled.{id_at, label_at}
 
 -- ---- lists in which the same is found
 
-pub number_where-same : (p : EntryValue → Bool) (xs ys : List EntryValue) → length xs ≡ length ys
+pub number_where-same : (p : CategoryValue → Bool) (xs ys : List CategoryValue) → length xs ≡ length ys
     → ((k : ℕ) → 1 ≤ k → k < length ys → p (entry_at xs k) ≡ p (entry_at ys k)) → number_where p xs ≡ number_where p ys
 number_where-same p xs ys whole same = by_found (number_where p ys) refl
   where
@@ -30,12 +30,12 @@ number_where-same p xs ys whole same = by_found (number_where p ys) refl
         (λ k some below. same k some (omega (arith, is.less)) ∙ is.before k some below)
 
 -- the same entries from number 1 on have labels, and the same ids
-pub record HasSameIds (entries others : List EntryValue) : Type 0 where
+pub record HasSameIds (entries others : List CategoryValue) : Type 0 where
   pub whole : length entries ≡ 16
   pub label : (k : ℕ) → 1 ≤ k → k < 16 → has_label (entry_at entries k) ≡ has_label (entry_at others k)
   pub id : (k : ℕ) → 1 ≤ k → k < 16 → has_label (entry_at others k) ≡ true → (entry_at entries k).id ≡ (entry_at others k).id
 
-bears_same : (entry other : EntryValue) (id : ℕ) → has_label entry ≡ has_label other → (has_label other ≡ true → entry.id ≡ other.id)
+bears_same : (entry other : CategoryValue) (id : ℕ) → has_label entry ≡ has_label other → (has_label other ≡ true → entry.id ≡ other.id)
     → bears id entry ≡ bears id other
 bears_same entry other id label ids = by_label (has_label other) refl
   where
@@ -43,7 +43,7 @@ bears_same entry other id label ids = by_label (has_label other) refl
     by_label true e = rw (label, e, ids e) refl
     by_label false e = rw (label, e) refl
 
-pub of_id-same : (entries others : List EntryValue) (id : ℕ) → HasSameIds entries others → length others ≡ 16 → of_id entries id ≡ of_id others id
+pub of_id-same : (entries others : List CategoryValue) (id : ℕ) → HasSameIds entries others → length others ≡ 16 → of_id entries id ≡ of_id others id
 unfolding of_id
 of_id-same entries others id same whole =
     number_where-same (bears id) entries others (same.whole ∙ sym whole)
@@ -53,7 +53,7 @@ of_id-same entries others id same whole =
 -- ---- what the first round leaves
 
 -- this number goes where its id stands, and where the desktop renamed it, its label stands there
-pub record IsJoined (entries : List EntryValue) (desktop : TableValue) (j p place : ℕ) : Type 0 where
+pub record IsJoined (entries : List CategoryValue) (desktop : TableValue) (j p place : ℕ) : Type 0 where
   pub place_is : place ≡ p
   pub label : is_renamed desktop j ≡ true → (entry_at entries p).label ≡ label_at desktop j
 
@@ -70,7 +70,7 @@ pub record AreJoined (handheld desktop : TableValue) (k : ℕ) (m : MergingValue
 
 -- ---- the beginning
 
-kept-at : (entries : List EntryValue) (k : ℕ) → k < 16 → entry_at (kept entries) k ≡ kept_at entries k
+kept-at : (entries : List CategoryValue) (k : ℕ) → k < 16 → entry_at (kept entries) k ≡ kept_at entries k
 kept-at entries k less = get_or-map-range_with_len (kept_at entries) 0 16 k k no_entry less (omega arith)
 
 pub begun_joined : (handheld desktop : TableValue) → AreJoined handheld desktop 0 (begun handheld)
@@ -85,7 +85,7 @@ begun_joined handheld desktop = record {
   new = λ j some less none. zeros j;
 }
   where
-    es : List EntryValue
+    es : List CategoryValue
     es = handheld.entries
 
     zeros : (j : ℕ) → get_or (replicate {A = ℕ} 16 0) j 0 ≡ 0
@@ -101,7 +101,7 @@ begun_joined handheld desktop = record {
     id : (k : ℕ) → 1 ≤ k → k < 16 → has_label (entry_at es k) ≡ true → (entry_at (kept es) k).id ≡ (entry_at es k).id
     id k some few labelled =
         let used = labelled_used es k some ∙ labelled in
-        ap (λ (e : EntryValue). e.id) (kept-at es k few) ∙ rw used refl
+        ap (λ (e : CategoryValue). e.id) (kept-at es k few) ∙ rw used refl
 
     of_clean : (k : ℕ) → (b : Bool) → is_used es k ≡ b → 1 ≤ k → has_label (kept_at es k) ≡ false → kept_at es k ≡ no_entry
     of_clean k true e some none =

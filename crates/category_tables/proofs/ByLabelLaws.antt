@@ -6,7 +6,7 @@ use Rattle.std.proofs.lemmas.Bool.Decides.{nat_tests}
 use Rattle.std.proofs.lemmas.List.{length-set}
 use Rattle.std.proofs.lemmas.Slice.Eq.{bytes_eq-Decides}
 use Rattle.std.specs.Str.{bytes_eq}
-use Rattle.category_tables.specs.Tables.{EntryValue, IsTable, TableValue, entry_at, has_label, is_used, no_entry}
+use Rattle.category_tables.specs.Tables.{CategoryValue, IsTable, TableValue, entry_at, has_label, is_used, no_entry}
 use Rattle.category_tables.specs.Merges.{MergingValue, by_label, filled, is_new, labelled, merging, of_id, of_label, rounds, unused}
 use Rattle.category_tables.proofs.ByIdLaws.{AreJoined, HasSameIds, of_id-same}
 use Rattle.category_tables.proofs.FoundLaws.{number_none}
@@ -16,7 +16,7 @@ use Rattle.category_tables.proofs.SetLaws.{IsFree, free_at, of_id-new, of_id-set
 use Rattle.category_tables.proofs.Settled.{IsSettled, IsThere, id_at, label_at}
 
 -- the entries alone
-abbrev pub table_with : List EntryValue → TableValue
+abbrev pub table_with : List CategoryValue → TableValue
 table_with entries = record { flags = 0; entries = entries; last = 0 }
 
 -- up to this number all stand where the places say
@@ -108,7 +108,7 @@ pub same_bytes : (xs ys : List ℕ) → bytes_eq xs ys ≡ true → xs ≡ ys
 same_bytes xs ys e = grind (arith, bytes_eq-Decides xs ys)
 
 -- no label is that of an entry without one
-not_same : (entry other : EntryValue) → has_label entry ≡ false → has_label other ≡ true → bytes_eq entry.label other.label ≡ false
+not_same : (entry other : CategoryValue) → has_label entry ≡ false → has_label other ≡ true → bytes_eq entry.label other.label ≡ false
 not_same entry other none some = by_test (bytes_eq entry.label other.label) refl
   where
     by_test : (b : Bool) → bytes_eq entry.label other.label ≡ b → b ≡ false
@@ -118,7 +118,7 @@ not_same entry other none some = by_test (bytes_eq entry.label other.label) refl
     by_test false e = refl
 
 -- what is written, and where: a number's entry, whose id and whose label stood nowhere, into an unused one
-pub record Fills (desktop : TableValue) (j i : ℕ) (entries : List EntryValue) : Type 0 where
+pub record Fills (desktop : TableValue) (j i : ℕ) (entries : List CategoryValue) : Type 0 where
   pub some : 1 ≤ j
   pub few : j < 16
   pub used : is_used desktop.entries j ≡ true
@@ -130,7 +130,7 @@ pub labelled_at : (desktop : TableValue) (j : ℕ) → 1 ≤ j → is_used deskt
 labelled_at desktop j some used = sym (labelled_used desktop.entries j some) ∙ used
 
 -- another id is found as before
-id_still : (desktop : TableValue) (j i k : ℕ) (entries : List EntryValue) → IsTable desktop → Fills desktop j i entries → 1 ≤ k → k < 16
+id_still : (desktop : TableValue) (j i k : ℕ) (entries : List CategoryValue) → IsTable desktop → Fills desktop j i entries → 1 ≤ k → k < 16
     → is_used desktop.entries k ≡ true → k ≢ j → of_id (set entries i (entry_at desktop.entries j)) (id_at desktop k) ≡ of_id entries (id_at desktop k)
 id_still desktop j i k entries is fills some few used ne =
     let free = free_at entries i fills.free in
@@ -140,7 +140,7 @@ id_still desktop j i k entries is fills some few used ne =
     of_id-set entries (id_at desktop k) i (entry_at desktop.entries j) free.some (mine ∙ sym empty)
 
 -- another label is found as before, where it stands
-label_still : (desktop : TableValue) (j i k p : ℕ) (entries : List EntryValue) → Fills desktop j i entries → 1 ≤ k → is_used desktop.entries k ≡ true
+label_still : (desktop : TableValue) (j i k p : ℕ) (entries : List CategoryValue) → Fills desktop j i entries → 1 ≤ k → is_used desktop.entries k ≡ true
     → of_label entries (label_at desktop k) ≡ Some p
     → of_label (set entries i (entry_at desktop.entries j)) (label_at desktop k) ≡ of_label entries (label_at desktop k)
 label_still desktop j i k p entries fills some used at =
@@ -159,7 +159,7 @@ label_still desktop j i k p entries fills some used at =
     empty = not_same (entry_at entries i) (entry_at desktop.entries k) (free_at entries i fills.free).empty (labelled_at desktop k some used)
 
 -- what stood stands
-settled_still : (desktop : TableValue) (j i k place : ℕ) (entries : List EntryValue) → IsTable desktop → Fills desktop j i entries → 1 ≤ k → k < 16
+settled_still : (desktop : TableValue) (j i k place : ℕ) (entries : List CategoryValue) → IsTable desktop → Fills desktop j i entries → 1 ≤ k → k < 16
     → is_used desktop.entries k ≡ true → k ≢ j → IsSettled entries desktop k place → IsSettled (set entries i (entry_at desktop.entries j)) desktop k place
 settled_still desktop j i k place entries is fills some few used ne (inl there) =
     let bears = bears_found entries (id_at desktop k) place there.id in
@@ -167,7 +167,7 @@ settled_still desktop j i k place entries is fills some few used ne (inl there) 
     let apart : place ≢ i = λ same. let no = sym free.empty ∙ ap (λ n. has_label (entry_at entries n)) (sym same) ∙ bears.labelled in cc in
     inl (record {
       id = id_still desktop j i k entries is fills some few used ne ∙ there.id;
-      label = λ renamed. ap (λ (x : EntryValue). x.label) (get_or-set_other entries i place (entry_at desktop.entries j) no_entry apart) ∙ there.label renamed;
+      label = λ renamed. ap (λ (x : CategoryValue). x.label) (get_or-set_other entries i place (entry_at desktop.entries j) no_entry apart) ∙ there.label renamed;
     })
 settled_still desktop j i k place entries is fills some few used ne (inr (inl labelled)) =
     inr (inl (record {
@@ -178,16 +178,16 @@ settled_still desktop j i k place entries is fills some few used ne (inr (inr ho
     let no = sym homeless.full ∙ fills.free in absurd cc
 
 -- the number itself stands there
-settled_now : (desktop : TableValue) (j i : ℕ) (entries : List EntryValue) → Fills desktop j i entries → IsSettled (set entries i (entry_at desktop.entries j)) desktop j i
+settled_now : (desktop : TableValue) (j i : ℕ) (entries : List CategoryValue) → Fills desktop j i entries → IsSettled (set entries i (entry_at desktop.entries j)) desktop j i
 settled_now desktop j i entries fills =
     let free = free_at entries i fills.free in
     inl (record {
       id = of_id-new entries i (entry_at desktop.entries j) free.some free.less (labelled_at desktop j fills.some fills.used) fills.id;
-      label = λ renamed. ap (λ (x : EntryValue). x.label) (get_or-set_same entries i (entry_at desktop.entries j) no_entry free.less);
+      label = λ renamed. ap (λ (x : CategoryValue). x.label) (get_or-set_same entries i (entry_at desktop.entries j) no_entry free.less);
     })
 
 -- ids that differ, and one that none bore
-filled_table : (desktop : TableValue) (j i : ℕ) (entries : List EntryValue) → IsTable desktop → Fills desktop j i entries → IsTable (table_with entries)
+filled_table : (desktop : TableValue) (j i : ℕ) (entries : List CategoryValue) → IsTable desktop → Fills desktop j i entries → IsTable (table_with entries)
     → IsTable (table_with (set entries i (entry_at desktop.entries j)))
 unfolding of_id
 filled_table desktop j i entries is fills table = record {
@@ -196,7 +196,7 @@ filled_table desktop j i entries is fills table = record {
   apart = λ one other some less few used1 used2. apart one other some less few used1 used2 (one == i) refl (other == i) refl;
 }
   where
-    new : EntryValue
+    new : CategoryValue
     new = entry_at desktop.entries j
 
     free : IsFree entries i
@@ -209,7 +209,7 @@ filled_table desktop j i entries is fills table = record {
     here = get_or-set_same entries i new no_entry free.less
 
     still : (k : ℕ) → k ≢ i → is_used (set entries i new) k ≡ true → is_used entries k ≡ true
-    still k ne used = ap (λ (e : EntryValue). (k == 0) || has_label e) (sym (at k ne)) ∙ used
+    still k ne used = ap (λ (e : CategoryValue). (k == 0) || has_label e) (sym (at k ne)) ∙ used
 
     -- an entry that was used has another id
     differs : (k : ℕ) → 1 ≤ k → k < 16 → k ≢ i → is_used (set entries i new) k ≡ true → (entry_at entries k).id ≢ new.id
@@ -222,10 +222,10 @@ filled_table desktop j i entries is fills table = record {
     given : (k : ℕ) → 1 ≤ k → k < 16 → is_used (set entries i new) k ≡ true → (b : Bool) → (k == i) ≡ b → (entry_at (set entries i new) k).id ≢ 0
     given k some few used true e none =
         let same : k ≡ i = grind (arith, nat_tests) in
-        is.given j fills.some fills.few fills.used (ap (λ (x : EntryValue). x.id) (sym here ∙ ap (entry_at (set entries i new)) (sym same)) ∙ none)
+        is.given j fills.some fills.few fills.used (ap (λ (x : CategoryValue). x.id) (sym here ∙ ap (entry_at (set entries i new)) (sym same)) ∙ none)
     given k some few used false e none =
         let ne : k ≢ i = grind (arith, nat_tests) in
-        table.given k some few (still k ne used) (ap (λ (x : EntryValue). x.id) (sym (at k ne)) ∙ none)
+        table.given k some few (still k ne used) (ap (λ (x : CategoryValue). x.id) (sym (at k ne)) ∙ none)
 
     apart : (one other : ℕ) → 1 ≤ one → one < other → other < 16 → is_used (set entries i new) one ≡ true → is_used (set entries i new) other ≡ true
         → (b : Bool) → (one == i) ≡ b → (c : Bool) → (other == i) ≡ c → (entry_at (set entries i new) one).id ≢ (entry_at (set entries i new) other).id
@@ -234,17 +234,17 @@ filled_table desktop j i entries is fills table = record {
         let is1 : one ≡ i = grind (arith, nat_tests) in
         let ne2 : other ≢ i = grind (arith, nat_tests) in
         differs other (omega arith) few ne2 used2
-        (ap (λ (x : EntryValue). x.id) (sym (at other ne2)) ∙ sym same ∙ ap (λ (x : EntryValue). x.id) (ap (entry_at (set entries i new)) is1 ∙ here))
+        (ap (λ (x : CategoryValue). x.id) (sym (at other ne2)) ∙ sym same ∙ ap (λ (x : CategoryValue). x.id) (ap (entry_at (set entries i new)) is1 ∙ here))
     apart one other some less few used1 used2 false e true f same =
         let ne1 : one ≢ i = grind (arith, nat_tests) in
         let is2 : other ≡ i = grind (arith, nat_tests) in
         differs one some (omega arith) ne1 used1
-        (ap (λ (x : EntryValue). x.id) (sym (at one ne1)) ∙ same ∙ ap (λ (x : EntryValue). x.id) (ap (entry_at (set entries i new)) is2 ∙ here))
+        (ap (λ (x : CategoryValue). x.id) (sym (at one ne1)) ∙ same ∙ ap (λ (x : CategoryValue). x.id) (ap (entry_at (set entries i new)) is2 ∙ here))
     apart one other some less few used1 used2 false e false f same =
         let ne1 : one ≢ i = grind (arith, nat_tests) in
         let ne2 : other ≢ i = grind (arith, nat_tests) in
         table.apart one other some less few (still one ne1 used1) (still other ne2 used2)
-        (ap (λ (x : EntryValue). x.id) (sym (at one ne1)) ∙ same ∙ ap (λ (x : EntryValue). x.id) (at other ne2))
+        (ap (λ (x : CategoryValue). x.id) (sym (at one ne1)) ∙ same ∙ ap (λ (x : CategoryValue). x.id) (at other ne2))
 
 -- ---- one number more
 

@@ -6,7 +6,7 @@ use Rattle.std.proofs.lemmas.List.Sums.{fails_before_first, position_or_len_is}
 use Rattle.std.proofs.lemmas.List.Quantifiers.{position-Some}
 use Rattle.std.specs.List.{position, position_or_len}
 use Rattle.std.specs.Option.{option_map}
-use Rattle.category_tables.specs.Tables.{EntryValue, entry_at, no_entry}
+use Rattle.category_tables.specs.Tables.{CategoryValue, entry_at, no_entry}
 use Rattle.category_tables.specs.Merges.{number_where}
 
 -- the first one that passes is found
@@ -25,7 +25,7 @@ position_none p xs d none k less =
     fails_before_first p xs k d (omega arith)
 
 -- the same from number 1 on
-pub number_is : (p : EntryValue → Bool) (entries : List EntryValue) (j : ℕ) → 1 ≤ j → j < length entries → p (entry_at entries j) ≡ true
+pub number_is : (p : CategoryValue → Bool) (entries : List CategoryValue) (j : ℕ) → 1 ≤ j → j < length entries → p (entry_at entries j) ≡ true
     → ((k : ℕ) → 1 ≤ k → k < j → p (entry_at entries k) ≡ false) → number_where p entries ≡ Some j
 unfolding number_where
 number_is p [] j some less passes before = absurd (omega arith)
@@ -34,7 +34,7 @@ number_is p (entry ∷ entries) (suc j) some less passes before =
     ap (option_map suc) (position_is p entries j no_entry (omega arith) passes (λ k below. before (suc k) (omega arith) (omega arith)))
 
 -- what a number that was found says
-pub record IsNumber (p : EntryValue → Bool) (entries : List EntryValue) (j : ℕ) : Type 0 where
+pub record IsNumber (p : CategoryValue → Bool) (entries : List CategoryValue) (j : ℕ) : Type 0 where
   pub some : 1 ≤ j
   pub less : j < length entries
   pub passes : p (entry_at entries j) ≡ true
@@ -48,7 +48,7 @@ not_zero : (found : Option ℕ) → option_map suc found ≡ Some 0 → ⊥
 not_zero None e = cc
 not_zero (Some i) e = grind arith
 
-pub number_found : (p : EntryValue → Bool) (entries : List EntryValue) (j : ℕ) → number_where p entries ≡ Some j → IsNumber p entries j
+pub number_found : (p : CategoryValue → Bool) (entries : List CategoryValue) (j : ℕ) → number_where p entries ≡ Some j → IsNumber p entries j
 unfolding number_where
 number_found p [] j e = absurd cc
 number_found p (entry ∷ entries) zero e = absurd (not_zero (position p entries) e)
@@ -64,7 +64,7 @@ nowhere : (found : Option ℕ) → option_map suc found ≡ None → found ≡ N
 nowhere None e = refl
 nowhere (Some i) e = absurd cc
 
-pub number_none : (p : EntryValue → Bool) (entries : List EntryValue) → number_where p entries ≡ None
+pub number_none : (p : CategoryValue → Bool) (entries : List CategoryValue) → number_where p entries ≡ None
     → (k : ℕ) → 1 ≤ k → k < length entries → p (entry_at entries k) ≡ false
 unfolding number_where
 number_none p [] e k some less = absurd (omega arith)

@@ -5,7 +5,7 @@ use Rattle.std.proofs.Math.ListN.{set}
 use Rattle.std.proofs.lemmas.Bool.{and_parts}
 use Rattle.std.proofs.lemmas.Bool.Decides.{nat_tests}
 use Rattle.std.proofs.lemmas.List.{length-set}
-use Rattle.category_tables.specs.Tables.{EntryValue, IsTable, TableValue, entry_at, has_label, is_renamed, is_used, no_entry}
+use Rattle.category_tables.specs.Tables.{CategoryValue, IsTable, TableValue, entry_at, has_label, is_renamed, is_used, no_entry}
 use Rattle.category_tables.specs.Merges.{MergingValue, begun, by_id, joined, of_id, relabelled, rounds, with_label}
 use Rattle.category_tables.proofs.ByIdLaws.{AreJoined, HasSameIds, IsJoined, begun_joined}
 use Rattle.category_tables.proofs.FoundLaws.{number_found}
@@ -13,13 +13,13 @@ use Rattle.category_tables.proofs.OwnedLaws.{bears, labelled_used}
 use Rattle.category_tables.proofs.Settled.{id_at, label_at}
 
 -- an entry that bears an id
-pub record DoesBear (entries : List EntryValue) (id p : ℕ) : Type 0 where
+pub record DoesBear (entries : List CategoryValue) (id p : ℕ) : Type 0 where
   pub some : 1 ≤ p
   pub less : p < length entries
   pub labelled : has_label (entry_at entries p) ≡ true
   pub id_is : (entry_at entries p).id ≡ id
 
-pub bears_found : (entries : List EntryValue) (id p : ℕ) → of_id entries id ≡ Some p → DoesBear entries id p
+pub bears_found : (entries : List CategoryValue) (id p : ℕ) → of_id entries id ≡ Some p → DoesBear entries id p
 unfolding of_id
 bears_found entries id p e =
     let is = number_found (bears id) entries p e in
@@ -47,7 +47,7 @@ relabelled_joined handheld desktop k p m is few whole used at joined = by_flag (
     there : DoesBear handheld.entries (id_at desktop (suc k)) p
     there = bears_found handheld.entries (id_at desktop (suc k)) p at
 
-    new : EntryValue
+    new : CategoryValue
     new = relabelled (label_at desktop (suc k)) (entry_at m.entries p)
 
     labelled : has_label new ≡ true
@@ -68,10 +68,10 @@ relabelled_joined handheld desktop k p m is few whole used at joined = by_flag (
         → (entry_at (set m.entries p new) i).id ≡ (entry_at handheld.entries i).id
     id i true e some less has =
         let same : i ≡ p = grind (arith, nat_tests) in
-        rw same (ap (λ (e : EntryValue). e.id) (get_or-set_same m.entries p new no_entry within) ∙ joined.ids.id p there.some (omega arith) there.labelled)
+        rw same (ap (λ (e : CategoryValue). e.id) (get_or-set_same m.entries p new no_entry within) ∙ joined.ids.id p there.some (omega arith) there.labelled)
     id i false e some less has =
         let ne : i ≢ p = grind (arith, nat_tests) in
-        ap (λ (e : EntryValue). e.id) (get_or-set_other m.entries p i new no_entry ne) ∙ joined.ids.id i some less has
+        ap (λ (e : CategoryValue). e.id) (get_or-set_other m.entries p i new no_entry ne) ∙ joined.ids.id i some less has
 
     by_flag : (b : Bool) → is_renamed desktop (suc k) ≡ b → HasSameIds (with_label desktop (suc k) p m.entries) handheld.entries
     by_flag true e = rw e (record {
@@ -109,17 +109,17 @@ skipped handheld desktop k m none joined = record {
         joined.done j p some (omega arith) used at
 
 -- an entry that another number's label was written to
-label_kept : (desktop : TableValue) (k p q : ℕ) (entries : List EntryValue) → q ≢ p → entry_at (with_label desktop k p entries) q ≡ entry_at entries q
+label_kept : (desktop : TableValue) (k p q : ℕ) (entries : List CategoryValue) → q ≢ p → entry_at (with_label desktop k p entries) q ≡ entry_at entries q
 label_kept desktop k p q entries ne = by_flag (is_renamed desktop k) refl
   where
     by_flag : (b : Bool) → is_renamed desktop k ≡ b → entry_at (with_label desktop k p entries) q ≡ entry_at entries q
     by_flag true e = rw e (get_or-set_other entries p q (relabelled (label_at desktop k) (entry_at entries p)) no_entry ne)
     by_flag false e = rw e refl
 
-label_written : (desktop : TableValue) (k p : ℕ) (entries : List EntryValue) → p < length entries → is_renamed desktop k ≡ true
+label_written : (desktop : TableValue) (k p : ℕ) (entries : List CategoryValue) → p < length entries → is_renamed desktop k ≡ true
     → (entry_at (with_label desktop k p entries) p).label ≡ label_at desktop k
 label_written desktop k p entries less e =
-    rw e (ap (λ (x : EntryValue). x.label) (get_or-set_same entries p (relabelled (label_at desktop k) (entry_at entries p)) no_entry less))
+    rw e (ap (λ (x : CategoryValue). x.label) (get_or-set_same entries p (relabelled (label_at desktop k) (entry_at entries p)) no_entry less))
 
 put_joined : (handheld desktop : TableValue) (k p : ℕ) (m : MergingValue) → IsTable desktop → k + 1 < 16 → length handheld.entries ≡ 16
     → is_used desktop.entries (suc k) ≡ true → of_id handheld.entries (id_at desktop (suc k)) ≡ Some p → AreJoined handheld desktop k m
@@ -182,7 +182,7 @@ put_joined handheld desktop k p m is few whole used at joined = record {
         let before = joined.done j q some (omega arith) other f in
         record {
           place_is = get_or-set_other m.places (suc k) j p 0 ne ∙ before.place_is;
-          label = λ renamed. ap (λ (x : EntryValue). x.label) (label_kept desktop (suc k) p q m.entries (differs j q ne some most other f)) ∙ before.label renamed;
+          label = λ renamed. ap (λ (x : CategoryValue). x.label) (label_kept desktop (suc k) p q m.entries (differs j q ne some most other f)) ∙ before.label renamed;
         }
 
 -- ---- all numbers

@@ -6,7 +6,7 @@ use Rattle.std.proofs.lemmas.List.FromFn.{fill_by_all, get_or-map-range_with_len
 use Rattle.std.proofs.lemmas.List.Quantifiers.{position-Some}
 use Rattle.std.specs.List.{range_with_len}
 use Rattle.std.specs.Str.{bytes_eq}
-use Rattle.category_tables.specs.Tables.{EntryValue, IsTable, TableValue, entry_at, has_label, is_renamed, is_used, no_entry}
+use Rattle.category_tables.specs.Tables.{CategoryValue, IsTable, TableValue, entry_at, has_label, is_renamed, is_used, no_entry}
 use Rattle.category_tables.specs.Merges.{MergingValue, greatest, kept, kept_at, merged_table, merging, of_id, of_label, places_of}
 use Rattle.category_tables.proofs.AgainLaws.{stays_settled}
 use Rattle.category_tables.proofs.ByLabelLaws.{labelled_at, merged_placed, same_bytes, table_with}
@@ -18,22 +18,22 @@ use Rattle.category_tables.proofs.Settled.{AreSettled, IsMerged, IsSettled, IsTh
 -- ---- the greatest id
 
 -- each is at most this
-abbrev AtMost : ℕ → List EntryValue → Type 0
+abbrev AtMost : ℕ → List CategoryValue → Type 0
 AtMost most [] = Unit {0}
 AtMost most (entry ∷ entries) = (entry.id ≤ most) × AtMost most entries
 
-greatest-above : (last : ℕ) (entries : List EntryValue) → last ≤ greatest last entries
+greatest-above : (last : ℕ) (entries : List CategoryValue) → last ≤ greatest last entries
 unfolding greatest
 greatest-above last [] = omega arith
 greatest-above last (entry ∷ entries) = let above = greatest-above (max last entry.id) entries in omega arith
 
-greatest-most : (last : ℕ) (entries : List EntryValue) → AtMost (greatest last entries) entries
+greatest-most : (last : ℕ) (entries : List CategoryValue) → AtMost (greatest last entries) entries
 unfolding greatest
 greatest-most last [] = tt
 greatest-most last (entry ∷ entries) =
     let above = greatest-above (max last entry.id) entries in (omega arith, greatest-most (max last entry.id) entries)
 
-greatest-same : (last : ℕ) (entries : List EntryValue) → AtMost last entries → greatest last entries ≡ last
+greatest-same : (last : ℕ) (entries : List CategoryValue) → AtMost last entries → greatest last entries ≡ last
 unfolding greatest
 greatest-same last [] most = refl
 greatest-same last (entry ∷ entries) most =
@@ -42,7 +42,7 @@ greatest-same last (entry ∷ entries) most =
 
 -- ---- a merged table
 
-same_table : (table : TableValue) (entries : List EntryValue) → table.entries ≡ entries → IsTable (table_with entries) → IsTable table
+same_table : (table : TableValue) (entries : List CategoryValue) → table.entries ≡ entries → IsTable (table_with entries) → IsTable table
 same_table table entries same is = record {
   whole = rw same is.whole;
   given = rw same is.given;
@@ -55,7 +55,7 @@ merged_is_table handheld desktop one other =
     let placed = merged_placed handheld desktop one other in
     record { whole = placed.table.whole; given = placed.table.given; apart = placed.table.apart }
 
-clean_kept : (entries : List EntryValue) → length entries ≡ 16
+clean_kept : (entries : List CategoryValue) → length entries ≡ 16
     → ((i : ℕ) → 1 ≤ i → i < 16 → has_label (entry_at entries i) ≡ false → entry_at entries i ≡ no_entry) → kept entries ≡ entries
 clean_kept entries whole clean = sym (fill_by_all (kept_at entries) entries 16 no_entry whole (λ k less. by_use k (is_used entries k) refl less))
   where
@@ -162,14 +162,14 @@ own_stays t j is few used =
 
 -- ---- each number goes to one that is used
 
-settled_used : (entries : List EntryValue) (desktop : TableValue) (j p : ℕ) → 1 ≤ j → is_used desktop.entries j ≡ true → IsSettled entries desktop j p
+settled_used : (entries : List CategoryValue) (desktop : TableValue) (j p : ℕ) → 1 ≤ j → is_used desktop.entries j ≡ true → IsSettled entries desktop j p
     → is_used entries p ≡ true
 unfolding of_label
 settled_used entries desktop j p some used (inl there) =
     let bears = bears_found entries (id_at desktop j) p there.id in
     labelled_used entries p bears.some ∙ bears.labelled
 settled_used entries desktop j p some used (inr (inl labelled)) =
-    let at = position-Some (λ (entry : EntryValue). bytes_eq entry.label (label_at desktop j)) entries p no_entry labelled.label in
+    let at = position-Some (λ (entry : CategoryValue). bytes_eq entry.label (label_at desktop j)) entries p no_entry labelled.label in
     let same = same_bytes (entry_at entries p).label (label_at desktop j) at.1 in
     let has = ap (λ (l : List ℕ). not (length l == 0)) same ∙ labelled_at desktop j some used in
     used_where (p == 0) (has_label (entry_at entries p)) has
@@ -215,6 +215,6 @@ swapped_back handheld desktop i j k one other swap some few used =
     let same = swap.entry k some few in
     let there = swapped_within i j k swap.one swap.two some few in
     known_place handheld desktop k (swapped i j k) one other some few used
-    (ap (λ (e : EntryValue). of_id handheld.entries e.id) same
+    (ap (λ (e : CategoryValue). of_id handheld.entries e.id) same
     ∙ own_id handheld (swapped i j k) one there.0 there.1
     (labelled_used handheld.entries (swapped i j k) there.0 ∙ ap has_label (sym same) ∙ sym (labelled_used desktop.entries k some) ∙ used))

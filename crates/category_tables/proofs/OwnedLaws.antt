@@ -3,23 +3,23 @@ use Rattle.std.proofs.Common.{arith, ◌≡◌, ◌≢◌, ◌∙◌, ap, refl, 
 use Rattle.std.proofs.Common.{Option, None, Some, not}
 use Rattle.std.proofs.lemmas.Bool.{and_parts}
 use Rattle.std.proofs.lemmas.Bool.Decides.{nat_tests}
-use Rattle.category_tables.specs.Tables.{EntryValue, IsTable, TableValue, entry_at, has_label, is_used}
+use Rattle.category_tables.specs.Tables.{CategoryValue, IsTable, TableValue, entry_at, has_label, is_used}
 use Rattle.category_tables.specs.Merges.{of_id}
 use Rattle.category_tables.specs.Owned.{AreOwned, is_found, is_owned}
 use Rattle.category_tables.proofs.FoundLaws.{number_is}
 
 -- from number 1 on a category is used where it has a label
-pub labelled_used : (entries : List EntryValue) (j : ℕ) → 1 ≤ j → is_used entries j ≡ has_label (entry_at entries j)
+pub labelled_used : (entries : List CategoryValue) (j : ℕ) → 1 ≤ j → is_used entries j ≡ has_label (entry_at entries j)
 labelled_used entries j some = let zero : (j == 0) ≡ false = grind (arith, nat_tests) in rw zero refl
 
-abbrev pub bears : ℕ → EntryValue → Bool
+abbrev pub bears : ℕ → CategoryValue → Bool
 bears id entry = has_label entry && (entry.id == id)
 
-bears_own : (entry : EntryValue) → has_label entry ≡ true → bears entry.id entry ≡ true
+bears_own : (entry : CategoryValue) → has_label entry ≡ true → bears entry.id entry ≡ true
 bears_own entry e = rw e (grind (arith, nat_tests))
 
 -- an id that another one has is not borne
-pub bears_not : (entry : EntryValue) (id : ℕ) → (has_label entry ≡ true → entry.id ≢ id) → bears id entry ≡ false
+pub bears_not : (entry : CategoryValue) (id : ℕ) → (has_label entry ≡ true → entry.id ≢ id) → bears id entry ≡ false
 bears_not entry id differs = by_label (has_label entry) refl
   where
     by_label : (b : Bool) → has_label entry ≡ b → bears id entry ≡ false

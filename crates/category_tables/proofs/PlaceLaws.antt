@@ -9,7 +9,7 @@ use Rattle.std.specs.Option.{is_some, option_map}
 use Rattle.std.specs.Str.{bytes_eq}
 use Rattle.palm_records.specs.Strings.{until_zero}
 use Rattle.category_tables.specs.declared.table.Entry.{Entry}
-use Rattle.category_tables.specs.Tables.{EntryValue, entry_at, entry_value, has_label, no_entry}
+use Rattle.category_tables.specs.Tables.{CategoryValue, entry_at, entry_value, has_label, no_entry}
 use Rattle.category_tables.specs.Merges.{number_where, of_id, of_label, relabelled, unused}
 use Rattle.category_tables.specs.Owned.{HasEnd}
 
@@ -20,27 +20,27 @@ position_or_len-map f p (x ∷ xs) = grind (arith, position_or_len-map f p xs)
 position-map : {X Y : Type 0} (f : X → Y) (p : Y → Bool) (xs : List X) → position p (map f xs) ≡ position (λ x. p (f x)) xs
 position-map f p xs = simp (position_or_len-map f p xs, length-map) refl
 
-number_where-map : (p : EntryValue → Bool) (entries : List Entry) → number_where p (map entry_value entries)
+number_where-map : (p : CategoryValue → Bool) (entries : List Entry) → number_where p (map entry_value entries)
     ≡ option_map suc (position (λ (entry : Entry). p (entry_value entry)) (drop 1 entries))
 unfolding number_where
 number_where-map p entries =
-    ap (λ (l : List EntryValue). option_map suc (position p l)) (drop-map entry_value 1 entries)
+    ap (λ (l : List CategoryValue). option_map suc (position p l)) (drop-map entry_value 1 entries)
     ∙ ap (option_map suc) (position-map entry_value p (drop 1 entries))
 
 pub of_id-map : (entries : List Entry) (id : ℕ) → of_id (map entry_value entries) id
     ≡ option_map suc (position (λ (entry : Entry). has_label (entry_value entry) && (entry.id == id)) (drop 1 entries))
 unfolding of_id
-of_id-map entries id = number_where-map (λ (entry : EntryValue). has_label entry && (entry.id == id)) entries
+of_id-map entries id = number_where-map (λ (entry : CategoryValue). has_label entry && (entry.id == id)) entries
 
 pub unused-map : (entries : List Entry) → unused (map entry_value entries)
     ≡ option_map suc (position (λ (entry : Entry). not (has_label (entry_value entry))) (drop 1 entries))
 unfolding unused
-unused-map entries = number_where-map (λ (entry : EntryValue). not (has_label entry)) entries
+unused-map entries = number_where-map (λ (entry : CategoryValue). not (has_label entry)) entries
 
 pub of_label-map : (entries : List Entry) (label : List ℕ) → of_label (map entry_value entries) label
     ≡ position (λ (entry : Entry). bytes_eq (until_zero entry.label) label) entries
 unfolding of_label
-of_label-map entries label = position-map entry_value (λ (e : EntryValue). bytes_eq e.label label) entries
+of_label-map entries label = position-map entry_value (λ (e : CategoryValue). bytes_eq e.label label) entries
 
 pub relabelled-map : (entries others : List Entry) (place number : ℕ) (d e : Entry) → place < length entries → number < length others
     → map entry_value (set entries place (record { label = (get_or others number d).label; id = (get_or entries place e).id }))
@@ -58,22 +58,22 @@ filled-map entries others place number d there = rw (map-set, get_or-map entry_v
 blank : Entry
 blank = record { label = []; id = 0 }
 
-pub made_all : (made : ℕ → EntryValue) (entries : List Entry) → length entries ≡ 16
+pub made_all : (made : ℕ → CategoryValue) (entries : List Entry) → length entries ≡ 16
     → ((k : ℕ) (d : Entry) → k < 16 → entry_value (get_or entries k d) ≡ made k) → map entry_value entries ≡ map made (range_with_len 0 16)
 made_all made entries whole each =
     fill_by_all made (map entry_value entries) 16 no_entry (length-map entries entry_value ∙ whole)
     (λ k less. let within : k < length entries = omega arith in get_or-map entry_value entries k blank no_entry within ∙ each k blank less)
 
 -- what one of them says
-made_at : (made : ℕ → EntryValue) (entries : List Entry) → length entries ≡ 16 → map entry_value entries ≡ map made (range_with_len 0 16)
+made_at : (made : ℕ → CategoryValue) (entries : List Entry) → length entries ≡ 16 → map entry_value entries ≡ map made (range_with_len 0 16)
     → (k : ℕ) → k < 16 → entry_value (get_or entries k blank) ≡ made k
 made_at made entries whole are k less =
     let within : k < length entries = omega arith in
-    sym (get_or-map entry_value entries k blank no_entry within) ∙ ap (λ (l : List EntryValue). get_or l k no_entry) are
+    sym (get_or-map entry_value entries k blank no_entry within) ∙ ap (λ (l : List CategoryValue). get_or l k no_entry) are
     ∙ get_or-map-range_with_len made 0 16 k k no_entry less (omega arith)
 
 -- one more of them
-pub made_more : (made : ℕ → EntryValue) (entries : List Entry) (number : ℕ) (new : Entry) → number < length entries → entry_value new ≡ made number
+pub made_more : (made : ℕ → CategoryValue) (entries : List Entry) (number : ℕ) (new : Entry) → number < length entries → entry_value new ≡ made number
     → ((k : ℕ) (d : Entry) → k < number → entry_value (get_or entries k d) ≡ made k)
     → (k : ℕ) (d : Entry) → k < number + 1 → entry_value (get_or (set entries number new) k d) ≡ made k
 made_more made entries number new within is each k d less =
@@ -87,16 +87,16 @@ behind_first entries whole = take_all 15 (drop 1 entries) (simp length-drop (ome
 
 -- ---- labels that end in their 16 bytes
 
-pub ended_all : (made : ℕ → EntryValue) (entries : List Entry) → length entries ≡ 16 → map entry_value entries ≡ map made (range_with_len 0 16)
+pub ended_all : (made : ℕ → CategoryValue) (entries : List Entry) → length entries ≡ 16 → map entry_value entries ≡ map made (range_with_len 0 16)
     → All HasEnd entries → (k : ℕ) → k < 16 → length (made k).label < 16
 ended_all made entries whole are ends k less =
-    subst (λ (e : EntryValue). length e.label < 16) (made_at made entries whole are k less) (All-get_or HasEnd entries k blank (omega arith) ends)
+    subst (λ (e : CategoryValue). length e.label < 16) (made_at made entries whole are k less) (All-get_or HasEnd entries k blank (omega arith) ends)
 
-pub all_ended : (made : ℕ → EntryValue) (entries : List Entry) → length entries ≡ 16 → map entry_value entries ≡ map made (range_with_len 0 16)
+pub all_ended : (made : ℕ → CategoryValue) (entries : List Entry) → length entries ≡ 16 → map entry_value entries ≡ map made (range_with_len 0 16)
     → ((k : ℕ) → k < 16 → length (made k).label < 16) → All HasEnd entries
 all_ended made entries whole are ends =
     All-from_get_or HasEnd entries blank (λ k less. let few : k < 16 = omega arith in
-    subst (λ (e : EntryValue). length e.label < 16) (sym (made_at made entries whole are k few)) (ends k few))
+    subst (λ (e : CategoryValue). length e.label < 16) (sym (made_at made entries whole are k few)) (ends k few))
 
 -- ---- what a call answers of a place behind the first
 

@@ -8,28 +8,28 @@ use Rattle.std.proofs.Math.Seq.{drop-append-add, take-append_seam}
 use Rattle.category_tables.proofs.FoundLaws.{position_is, position_none}
 use Rattle.std.specs.List.{flat_map}
 use Rattle.palm_records.specs.Strings.{front, until_zero}
-use Rattle.category_tables.specs.Tables.{EntryValue, IsTable, TableValue, entry_at, no_entry}
+use Rattle.category_tables.specs.Tables.{CategoryValue, IsTable, TableValue, entry_at, no_entry}
 use Rattle.category_tables.specs.Texts.{HasText, HoldsTable, IsLabel, entry_in, id_of, label_bytes, label_text, table_in, table_text}
 
 -- each label is short
-abbrev pub AreShort : List EntryValue → Type 0
+abbrev pub AreShort : List CategoryValue → Type 0
 AreShort entries = (k : ℕ) → k < length entries → length (entry_at entries k).label < 16
 
 -- each is a label
-abbrev AreLabels : List EntryValue → Type 0
+abbrev AreLabels : List CategoryValue → Type 0
 AreLabels entries = (k : ℕ) → k < length entries → IsLabel (entry_at entries k)
 
-short_of : (entries : List EntryValue) → AreLabels entries → AreShort entries
+short_of : (entries : List CategoryValue) → AreLabels entries → AreShort entries
 short_of entries are k less = (are k less).short
 
-length-label : (entry : EntryValue) → length entry.label < 16 → length (label_text entry) ≡ 16
+length-label : (entry : CategoryValue) → length entry.label < 16 → length (label_text entry) ≡ 16
 length-label entry less =
     omega (arith, length-append entry.label (replicate {A = ℕ} (16 - length entry.label) 0), length-replicate {A = ℕ} (16 - length entry.label) 0)
 
-later : (entry : EntryValue) (entries : List EntryValue) → AreShort (entry ∷ entries) → AreShort entries
+later : (entry : CategoryValue) (entries : List CategoryValue) → AreShort (entry ∷ entries) → AreShort entries
 later entry entries are k less = are (suc k) (omega arith)
 
-length-labels : (entries : List EntryValue) → AreShort entries → length (flat_map label_text entries) ≡ 16 * length entries
+length-labels : (entries : List CategoryValue) → AreShort entries → length (flat_map label_text entries) ≡ 16 * length entries
 length-labels [] are = refl
 length-labels (entry ∷ entries) are =
     let whole = length-label entry (are 0 (omega arith)) in
@@ -37,7 +37,7 @@ length-labels (entry ∷ entries) are =
     omega (arith, length-append (label_text entry) (flat_map label_text entries), whole, rest)
 
 -- the n-th label among all
-label-at : (entries : List EntryValue) (n : ℕ) (rest : List ℕ) → AreShort entries → n < length entries
+label-at : (entries : List CategoryValue) (n : ℕ) (rest : List ℕ) → AreShort entries → n < length entries
     → take 16 (drop (16 * n) (flat_map label_text entries ++ rest)) ≡ label_text (entry_at entries n)
 label-at [] n rest are less = absurd (omega arith)
 label-at (entry ∷ entries) zero rest are less =
@@ -57,7 +57,7 @@ first_zero-of zero some = absurd (omega arith)
 first_zero-of (suc n) some = refl
 
 -- a label behind which there are zero bytes
-label-read : (entry : EntryValue) → IsLabel entry → until_zero (label_text entry) ≡ entry.label
+label-read : (entry : CategoryValue) → IsLabel entry → until_zero (label_text entry) ≡ entry.label
 label-read entry is =
     let zeros : List ℕ = replicate (16 - length entry.label) 0 in
     let long = length-label entry is.short in
@@ -65,7 +65,7 @@ label-read entry is =
     (λ k below. ap (λ byte. byte == 0) (get_or_append_left entry.label zeros 1 k below) ∙ position_none (λ byte. byte == 0) entry.label 1 is.whole k below) in
     ap (λ (place : Option ℕ). front place (label_text entry)) at ∙ take-append_seam entry.label zeros
   where
-    zero_behind : (entry : EntryValue) → length entry.label < 16 → (get_or (label_text entry) (length entry.label) 1 == 0) ≡ true
+    zero_behind : (entry : CategoryValue) → length entry.label < 16 → (get_or (label_text entry) (length entry.label) 1 == 0) ≡ true
     zero_behind entry less =
         let far : length entry.label ≡ length entry.label + 0 = omega arith in
         let some : 0 < 16 - length entry.label = omega arith in
@@ -130,7 +130,7 @@ length-text table are whole =
       length-append (map id_of table.entries) (table.last ∷ 0 ∷ []),
     )
 
-same_entry : (entry : EntryValue) (label : List ℕ) (id : ℕ) → label ≡ entry.label → id ≡ entry.id → record { label = label; id = id } ≡ entry
+same_entry : (entry : CategoryValue) (label : List ℕ) (id : ℕ) → label ≡ entry.label → id ≡ entry.id → record { label = label; id = id } ≡ entry
 same_entry entry label id e f = rw (e, f) refl
 
 entry-in : (table : TableValue) (n : ℕ) → AreLabels table.entries → length table.entries ≡ 16 → n < 16
@@ -139,7 +139,7 @@ entry-in table n are whole less =
     same_entry (entry_at table.entries n) _ _ (ap until_zero (label-in table n (short_of table.entries are) whole less) ∙ label-read (entry_at table.entries n) (are n (omega arith)))
     (id-in table n (short_of table.entries are) whole less)
 
-same_table : (table : TableValue) (flags last : ℕ) (entries : List EntryValue) → flags ≡ table.flags → entries ≡ table.entries → last ≡ table.last
+same_table : (table : TableValue) (flags last : ℕ) (entries : List CategoryValue) → flags ≡ table.flags → entries ≡ table.entries → last ≡ table.last
     → record { flags = flags; entries = entries; last = last } ≡ table
 same_table table flags last entries e f g = rw (e, f, g) refl
 
@@ -161,6 +161,6 @@ text_holds table has =
     let whole = has.table_is.whole in
     record {
       long = omega (arith, length-text table (short_of table.entries are) whole);
-      ended = λ n less. subst (λ (e : EntryValue). length e.label < 16) (sym (entry-in table n are whole less)) (are n (omega arith)).short;
+      ended = λ n less. subst (λ (e : CategoryValue). length e.label < 16) (sym (entry-in table n are whole less)) (are n (omega arith)).short;
       table = subst IsTable (sym (table-read table has)) has.table_is;
     }

@@ -7,7 +7,7 @@ use Rattle.std.proofs.lemmas.List.Elements.{All-get_or}
 use Rattle.std.proofs.lemmas.List.FromFn.{get_or-map-range_with_len}
 use Rattle.std.specs.List.{All}
 use Rattle.palm_records.specs.Strings.{first_zero, front}
-use Rattle.category_tables.specs.Tables.{EntryValue, entry_at, no_entry}
+use Rattle.category_tables.specs.Tables.{CategoryValue, entry_at, no_entry}
 use Rattle.category_tables.specs.Texts.{AreFilled, HoldsTable, entry_in, label_bytes, label_text, table_in, table_text}
 use Rattle.category_tables.proofs.TextLaws.{AreShort, id-in, label-in, last-in, length-text}
 
@@ -80,7 +80,7 @@ module _ (bytes : List ℕ) (each : All (λ byte. byte < 256) bytes) (holds : Ho
       let less : k - 258 < 16 = omega arith in
       let at : k ≡ 258 + (k - 258) = omega arith in
       ap (λ i. get_or (table_text (table_in bytes)) i 0) at ∙ id-in (table_in bytes) (k - 258) are_short holds.table.whole less
-      ∙ ap (λ (e : EntryValue). e.id) (entry-is (k - 258) less) ∙ ap (λ i. get_or bytes i 0) (sym at)
+      ∙ ap (λ (e : CategoryValue). e.id) (entry-is (k - 258) less) ∙ ap (λ i. get_or bytes i 0) (sym at)
 
   last-is : get_or (table_text (table_in bytes)) 274 0 ≡ get_or bytes 274 0
   unfolding table_in

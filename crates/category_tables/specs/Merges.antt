@@ -5,28 +5,28 @@ use Rattle.std.specs.Prelude.{drop, is_none, map, max, position, replicate, slic
 use Rattle.std.specs.List.{range_with_len}
 use Rattle.std.specs.Option.{option_map}
 use Rattle.std.specs.Str.{bytes_eq}
-use Rattle.category_tables.specs.Tables.{EntryValue, TableValue, entry_at, has_label, is_renamed, is_used, no_entry}
+use Rattle.category_tables.specs.Tables.{CategoryValue, TableValue, entry_at, has_label, is_renamed, is_used, no_entry}
 
 -- the least number from 1 on whose entry passes
-unfoldable pub number_where : (EntryValue → Bool) → List EntryValue → Option ℕ
+unfoldable pub number_where : (CategoryValue → Bool) → List CategoryValue → Option ℕ
 number_where passes entries = option_map suc (position passes (drop 1 entries))
 
 -- the used entry with this id
-unfoldable pub of_id : List EntryValue → ℕ → Option ℕ
+unfoldable pub of_id : List CategoryValue → ℕ → Option ℕ
 of_id entries id =
-    number_where (λ (entry : EntryValue). has_label entry && (entry.id == id)) entries
+    number_where (λ (entry : CategoryValue). has_label entry && (entry.id == id)) entries
 
 -- the least entry with this label, number 0 among them
-unfoldable pub of_label : List EntryValue → List ℕ → Option ℕ
-of_label entries label = position (λ (entry : EntryValue). bytes_eq entry.label label) entries
+unfoldable pub of_label : List CategoryValue → List ℕ → Option ℕ
+of_label entries label = position (λ (entry : CategoryValue). bytes_eq entry.label label) entries
 
 -- the least unused number
-unfoldable pub unused : List EntryValue → Option ℕ
+unfoldable pub unused : List CategoryValue → Option ℕ
 unused entries = number_where (λ entry. not (has_label entry)) entries
 
 -- a table in the making, and where each number of the desktop's goes
 pub record MergingValue : Type 0 where
-  pub entries : List EntryValue
+  pub entries : List CategoryValue
   pub places : List ℕ
 
 -- the number goes to this place
@@ -35,11 +35,11 @@ with_place number place merging =
     record merging { places = slice_set merging.places number place }
 
 -- an entry with this label in place of its own
-abbrev pub relabelled : List ℕ → EntryValue → EntryValue
+abbrev pub relabelled : List ℕ → CategoryValue → CategoryValue
 relabelled label entry = record { label = label; id = entry.id }
 
 -- the place has the label that the desktop gave to the number, where it renamed it
-abbrev pub with_label : TableValue → ℕ → ℕ → List EntryValue → List EntryValue
+abbrev pub with_label : TableValue → ℕ → ℕ → List CategoryValue → List CategoryValue
 with_label desktop number place entries =
     if is_renamed desktop number
     then slice_set entries place
@@ -61,7 +61,7 @@ by_id handheld desktop number merging =
     else merging
 
 -- then: another one fills an unused entry, where there is one
-abbrev pub filled : EntryValue → ℕ → Option ℕ → MergingValue → MergingValue
+abbrev pub filled : CategoryValue → ℕ → Option ℕ → MergingValue → MergingValue
 filled entry number None merging = merging
 filled entry number (Some place) merging = record {
   entries = slice_set merging.entries place entry;
@@ -69,12 +69,12 @@ filled entry number (Some place) merging = record {
 }
 
 -- but where a label stands already, it goes there
-abbrev pub labelled : EntryValue → ℕ → Option ℕ → MergingValue → MergingValue
+abbrev pub labelled : CategoryValue → ℕ → Option ℕ → MergingValue → MergingValue
 labelled entry number None merging = filled entry number (unused merging.entries) merging
 labelled entry number (Some place) merging = with_place number place merging
 
 -- a number goes to the least entry with its label, or else it fills one
-abbrev pub with_entry : EntryValue → ℕ → MergingValue → MergingValue
+abbrev pub with_entry : CategoryValue → ℕ → MergingValue → MergingValue
 with_entry entry number merging =
     labelled entry number (of_label merging.entries entry.label) merging
 
@@ -96,10 +96,10 @@ rounds step zero merging = merging
 rounds step (suc number) merging = step (suc number) (rounds step number merging)
 
 -- a used entry is the handheld's, another one is empty
-abbrev pub kept_at : List EntryValue → ℕ → EntryValue
+abbrev pub kept_at : List CategoryValue → ℕ → CategoryValue
 kept_at entries number = if is_used entries number then entry_at entries number else no_entry
 
-abbrev pub kept : List EntryValue → List EntryValue
+abbrev pub kept : List CategoryValue → List CategoryValue
 kept entries = map (kept_at entries) (range_with_len 0 16)
 
 -- the handheld's entries, and no number went anywhere yet
@@ -111,7 +111,7 @@ merging handheld desktop =
     rounds (by_label handheld desktop) 15 (rounds (by_id handheld desktop) 15 (begun handheld))
 
 -- the greatest of these ids, and of this one
-unfoldable pub greatest : ℕ → List EntryValue → ℕ
+unfoldable pub greatest : ℕ → List CategoryValue → ℕ
 greatest last [] = last
 greatest last (entry ∷ entries) = greatest (max last entry.id) entries
 

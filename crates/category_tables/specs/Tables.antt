@@ -7,12 +7,12 @@ use Rattle.category_tables.specs.declared.table.Entry.{Entry}
 use Rattle.category_tables.specs.declared.table.Table.{Table}
 
 -- a category: its label without zero bytes, and its id
-pub record EntryValue : Type 0 where
+pub record CategoryValue : Type 0 where
   pub label : List ℕ
   pub id : ℕ
 
 -- one that is not used
-abbrev pub no_entry : EntryValue
+abbrev pub no_entry : CategoryValue
 no_entry = record { label = []; id = 0 }
 
 -- the 16 categories of a database by their numbers, which of them were renamed, and the last id
@@ -20,10 +20,10 @@ no_entry = record { label = []; id = 0 }
 -- was given
 pub record TableValue : Type 0 where
   pub flags : ℕ
-  pub entries : List EntryValue
+  pub entries : List CategoryValue
   pub last : ℕ
 
-abbrev pub entry_value : Entry → EntryValue
+abbrev pub entry_value : Entry → CategoryValue
 entry_value entry = record { label = until_zero entry.label; id = entry.id }
 
 -- what a table says
@@ -34,14 +34,14 @@ table_value table = record {
   last = table.last;
 }
 
-abbrev pub entry_at : List EntryValue → ℕ → EntryValue
+abbrev pub entry_at : List CategoryValue → ℕ → CategoryValue
 entry_at entries number = slice_index_or entries number no_entry
 
-abbrev pub has_label : EntryValue → Bool
+abbrev pub has_label : CategoryValue → Bool
 has_label entry = not (length entry.label == 0)
 
 -- number 0 is always used, another one where it has a label
-abbrev pub is_used : List EntryValue → ℕ → Bool
+abbrev pub is_used : List CategoryValue → ℕ → Bool
 is_used entries number = (number == 0) || has_label (entry_at entries number)
 
 -- the flag of a number is 2 to its power

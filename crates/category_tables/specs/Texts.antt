@@ -4,13 +4,13 @@ use Rattle.std.specs.Prelude.{ℕ, ◌+◌, ◌-◌, ◌*◌, ◌/◌, ◌%◌, 
 use Rattle.std.specs.Prelude.{drop, length, map, replicate, slice_index, take}
 use Rattle.std.specs.List.{All, flat_map, range_with_len}
 use Rattle.palm_records.specs.Strings.{first_zero, until_zero}
-use Rattle.category_tables.specs.Tables.{EntryValue, IsTable, TableValue}
+use Rattle.category_tables.specs.Tables.{CategoryValue, IsTable, TableValue}
 
 -- the label of a number
 abbrev pub label_bytes : List ℕ → ℕ → List ℕ
 label_bytes bytes number = take 16 (drop (2 + 16 * number) bytes)
 
-abbrev pub entry_in : List ℕ → ℕ → EntryValue
+abbrev pub entry_in : List ℕ → ℕ → CategoryValue
 entry_in bytes number = record {
   label = until_zero (label_bytes bytes number);
   id = slice_index bytes (258 + number);
@@ -38,10 +38,10 @@ AreFilled bytes = (number : ℕ) → number < 16 → All (λ byte. byte ≡ 0)
     (drop (length (entry_in bytes number).label) (label_bytes bytes number))
 
 -- a label, filled with zero bytes
-abbrev pub label_text : EntryValue → List ℕ
+abbrev pub label_text : CategoryValue → List ℕ
 label_text entry = entry.label ++ replicate (16 - length entry.label) 0
 
-abbrev pub id_of : EntryValue → ℕ
+abbrev pub id_of : CategoryValue → ℕ
 id_of entry = entry.id
 
 -- the 276 bytes of a table
@@ -51,7 +51,7 @@ table_text table =
     ∷ (flat_map label_text table.entries ++ (map id_of table.entries ++ table.last ∷ 0 ∷ []))
 
 -- a label has at most 15 bytes, and no zero byte
-pub record IsLabel (entry : EntryValue) : Type 0 where
+pub record IsLabel (entry : CategoryValue) : Type 0 where
   pub short : length entry.label < 16
   pub whole : first_zero entry.label ≡ None
 

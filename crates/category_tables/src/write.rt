@@ -1,7 +1,7 @@
 // A table as bytes.
 ghost use Rattle.std.specs.Prelude.{◌≡◌, ◌++◌, OnOk, map};
 ghost use Rattle.std.specs.List.{flat_map};
-ghost use Rattle.category_tables.specs.Tables.{EntryValue, entry_value, table_value};
+ghost use Rattle.category_tables.specs.Tables.{CategoryValue, entry_value, table_value};
 ghost use Rattle.category_tables.specs.Texts.{id_of, label_text, table_text};
 
 use crate::table::{Entry, Table};

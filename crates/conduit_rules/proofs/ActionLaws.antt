@@ -7,7 +7,7 @@ use Rattle.conduit_rules.specs.Contents.{count_of}
 use Rattle.conduit_rules.specs.Fates.{desktop_fate}
 use Rattle.conduit_rules.specs.News.{unpaired}
 use Rattle.conduit_rules.specs.Plans.{replacement, purged_at, replaced_rows, purged_ids}
-use Rattle.conduit_rules.specs.States.{Held, nothing, live, live_of, archived_of, Based, no_base, row}
+use Rattle.conduit_rules.specs.States.{SideState, nothing, live, live_of, archived_of, BaseState, no_base, row}
 use Rattle.conduit_rules.specs.declared.action.Action.TheVariants.{Handheld, Desktop}
 use Rattle.conduit_rules.proofs.ByIdLaws.{each_below-same, each_below-none}
 use Rattle.conduit_rules.proofs.ContentLaws.{same_content-same}
@@ -21,11 +21,11 @@ put_away_one i (Some c) = refl
 pub handheld-is : (s : Sides) → choice_for Handheld s ≡ by_handheld s
 handheld-is s = grind (arith, common_steps, nat_tests, each_below-none, each_below-same, put_away_one)
 
-kept_replacement : (h : Held) → replacement (live_of h) h ≡ None
+kept_replacement : (h : SideState) → replacement (live_of h) h ≡ None
 kept_replacement (live c) = grind (arith, same_content-same c)
 kept_replacement h = refl
 
-kept_purge : (h : Held) (i : ℕ) → purged_at (live_of h) h i ≡ []
+kept_purge : (h : SideState) (i : ℕ) → purged_at (live_of h) h i ≡ []
 kept_purge nothing i = refl
 kept_purge h i = refl
 
@@ -33,15 +33,15 @@ kept_purge h i = refl
 pub handheld-unwritten : (s : Sides) → (replaced_rows (choice_for Handheld s).keep s.handheld ≡ []) × (purged_ids (choice_for Handheld s).keep s.handheld ≡ [])
 handheld-unwritten s = grind (arith, common_steps, nat_tests, each_below-none, kept_replacement, kept_purge)
 
-keeps : (b : Based) (d : Held) → (desktop_fate b d).keep ≡ live_of (row_of b d)
+keeps : (b : BaseState) (d : SideState) → (desktop_fate b d).keep ≡ live_of (row_of b d)
 keeps no_base d = refl
 keeps b d = refl
 
-puts_away : (i : ℕ) (b : Based) (d : Held) → map (λ c. (i, c)) (desktop_fate b d).archive ≡ with_id i (archived_of (row_of b d))
+puts_away : (i : ℕ) (b : BaseState) (d : SideState) → map (λ c. (i, c)) (desktop_fate b d).archive ≡ with_id i (archived_of (row_of b d))
 puts_away i (row b) d = put_away_one i (archived_of d)
 puts_away i b d = refl
 
-no_news : (b : Based) (d : Held) → option_to_list (desktop_fate b d).news ≡ []
+no_news : (b : BaseState) (d : SideState) → option_to_list (desktop_fate b d).news ≡ []
 no_news no_base d = refl
 no_news b d = refl
 

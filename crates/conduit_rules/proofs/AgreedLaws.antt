@@ -6,7 +6,7 @@ use Rattle.pdb_values.specs.declared.record.Record.{Record}
 use Rattle.conduit_rules.specs.ById.{put}
 use Rattle.conduit_rules.specs.Choices.{sides_of}
 use Rattle.conduit_rules.specs.News.{loose, live_contents, archived_records}
-use Rattle.conduit_rules.specs.States.{Held, nothing, live, held, first, no_base, row, base_at, has_row}
+use Rattle.conduit_rules.specs.States.{SideState, nothing, live, held, first, no_base, row, base_at, has_row}
 use Rattle.conduit_rules.specs.Views.{view_held}
 use Rattle.conduit_rules.specs.declared.view.Seen.{Seen}
 use Rattle.conduit_rules.proofs.SettledLaws.{IsAgreed, IsEmptyPlan, agreed_plan}
@@ -71,7 +71,7 @@ abbrev content_where : Option Record → Option ContentValue
 content_where None = None
 content_where (Some r) = Some r.content
 
-agreed_at : (records : List Record) (gone_counts : Bool) (i : ℕ) (o : Option Record) (h : Held) → AreRows records → first i records ≡ o → h ≡ held records i
+agreed_at : (records : List Record) (gone_counts : Bool) (i : ℕ) (o : Option Record) (h : SideState) → AreRows records → first i records ≡ o → h ≡ held records i
     → IsAgreed (content_where o) (base_at records gone_counts i) h (held records i)
 agreed_at records gone_counts i None h rows e shows = (no_row records gone_counts i e, shows ∙ none_at records i e)
 agreed_at records gone_counts i (Some r) h rows e shows =

@@ -4,7 +4,7 @@ use Rattle.std.specs.List.{AllByRecursion}
 use Rattle.pdb_values.specs.Contents.{ContentValue}
 use Rattle.pdb_values.specs.declared.record.Record.{Record}
 use Rattle.conduit_rules.specs.ById.{id_bound}
-use Rattle.conduit_rules.specs.States.{Held, nothing, live}
+use Rattle.conduit_rules.specs.States.{SideState, nothing, live}
 
 -- each record's id is below the bound
 abbrev pub AreBounded : List Record → Type 0
@@ -13,6 +13,6 @@ AreBounded records = AllByRecursion (λ (r : Record). r.id < id_bound) records
 -- ---- rows that were made by id
 
 -- live with a content, or nothing
-abbrev pub live_or : Option ContentValue → Held
+abbrev pub live_or : Option ContentValue → SideState
 live_or None = nothing
 live_or (Some c) = live c

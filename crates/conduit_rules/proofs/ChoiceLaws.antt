@@ -2,7 +2,7 @@
 use Rattle.std.proofs.Common.{◌≡◌, ℕ, ◌+◌, ◌<◌, List, ◌∷◌, ◌++◌, refl, ap, arith, true, false, Bool, Some, None, option_to_list, map, if◌then◌else◌, cond}
 use Rattle.pdb_values.specs.Contents.{ContentValue}
 use Rattle.conduit_rules.specs.Contents.{same_content, count_of}
-use Rattle.conduit_rules.specs.States.{Held, nothing, live, Based, no_base}
+use Rattle.conduit_rules.specs.States.{SideState, nothing, live, BaseState, no_base}
 use Rattle.conduit_rules.specs.Fates.{Fate, fate}
 use Rattle.conduit_rules.specs.ById.{id_bound, put}
 use Rattle.conduit_rules.specs.News.{more_one, unpaired}
@@ -36,10 +36,10 @@ choice-put s i c e = same_choice (given_to s i c) s refl refl
     (at_put (λ j x. fate (s.base j) x (s.desktop j)) s.handheld i (live c) (fate-again (s.base i) (s.handheld i) (s.desktop i) c e))
     (at_put (λ j x. partner (s.base j) x) s.handheld i (live c) (partner-again (s.base i) (s.handheld i) (s.desktop i) c e))
 
-fate-given : (b : Based) (h d : Held) (a : ContentValue) → b ≡ no_base → h ≡ nothing → (fate b (live a) d).archive ≡ (fate b h d).archive
+fate-given : (b : BaseState) (h d : SideState) (a : ContentValue) → b ≡ no_base → h ≡ nothing → (fate b (live a) d).archive ≡ (fate b h d).archive
 fate-given b h d a none free = grind arith
 
-fate-given_news : (b : Based) (h d : Held) (a : ContentValue) → b ≡ no_base → h ≡ nothing → (fate b (live a) d).news ≡ (fate b h d).news
+fate-given_news : (b : BaseState) (h d : SideState) (a : ContentValue) → b ≡ no_base → h ≡ nothing → (fate b (live a) d).news ≡ (fate b h d).news
 fate-given_news b h d a none free = grind arith
 
 keep-given : (s : Sides) (g : ℕ) (a : ContentValue) → s.base g ≡ no_base → (j : ℕ)
@@ -50,7 +50,7 @@ mate-given : (s : Sides) (g : ℕ) (a : ContentValue) → s.base g ≡ no_base �
     → partner (s.base j) (put s.handheld g (live a) j) ≡ put (partner_at s) g (Some a) j
 mate-given s g a none j = grind arith
 
-no_mate : (b : Based) (h : Held) → b ≡ no_base → h ≡ nothing → partner b h ≡ None
+no_mate : (b : BaseState) (h : SideState) → b ≡ no_base → h ≡ nothing → partner b h ≡ None
 no_mate b h none free = grind arith
 
 one_more : (b : Bool) (n : ℕ) → n + cond b 1 0 ≡ (if b then n + 1 else n)

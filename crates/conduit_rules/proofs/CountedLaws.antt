@@ -13,7 +13,7 @@ use Rattle.conduit_rules.specs.Fates.{fate_under}
 use Rattle.conduit_rules.specs.Fronts.{seen_id, record_id, IsFront, NoneAhead, seen_in, row_in, base_in, is_loose_in}
 use Rattle.conduit_rules.specs.News.{loose, found_in, noted, live_contents, archived_records}
 use Rattle.conduit_rules.specs.Runs.{IsRunOf, front_under, IsFrom}
-use Rattle.conduit_rules.specs.States.{Held, held_where, Based, base_at, has_row, is_row}
+use Rattle.conduit_rules.specs.States.{SideState, held_where, BaseState, base_at, has_row, is_row}
 use Rattle.conduit_rules.specs.Views.{seen_where}
 use Rattle.conduit_rules.specs.declared.action.Action.{Action}
 use Rattle.conduit_rules.specs.declared.draft.Draft.{Draft}
@@ -147,7 +147,7 @@ pass-next a view rows base gone_counts vs vs' rs bs rs' bs' slots slots' d e n m
         ap held_where (in_front record_id rows n f.id rs f.row was.rows_ahead after front.least_row front.row) in
         let grew : Grew d e f.id (fate_for a (sides_of view rows base gone_counts) f.id) ((sides_of view rows base gone_counts).handheld f.id)
         (partner_for a (sides_of view rows base gone_counts) f.id) =
-        subst {A = Based × Held × Held} (λ p. Grew d e f.id (fate_under a p.0 p.1 p.2) p.1 (partner_under a p.0 p.1)) (λ k. (based k, seen k, row k))
+        subst {A = BaseState × SideState × SideState} (λ p. Grew d e f.id (fate_under a p.0 p.1 p.2) p.1 (partner_under a p.0 p.1)) (λ k. (based k, seen k, row k))
         (grows after) in
         rw (← let same : f.id + 1 ≡ m = omega arith in same)
         (draft-next a (sides_of view rows base gone_counts) d e n f.id was.draft grew after within (quiet after))

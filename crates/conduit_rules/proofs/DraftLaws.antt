@@ -9,7 +9,7 @@ use Rattle.conduit_rules.specs.Drafts.{IsDraft, Grew}
 use Rattle.conduit_rules.specs.Fates.{Fate, no_fate, fate_under}
 use Rattle.conduit_rules.specs.News.{live_contents, archived_records, found_in}
 use Rattle.conduit_rules.specs.Plans.{replacement, lost, purged_at}
-use Rattle.conduit_rules.specs.States.{Held, nothing, no_base, first, base_at}
+use Rattle.conduit_rules.specs.States.{SideState, nothing, no_base, first, base_at}
 use Rattle.conduit_rules.specs.Views.{first_seen, view_held}
 use Rattle.conduit_rules.specs.declared.action.Action.{Action}
 use Rattle.conduit_rules.specs.declared.action.Action.TheVariants.{Sync}
@@ -56,7 +56,7 @@ pub record IsDraftBelow (a : Action) (s : Sides) (d : Draft) (n : ℕ) : Type 0 
 abbrev pub IsQuiet : Sides → ℕ → Type 0
 IsQuiet s i = (s.base i ≡ no_base) × (s.handheld i ≡ nothing)
 
-none_fate : (a : Action) (d : Held) → fate_under a no_base nothing d ≡ no_fate
+none_fate : (a : Action) (d : SideState) → fate_under a no_base nothing d ≡ no_fate
 none_fate Sync d = refl
 none_fate a d = refl
 
@@ -67,7 +67,7 @@ none_partner a = refl
 quiet_fate : (a : Action) (s : Sides) (i : ℕ) → IsQuiet s i → fate_for a s i ≡ no_fate
 quiet_fate a s i quiet = grind (arith, common_steps, nat_tests, none_fate)
 
-quiet_both : (a : Action) (s : Sides) (i : ℕ) → IsQuiet s i → ◌≡◌ {A = Fate × Held} (fate_for a s i, s.handheld i) (no_fate, nothing)
+quiet_both : (a : Action) (s : Sides) (i : ℕ) → IsQuiet s i → ◌≡◌ {A = Fate × SideState} (fate_for a s i, s.handheld i) (no_fate, nothing)
 quiet_both a s i quiet = λ k. (quiet_fate a s i quiet k, quiet.1 k)
 
 quiet_partner : (a : Action) (s : Sides) (i : ℕ) → IsQuiet s i → partner_for a s i ≡ None

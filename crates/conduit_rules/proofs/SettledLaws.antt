@@ -1,7 +1,7 @@
 -- Once both sides are merged nothing is decided anew.
 use Rattle.std.proofs.Common.{◌≡◌, ◌⊎◌, ℕ, [], refl, ap, ◌∙◌, arith, Option, Some, None, subst, sym}
 use Rattle.pdb_values.specs.Contents.{ContentValue}
-use Rattle.conduit_rules.specs.States.{Held, nothing, live, archived, Based, no_base, row, gone}
+use Rattle.conduit_rules.specs.States.{SideState, nothing, live, archived, BaseState, no_base, row, gone}
 use Rattle.conduit_rules.specs.Fates.{Fate, fate}
 use Rattle.conduit_rules.specs.ById.{id_bound, with_id}
 use Rattle.conduit_rules.specs.Choices.{Sides, Choice, partner, choice}
@@ -14,7 +14,7 @@ use Rattle.std.proofs.lemmas.Grind.{common_steps}
 use Rattle.std.proofs.lemmas.Bool.Decides.{nat_tests}
 
 -- an id under which this is kept, and nothing is left to do on the desktop
-abbrev pub IsSettled : Option ContentValue → Based → Held → Held → Type 0
+abbrev pub IsSettled : Option ContentValue → BaseState → SideState → SideState → Type 0
 IsSettled (Some c) b h d = (b ≡ row c) × (h ≡ live c) × (d ≡ live c)
 IsSettled None no_base h d = h ≡ nothing
 IsSettled None (row b) h d = ⊥
@@ -23,10 +23,10 @@ IsSettled None (gone b) h d = (h ≡ nothing) ⊎ ((h ≡ live b) ⊎ (h ≡ arc
 abbrev only : Option ContentValue → Fate
 only k = record { keep = k; archive = []; news = None }
 
-gone_nothing : (b : ContentValue) (d : Held) → fate (gone b) nothing d ≡ only None
+gone_nothing : (b : ContentValue) (d : SideState) → fate (gone b) nothing d ≡ only None
 gone_nothing b d = grind arith
 
-pub fate-settled : (k : Option ContentValue) (b : Based) (h d : Held) → IsSettled k b h d → fate b h d ≡ record { keep = k; archive = []; news = None }
+pub fate-settled : (k : Option ContentValue) (b : BaseState) (h d : SideState) → IsSettled k b h d → fate b h d ≡ record { keep = k; archive = []; news = None }
 fate-settled k b h d is = grind (arith, common_steps, nat_tests, cell-settled, gone_nothing, gone_cell-live, gone_cell-archived)
 
 -- what was merged is chosen again, with nothing to archive and nothing to add
@@ -36,23 +36,23 @@ pub choice-settled : (t : Sides) (keep : ℕ → Option ContentValue) → ((i : 
 choice-settled t keep is no_live no_archived = grind (arith, common_steps, nat_tests, fate-settled, each_below-none)
 
 -- both sides and the base agree under an id: a row that all have, or nothing at all
-abbrev pub IsAgreed : Option ContentValue → Based → Held → Held → Type 0
+abbrev pub IsAgreed : Option ContentValue → BaseState → SideState → SideState → Type 0
 IsAgreed (Some c) b h d = (b ≡ row c) × (h ≡ live c) × (d ≡ live c)
 IsAgreed None b h d = (b ≡ no_base) × (h ≡ nothing)
 
-settled_from : (k : Option ContentValue) (b : Based) (h d : Held) → IsAgreed k b h d → IsSettled k b h d
+settled_from : (k : Option ContentValue) (b : BaseState) (h d : SideState) → IsAgreed k b h d → IsSettled k b h d
 settled_from (Some c) b h d is = is
 settled_from None b h d is = subst (λ x. IsSettled None x h d) (sym is.0) is.1
 
-agreed_replacement : (k : Option ContentValue) (b : Based) (h d : Held) → IsAgreed k b h d → replacement k h ≡ None
+agreed_replacement : (k : Option ContentValue) (b : BaseState) (h d : SideState) → IsAgreed k b h d → replacement k h ≡ None
 agreed_replacement (Some c) b h d is = grind (arith, is.1, same_content-same c)
 agreed_replacement None b h d is = refl
 
-agreed_lost : (k : Option ContentValue) (b : Based) (h d : Held) → IsAgreed k b h d → lost k h ≡ None
+agreed_lost : (k : Option ContentValue) (b : BaseState) (h d : SideState) → IsAgreed k b h d → lost k h ≡ None
 agreed_lost (Some c) b h d is = refl
 agreed_lost None b h d is = grind (arith, is.1)
 
-agreed_purged : (k : Option ContentValue) (b : Based) (h d : Held) (i : ℕ) → IsAgreed k b h d → purged_at k h i ≡ []
+agreed_purged : (k : Option ContentValue) (b : BaseState) (h d : SideState) (i : ℕ) → IsAgreed k b h d → purged_at k h i ≡ []
 agreed_purged (Some c) b h d i is = refl
 agreed_purged None b h d i is = grind (arith, is.1)
 
@@ -87,20 +87,20 @@ agreed_plan s keep is no_live no_archived =
     }
 
 -- gone rows left out
-abbrev pub without_gone : Based → Based
+abbrev pub without_gone : BaseState → BaseState
 without_gone no_base = no_base
 without_gone (row b) = row b
 without_gone (gone b) = no_base
 
-abbrev pub IfGone : Based → Type 0 → Type 0
+abbrev pub IfGone : BaseState → Type 0 → Type 0
 IfGone (gone b) P = P
 IfGone basis P = Unit {0}
 
-gone_fate : (b : Based) (h d : Held) → IfGone b (h ≡ nothing) → fate (without_gone b) h d ≡ fate b h d
+gone_fate : (b : BaseState) (h d : SideState) → IfGone b (h ≡ nothing) → fate (without_gone b) h d ≡ fate b h d
 gone_fate (gone b) h d free = grind arith
 gone_fate b h d free = refl
 
-gone_mate : (b : Based) (h : Held) → IfGone b (h ≡ nothing) → partner (without_gone b) h ≡ partner b h
+gone_mate : (b : BaseState) (h : SideState) → IfGone b (h ≡ nothing) → partner (without_gone b) h ≡ partner b h
 gone_mate (gone b) h free = grind arith
 gone_mate b h free = refl
 

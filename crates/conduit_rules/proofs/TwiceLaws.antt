@@ -7,7 +7,7 @@ use Rattle.conduit_rules.specs.ById.{each_below, id_bound, with_id}
 use Rattle.conduit_rules.specs.Choices.{Sides, choice_for, fate_for, kept_twice}
 use Rattle.conduit_rules.specs.Fates.{cell, fate_under, gone_cell}
 use Rattle.conduit_rules.specs.Plans.{kept_rows}
-use Rattle.conduit_rules.specs.States.{Based, Held, gone, no_base, row}
+use Rattle.conduit_rules.specs.States.{BaseState, SideState, gone, no_base, row}
 use Rattle.conduit_rules.specs.declared.action.Action.{Action}
 use Rattle.conduit_rules.specs.declared.action.Action.TheVariants.{Sync, Handheld, Desktop}
 use Rattle.conduit_rules.proofs.ByIdLaws.{each_below-suc, each_below-zero}
@@ -23,13 +23,13 @@ length-each_below f g (suc n) each =
     let last = each n in
     omega (arith, below, one, two, last)
 
-cell_news : (i : ℕ) (b : ContentValue) (h d : Held) → length (option_to_list (cell b h d).news) ≤ length (with_id i (cell b h d).keep)
+cell_news : (i : ℕ) (b : ContentValue) (h d : SideState) → length (option_to_list (cell b h d).news) ≤ length (with_id i (cell b h d).keep)
 cell_news i b h d = grind (arith, common_steps, nat_tests)
 
-gone_news : (i : ℕ) (b : ContentValue) (h : Held) → length (option_to_list (gone_cell b h).news) ≤ length (with_id i (gone_cell b h).keep)
+gone_news : (i : ℕ) (b : ContentValue) (h : SideState) → length (option_to_list (gone_cell b h).news) ≤ length (with_id i (gone_cell b h).keep)
 gone_news i b h = grind (arith, common_steps, nat_tests)
 
-news_few : (a : Action) (b : Based) (h d : Held) (i : ℕ)
+news_few : (a : Action) (b : BaseState) (h d : SideState) (i : ℕ)
     → length (option_to_list (fate_under a b h d).news) ≤ length (with_id i (fate_under a b h d).keep)
 news_few Sync (row b) h d i = cell_news i b h d
 news_few Sync (gone b) h d i = gone_news i b h

@@ -8,7 +8,7 @@ use Rattle.std.proofs.lemmas.Bool.Decides.{nat_tests}
 use Rattle.std.proofs.lemmas.List.Folds.{find-append}
 use Rattle.pdb_values.specs.declared.record.Record.{Record}
 use Rattle.conduit_rules.specs.ById.{id_bound, each_below}
-use Rattle.conduit_rules.specs.States.{held_where, held, record_held, first, Based, no_base, base_at}
+use Rattle.conduit_rules.specs.States.{held_where, held, record_held, first, BaseState, no_base, base_at}
 use Rattle.conduit_rules.specs.Views.{first_seen, seen_where, view_held, slow_seen, slow_view, fast_seen, fast_view, unread_where, IsHonestUnder, IsHonest}
 use Rattle.conduit_rules.specs.Choices.{sides_of}
 use Rattle.conduit_rules.specs.declared.view.Seen.{Seen}
@@ -102,17 +102,17 @@ mapped_view : (f : Record → Seen) (records : List Record) (i : ℕ) → ((r : 
 mapped_view f records i keeps within =
     cc (first_seen-each_below (λ j. option_map f (first j records)) (λ j s e. mapped_id f j (first j records) s keeps (first-id j records) e) id_bound i)
 
-unread_id : (b : Based) (r : Record) → (unread_where b r).id ≡ r.id
+unread_id : (b : BaseState) (r : Record) → (unread_where b r).id ≡ r.id
 unread_id no_base r = refl
 unread_id b r = refl
 
 pub fast_id : (base : List Record) (r : Record) → (fast_seen base r).id ≡ r.id
 fast_id base r = grind (arith, unread_id (base_at base false r.id) r)
 
-unread_held : (b : Based) (r : Record) → IsHonestUnder b r → (not r.dirty && not r.deleted) ≡ true → seen_where (Some (unread_where b r)) ≡ record_held r
+unread_held : (b : BaseState) (r : Record) → IsHonestUnder b r → (not r.dirty && not r.deleted) ≡ true → seen_where (Some (unread_where b r)) ≡ record_held r
 unread_held b r honest passed = search (rules, slow_held)
 
-by_passing : (p : Bool) (b : Based) (r : Record) → (not r.dirty && not r.deleted) ≡ p → IsHonestUnder b r
+by_passing : (p : Bool) (b : BaseState) (r : Record) → (not r.dirty && not r.deleted) ≡ p → IsHonestUnder b r
     → seen_where (Some (if p then unread_where b r else slow_seen r)) ≡ record_held r
 by_passing p b r passed honest = search (rules, unread_held, slow_held)
 

@@ -4,7 +4,7 @@ use Rattle.pdb_values.specs.Contents.{ContentValue}
 use Rattle.pdb_values.specs.declared.record.Record.{Record}
 use Rattle.conduit_rules.specs.ById.{each_id, with_id}
 use Rattle.conduit_rules.specs.Contents.{count_of}
-use Rattle.conduit_rules.specs.States.{Held, nothing, live_of, archived_of, held, Based, no_base, row, gone, base_at, has_row}
+use Rattle.conduit_rules.specs.States.{SideState, nothing, live_of, archived_of, held, BaseState, no_base, row, gone, base_at, has_row}
 use Rattle.conduit_rules.specs.Fates.{Fate, fate, fate_under}
 use Rattle.conduit_rules.specs.Views.{view_held}
 use Rattle.conduit_rules.specs.News.{loose, live_contents, archived_records, unpaired}
@@ -14,9 +14,9 @@ use Rattle.conduit_rules.specs.declared.view.Seen.{Seen}
 
 -- one database as its base, its view and its rows show it: by id, and the rows without a base row
 pub record Sides : Type 0 where
-  pub base : ℕ → Based
-  pub handheld : ℕ → Held
-  pub desktop : ℕ → Held
+  pub base : ℕ → BaseState
+  pub handheld : ℕ → SideState
+  pub desktop : ℕ → SideState
   pub loose_live : List ContentValue
   pub loose_archived : List ContentValue
 
@@ -35,7 +35,7 @@ abbrev pub fate_at : Sides → ℕ → Fate
 fate_at s i = fate (s.base i) (s.handheld i) (s.desktop i)
 
 -- a new record of the handheld: a live one without a base row
-abbrev pub partner : Based → Held → Option ContentValue
+abbrev pub partner : BaseState → SideState → Option ContentValue
 partner no_base h = live_of h
 partner (row b) h = None
 partner (gone b) h = None
@@ -79,7 +79,7 @@ abbrev pub fate_for : Action → Sides → ℕ → Fate
 fate_for a s i = fate_under a (s.base i) (s.handheld i) (s.desktop i)
 
 -- new records of the handheld are paired in a synchronisation of both sides alone
-abbrev pub partner_under : Action → Based → Held → Option ContentValue
+abbrev pub partner_under : Action → BaseState → SideState → Option ContentValue
 partner_under Sync b h = partner b h
 partner_under Handheld b h = None
 partner_under Desktop b h = None
@@ -118,7 +118,7 @@ by_handheld s = record {
 }
 
 -- the desktop's row of an id with a base row that isn't gone
-abbrev pub row_of : Based → Held → Held
+abbrev pub row_of : BaseState → SideState → SideState
 row_of no_base d = nothing
 row_of (row b) d = d
 row_of (gone b) d = nothing

@@ -7,7 +7,7 @@ use Rattle.conduit_rules.specs.ById.{each_id, with_id}
 use Rattle.conduit_rules.specs.Choices.{Sides, fate_for, choice_for, partners_for}
 use Rattle.conduit_rules.specs.Fates.{Fate}
 use Rattle.conduit_rules.specs.Plans.{kept_rows, replaced_rows, gone_rows, purged_ids, replacement, lost, purged_at}
-use Rattle.conduit_rules.specs.States.{Held}
+use Rattle.conduit_rules.specs.States.{SideState}
 use Rattle.conduit_rules.specs.declared.action.Action.{Action}
 use Rattle.conduit_rules.specs.declared.draft.Draft.{Draft}
 
@@ -23,7 +23,7 @@ pub record IsDraft (a : Action) (s : Sides) (d : Draft) : Type 0 where
 
 -- the lists with what one id gives: by what becomes of it, what the handheld holds, and whether
 -- that is new
-pub record Grew (d e : Draft) (i : ℕ) (f : Fate) (h : Held)
+pub record Grew (d e : Draft) (i : ℕ) (f : Fate) (h : SideState)
     (mate : Option ContentValue) : Type 0 where
   pub kept : e.kept.items ≡ d.kept.items ++ with_id i f.keep
   pub replace : e.replace.items ≡ d.replace.items ++ with_id i (replacement f.keep h)

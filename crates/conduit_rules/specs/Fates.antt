@@ -4,7 +4,7 @@ use Rattle.std.specs.List.{list_any}
 use Rattle.pdb_values.specs.Contents.{ContentValue}
 use Rattle.conduit_rules.specs.Contents.{same_content}
 use Rattle.conduit_rules.specs.Table.{decision}
-use Rattle.conduit_rules.specs.States.{Held, nothing, live_of, archived_of, content_of, Based, no_base, row, gone, state, equal_contents}
+use Rattle.conduit_rules.specs.States.{SideState, nothing, live_of, archived_of, content_of, BaseState, no_base, row, gone, state, equal_contents}
 use Rattle.conduit_rules.specs.declared.action.Action.{Action}
 use Rattle.conduit_rules.specs.declared.action.Action.TheVariants.{Sync, Handheld, Desktop}
 use Rattle.conduit_rules.specs.declared.table.Side.TheVariants.{Gone}
@@ -23,14 +23,14 @@ pub record Fate : Type 0 where
   pub news : Option ContentValue
 
 -- the content that a cell keeps
-abbrev pub kept_content : Keep → ContentValue → Held → Held → Option ContentValue
+abbrev pub kept_content : Keep → ContentValue → SideState → SideState → Option ContentValue
 kept_content KeepNone b h d = None
 kept_content KeepBase b h d = Some b
 kept_content KeepHandheld b h d = content_of h
 kept_content KeepDesktop b h d = content_of d
 
 -- the contents that a cell archives, the handheld's first
-abbrev pub archived_contents : Archive → ContentValue → Held → Held → List ContentValue
+abbrev pub archived_contents : Archive → ContentValue → SideState → SideState → List ContentValue
 archived_contents ArchiveNone b h d = []
 archived_contents ArchiveBase b h d = b ∷ []
 archived_contents ArchiveHandheld b h d = option_to_list (content_of h)
@@ -38,12 +38,12 @@ archived_contents ArchiveDesktop b h d = option_to_list (content_of d)
 archived_contents ArchiveBoth b h d = option_to_list (content_of h) ++ option_to_list (content_of d)
 
 -- the desktop's content, where it is news
-abbrev pub news_content : Bool → Held → Option ContentValue
+abbrev pub news_content : Bool → SideState → Option ContentValue
 news_content true d = content_of d
 news_content false d = None
 
 -- an outcome in contents
-abbrev pub fate_by : Outcome → ContentValue → Held → Held → Fate
+abbrev pub fate_by : Outcome → ContentValue → SideState → SideState → Fate
 fate_by o b h d = record {
   keep = kept_content o.keep b h d;
   archive = archived_contents o.archive b h d;
@@ -51,19 +51,19 @@ fate_by o b h d = record {
 }
 
 -- under a base row
-abbrev pub cell : ContentValue → Held → Held → Fate
+abbrev pub cell : ContentValue → SideState → SideState → Fate
 cell b h d = fate_by (decision (state b h) (state b d) (equal_contents h d)) b h d
 
 -- under a gone base row
-abbrev pub gone_cell : ContentValue → Held → Fate
+abbrev pub gone_cell : ContentValue → SideState → Fate
 gone_cell b h = fate_by (decision (state b h) Gone false) b h nothing
 
 -- without a base row a live record stays and an archived one is archived
-abbrev pub unbased : Held → Fate
+abbrev pub unbased : SideState → Fate
 unbased h = record { keep = live_of h; archive = option_to_list (archived_of h); news = None }
 
 -- what becomes of an id
-abbrev pub fate : Based → Held → Held → Fate
+abbrev pub fate : BaseState → SideState → SideState → Fate
 fate no_base h d = unbased h
 fate (row b) h d = cell b h d
 fate (gone b) h d = gone_cell b h
@@ -74,14 +74,14 @@ no_fate = record { keep = None; archive = []; news = None }
 
 -- what becomes of an id where the desktop is gone by: its row counts where the base has a row that
 -- isn't gone
-abbrev pub desktop_fate : Based → Held → Fate
+abbrev pub desktop_fate : BaseState → SideState → Fate
 desktop_fate no_base d = no_fate
 desktop_fate (row b) d = unbased d
 desktop_fate (gone b) d = no_fate
 
 -- what becomes of an id by the action: by the table, by the handheld's record alone, or by the
 -- desktop's row alone
-abbrev pub fate_under : Action → Based → Held → Held → Fate
+abbrev pub fate_under : Action → BaseState → SideState → SideState → Fate
 fate_under Sync b h d = fate b h d
 fate_under Handheld b h d = unbased h
 fate_under Desktop b h d = desktop_fate b d

@@ -3,7 +3,7 @@ use Rattle.std.specs.Prelude.{◌≡◌, ℕ, ◌||◌, List, [], Bool, true, fa
 use Rattle.std.specs.Option.{option_map}
 use Rattle.pdb_values.specs.declared.record.Record.{Record}
 use Rattle.conduit_rules.specs.Runs.{front_under, IsFrom}
-use Rattle.conduit_rules.specs.States.{Held, held_where, Based, based_under, is_row}
+use Rattle.conduit_rules.specs.States.{SideState, held_where, BaseState, based_under, is_row}
 use Rattle.conduit_rules.specs.Views.{seen_where}
 use Rattle.conduit_rules.specs.declared.front.Front.{Front}
 use Rattle.conduit_rules.specs.declared.view.Seen.{Seen}
@@ -41,13 +41,13 @@ lesser_of (Some i) None = Some i
 lesser_of (Some i) (Some j) = Some (if nat_lt j i then j else i)
 
 -- what the handheld, the desktop and the base have under the id, by the entries in front
-abbrev pub seen_in : Front → Held
+abbrev pub seen_in : Front → SideState
 seen_in f = seen_where (option_map (λ e. e.1.now) f.seen)
 
-abbrev pub row_in : Front → Held
+abbrev pub row_in : Front → SideState
 row_in f = held_where (option_map (λ e. e.1.now) f.row)
 
-abbrev pub base_in : Bool → Front → Based
+abbrev pub base_in : Bool → Front → BaseState
 base_in gone_counts f = based_under gone_counts f.id (option_map (λ e. e.1.now) f.base)
 
 -- whether the row in front is without a base row: its id came before, or the base has none

@@ -8,14 +8,14 @@ use Rattle.pdb_values.specs.declared.record.Record.{Record}
 use Rattle.pdb_values.specs.declared.record.Kind.{Kind}
 use Rattle.pdb_values.specs.declared.record.Kind.TheVariants.{Live as KindLive, Archived as KindArchived, Deleted as KindDeleted}
 use Rattle.conduit_rules.specs.ById.{each_id}
-use Rattle.conduit_rules.specs.States.{Held, nothing, live, archived, Based, no_base, row, gone, first, base_at}
+use Rattle.conduit_rules.specs.States.{SideState, nothing, live, archived, BaseState, no_base, row, gone, first, base_at}
 use Rattle.conduit_rules.specs.declared.view.Seen.{Seen}
 use Rattle.conduit_rules.specs.declared.view.SeenState.{SeenState}
 use Rattle.conduit_rules.specs.declared.view.SeenState.TheVariants.{Live, Archived, Deleted, Unread}
 
 -- what an entry shows by its state; an unread record has the content that the entry bears, its base
 -- row's
-abbrev pub held_as : SeenState → ContentValue → Held
+abbrev pub held_as : SeenState → ContentValue → SideState
 held_as Live c = live c
 held_as Archived c = archived c
 held_as Deleted c = nothing
@@ -25,12 +25,12 @@ held_as Unread c = live c
 abbrev pub first_seen : ℕ → List Seen → Option Seen
 first_seen i view = find (λ s. s.id == i) view
 
-abbrev pub seen_where : Option Seen → Held
+abbrev pub seen_where : Option Seen → SideState
 seen_where None = nothing
 seen_where (Some s) = held_as s.state s.content
 
 -- what the handheld holds under an id by its view
-abbrev pub view_held : List Seen → ℕ → Held
+abbrev pub view_held : List Seen → ℕ → SideState
 view_held view i = seen_where (first_seen i view)
 
 -- the state of a record that was read
@@ -43,7 +43,7 @@ state_as KindDeleted = Deleted
 abbrev pub slow_seen : Record → Seen
 slow_seen r = record { id = r.id; state = state_as (kind_of r); content = r.content }
 
-abbrev pub unread_where : Based → Record → Seen
+abbrev pub unread_where : BaseState → Record → Seen
 unread_where no_base r = slow_seen r
 unread_where (row b) r = record { id = r.id; state = Unread; content = b }
 unread_where (gone b) r = slow_seen r
@@ -63,7 +63,7 @@ fast_view base records =
     each_id (λ i. option_to_list (option_map (fast_seen base) (first i records)))
 
 -- a record that a fast reading passes over has the content of its base row
-abbrev pub IsHonestUnder : Based → Record → Type 0
+abbrev pub IsHonestUnder : BaseState → Record → Type 0
 IsHonestUnder no_base r = Unit {0}
 IsHonestUnder (row b) r = (not r.dirty && not r.deleted) ≡ true → r.content ≡ b
 IsHonestUnder (gone b) r = Unit {0}

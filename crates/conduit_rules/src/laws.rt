@@ -8,7 +8,7 @@ ghost use Rattle.conduit_rules.specs.Contents.{same_content, count_of};
 ghost use Rattle.conduit_rules.specs.Fates.{cell, gone_cell, unbased, named, stands};
 ghost use Rattle.conduit_rules.specs.News.{unpaired};
 ghost use Rattle.conduit_rules.specs.Plans.{replaced_rows, purged_ids};
-ghost use Rattle.conduit_rules.specs.States.{Held, content_of};
+ghost use Rattle.conduit_rules.specs.States.{SideState, content_of};
 ghost use Rattle.conduit_rules.specs.Views.{slow_view, fast_view, IsHonest};
 ghost use Rattle.conduit_rules.specs.declared.action.Action.TheVariants.{Sync as ActionSync};
 ghost use Rattle.conduit_rules.specs.declared.action.Action.TheVariants.{Handheld as ActionHandheld};
@@ -32,14 +32,14 @@ pub fn the_desktop_is_kept()
 /// handheld made, is kept, archived or new.
 pub fn no_change_is_lost()
     ensures sync { (s : Sides) → choice_for ActionSync s ≡ choice s }
-    ensures handheld { (b c : ContentValue) (h d : Held)
+    ensures handheld { (b c : ContentValue) (h d : SideState)
         → content_of h ≡ Some c → same_content c b ≡ false → stands c (named (cell b h d)) ≡ true }
-    ensures desktop { (b c : ContentValue) (h d : Held)
+    ensures desktop { (b c : ContentValue) (h d : SideState)
         → content_of d ≡ Some c → same_content c b ≡ false → stands c (named (cell b h d)) ≡ true }
-    ensures gone { (b c : ContentValue) (h : Held)
+    ensures gone { (b c : ContentValue) (h : SideState)
         → content_of h ≡ Some c → same_content c b ≡ false → stands c (named (gone_cell b h))
         ≡ true }
-    ensures new { (c : ContentValue) (h : Held)
+    ensures new { (c : ContentValue) (h : SideState)
         → content_of h ≡ Some c → stands c (named (unbased h)) ≡ true }
 {}
 

@@ -9,7 +9,7 @@ use Rattle.pdb_values.specs.declared.record.Record.{Record}
 use Rattle.conduit_rules.specs.ById.{each_below, each_id, id_bound}
 use Rattle.conduit_rules.specs.Choices.{Choice}
 use Rattle.conduit_rules.specs.Plans.{replaced_rows}
-use Rattle.conduit_rules.specs.States.{Held, first}
+use Rattle.conduit_rules.specs.States.{SideState, first}
 use Rattle.conduit_rules.proofs.AgreedLaws.{RowsDiffer}
 use Rattle.conduit_rules.proofs.ByIdLaws.{each_below-zero, each_below-suc}
 use Rattle.conduit_rules.proofs.PlanLaws.{replaced_rise}
@@ -29,12 +29,12 @@ filter-below p f (suc n) =
     ∙ ap (λ ys. ys ++ filter p (f n)) (filter-below p f n) ∙ sym (each_below-suc (λ i. filter p (f i)) n)
 
 -- as many as are kept under ids that no record has
-appended-count : (keep : ℕ → Option ContentValue) (h : ℕ → Held) (rs : List Record) → ShowsNoOther h rs
+appended-count : (keep : ℕ → Option ContentValue) (h : ℕ → SideState) (rs : List Record) → ShowsNoOther h rs
     → length (appended rs (replaced_rows keep h)) ≡ length (each_id (λ i. new_under i (first i rs) (keep i)))
 appended-count keep h rs shown = grind (arith, appended-filter rs (replaced_rows keep h), filter-below (unheld rs), unheld rs, filter (unheld rs))
 
 -- those that it had, and the new ones
-pub peak-is : (ch : Choice) (h : ℕ → Held) (records : List Record) → RowsDiffer records → ShowsNoOther h records
+pub peak-is : (ch : Choice) (h : ℕ → SideState) (records : List Record) → RowsDiffer records → ShowsNoOther h records
     → peak ch h records ≡ length records + (length ch.adds + length (each_id (λ i. new_under i (first i records) (ch.keep i))))
 peak-is ch h records differ shown =
     let es = replaced_rows ch.keep h in

@@ -9,7 +9,7 @@ use Rattle.pdb_values.specs.Databases.{DatabaseValue}
 use Rattle.pdb_values.specs.declared.record.Record.{Record}
 use Rattle.conduit_rules.specs.Choices.{Choice}
 use Rattle.conduit_rules.specs.Plans.{IsPlan, replaced_rows}
-use Rattle.conduit_rules.specs.States.{Held}
+use Rattle.conduit_rules.specs.States.{SideState}
 use Rattle.conduit_rules.specs.Views.{slow_view, view_held}
 use Rattle.conduit_rules.specs.declared.planned.Plan.{Plan}
 use Rattle.handheld_files.specs.Settled.{are_ids, are_settled}
@@ -112,7 +112,7 @@ full_peak both wishes plan before is same large =
 
 -- ---- the handheld
 
-after_whole : (ch : Choice) (handheld : ℕ → Held) (given : List ℕ) (records : List Record) → handheld ≡ view_held (slow_view records)
+after_whole : (ch : Choice) (handheld : ℕ → SideState) (given : List ℕ) (records : List Record) → handheld ≡ view_held (slow_view records)
     → AreIds (ids_of records) → AreBounded records → GotFreeIds ch handheld given records
     → after (giving ch handheld given ++ clearing ch handheld) records ≡ merged_records ch handheld given records
 after_whole ch handheld given records is ids bounded free =

@@ -3,7 +3,7 @@ use Rattle.std.specs.Prelude.{◌≡◌, ◌+◌, ⊤, ℕ, Bool, true, List, le
 use Rattle.pdb_values.specs.declared.record.Record.{Record}
 use Rattle.conduit_rules.specs.Choices.{Choice}
 use Rattle.conduit_rules.specs.Plans.{gone_rows, kept_rows, replaced_rows}
-use Rattle.conduit_rules.specs.States.{Held}
+use Rattle.conduit_rules.specs.States.{SideState}
 use Rattle.record_merge.specs.Merging.{merged_archive}
 use Rattle.record_merge.specs.Writes.{after, replaces}
 use Rattle.session_plan.specs.Archives.{entries_of}
@@ -17,12 +17,12 @@ use Rattle.database_merge.specs.declared.both_sides.BothSides.{BothSides}
 use Rattle.database_merge.specs.declared.wishes.MergeWishes.{MergeWishes}
 
 -- how many records a handheld has once the replacements and the adds are written, before any goes
-abbrev pub peak : Choice → (ℕ → Held) → List Record → ℕ
+abbrev pub peak : Choice → (ℕ → SideState) → List Record → ℕ
 peak ch handheld records =
     length (after (replaces (replaced_rows ch.keep handheld)) records) + length ch.adds
 
 -- how much a merge makes; the numbers of databases aren't looked at
-abbrev pub sizes_by : Choice → (ℕ → Held) → List Record → List Record → Sizes
+abbrev pub sizes_by : Choice → (ℕ → SideState) → List Record → List Record → Sizes
 sizes_by ch handheld records archive = record {
   handhelds = 0;
   desktops = 0;

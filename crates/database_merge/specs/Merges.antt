@@ -3,7 +3,7 @@ use Rattle.std.specs.Prelude.{◌≡◌, ℕ, false, List, length, Option, Some,
 use Rattle.std.specs.Option.{option_or}
 use Rattle.pdb_values.specs.Databases.{DatabaseValue}
 use Rattle.conduit_rules.specs.Choices.{Choice}
-use Rattle.conduit_rules.specs.States.{Held}
+use Rattle.conduit_rules.specs.States.{SideState}
 use Rattle.palm_device.specs.Records.{with_records}
 use Rattle.record_merge.specs.Merging.{merged_archive, merged_base, merged_records, merged_rows}
 use Rattle.record_merge.specs.Writes.{GotFreeIds}
@@ -16,7 +16,7 @@ use Rattle.database_merge.specs.declared.both_sides.BothSides.{BothSides}
 use Rattle.database_merge.specs.declared.wishes.MergeWishes.{MergeWishes}
 
 -- the handheld's database with its records merged
-abbrev pub handheld_after : Choice → (ℕ → Held) → List ℕ → DatabaseValue → DatabaseValue
+abbrev pub handheld_after : Choice → (ℕ → SideState) → List ℕ → DatabaseValue → DatabaseValue
 handheld_after ch handheld given before =
     with_records (merged_records ch handheld given before.records) before
 
@@ -29,7 +29,7 @@ archive_after ch archive rows =
 
 -- The handheld's database and the desktop's rows before, each a new one where its side lacks it,
 -- become this with new records under these ids.
-abbrev pub left_by : Choice → (ℕ → Held) → List ℕ → Option DatabaseValue → DatabaseValue
+abbrev pub left_by : Choice → (ℕ → SideState) → List ℕ → Option DatabaseValue → DatabaseValue
     → DatabaseValue → BothSides
 left_by ch handheld given archive before rows = record {
   handheld = Some (handheld_after ch handheld given before);

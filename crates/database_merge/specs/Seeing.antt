@@ -2,7 +2,7 @@
 use Rattle.std.specs.Prelude.{◌≡◌, ℕ, true, List, [], ◌∷◌, ◌++◌, Option, is_some}
 use Rattle.std.specs.Option.{option_map}
 use Rattle.conduit_rules.specs.Choices.{Choice, Sides, choice_for}
-use Rattle.conduit_rules.specs.States.{Held}
+use Rattle.conduit_rules.specs.States.{SideState}
 use Rattle.conduit_rules.specs.Views.{slow_view}
 use Rattle.conduit_rules.specs.declared.action.Action.{Action}
 use Rattle.conduit_rules.specs.declared.planned.Plan.{Plan}
@@ -37,7 +37,7 @@ abbrev pub merge_choice : BothSides → MergeWishes → Choice
 merge_choice both wishes = choice_for wishes.action (sides both wishes)
 
 -- what the handheld holds under an id, as it is seen
-abbrev pub shown : BothSides → MergeWishes → ℕ → Held
+abbrev pub shown : BothSides → MergeWishes → ℕ → SideState
 shown both wishes = (sides both wishes).handheld
 
 -- why a session skips the database, if it does

@@ -24,7 +24,7 @@ use Rattle.pdb_files.proofs.WriteLaws.{length-zeros_behind}
 use Rattle.folder_files.specs.FileNames.{slot_prefix}
 use Rattle.folder_files.specs.InfoFiles.{IsDesktopFile, desktop_forms, desktop_values, one_user_forms, one_user_values, slot_forms}
 use Rattle.folder_files.specs.Hexadecimal.{bytes_text}
-use Rattle.folder_files.specs.Lines.{AreLines, Form, Kind, Says, Value, Values}
+use Rattle.folder_files.specs.Lines.{AreLines, LineForm, ValueKind, Says, Value, Values}
 use Rattle.desk_store.specs.DeskFiles.{slot_file}
 use Rattle.desk_store.proofs.OwnLaws.{ending_of, slot_file-ends, slot_stem}
 use Rattle.desk_store.specs.declared.role.Role.{Role}
@@ -127,10 +127,10 @@ few_password is = grind (arith, common_steps, nat_tests, ltb-false)
 text-length : (bytes : List ℕ) → length bytes ≤ 40 → length (bytes_text bytes) ≤ 80
 text-length bytes few = grind (arith, common_steps, nat_tests, length-encode_with)
 
-value-length : (kind : Kind) (value : Value kind) (text : List ℕ) → Says kind value text → length text ≤ 130
+value-length : (kind : ValueKind) (value : Value kind) (text : List ℕ) → Says kind value text → length text ≤ 130
 value-length kind value text is = search (rules, length-encode_with, text-length, few_bytes, few_password, length-decimal-le, length-append)
 
-lines-length : (forms : List Form) (values : Values forms) (bytes : List ℕ) → AllByRecursion (λ form. length form.key ≤ 19) forms → AreLines forms values bytes
+lines-length : (forms : List LineForm) (values : Values forms) (bytes : List ℕ) → AllByRecursion (λ form. length form.key ≤ 19) forms → AreLines forms values bytes
     → length bytes ≤ 150 * length forms
 lines-length [] values bytes keys are = omega (arith, ap length are)
 lines-length (form ∷ forms) values bytes keys are =

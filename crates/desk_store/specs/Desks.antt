@@ -70,14 +70,14 @@ pub record StaysOpenable (now : Option FileMap) (old new : Moments) : Type 0 whe
   pub each : EachMomentSince (λ told. IfSome told IsOpenable) old new
 
 -- what the files of a folder show of the cause of each refusal
-abbrev pub Shows : FileMap → DeskOpenFault → Type 0
-Shows held DeskFault = ⊤
-Shows held TooMany = 200 < rows_count (finmap.keys held)
-Shows held (BadFile name kind place) =
+abbrev pub ShowsDeskFault : FileMap → DeskOpenFault → Type 0
+ShowsDeskFault held DeskFault = ⊤
+ShowsDeskFault held TooMany = 200 < rows_count (finmap.keys held)
+ShowsDeskFault held (BadFile name kind place) =
     (rows_count (finmap.keys held) ≤ 200)
     × (first_bad_in held
     ≡ Some (string_bytes {Z = Global} name, record { kind = kind; place = place }))
-Shows held NoMemory = ⊤
+ShowsDeskFault held NoMemory = ⊤
 
 -- a refusal that judges the files
 abbrev pub IsJudged : DeskOpenFault → Type 0

@@ -11,7 +11,7 @@ ghost use Rattle.desk_journal.specs.Steps.{GoesThrough, GoesThroughAll};
 ghost use Rattle.desk_store.specs.declared.role.Role.{Role};
 ghost use Rattle.desk_store.specs.Bounds.{AreBounded};
 ghost use Rattle.desk_store.specs.Changes.{IsDeskChange, MayBear, change_entries, changed, steps_of, with_commit};
-ghost use Rattle.desk_store.specs.Desks.{IsDesk, IsJudged, IsOpenable, IsPickable, IsReadable, Shows, StaysOpenable, all_rows, place_of};
+ghost use Rattle.desk_store.specs.Desks.{IsDesk, IsJudged, IsOpenable, IsPickable, IsReadable, ShowsDeskFault, StaysOpenable, all_rows, place_of};
 ghost use Rattle.desk_store.specs.Finds.{rows_count};
 ghost use Rattle.desk_store.specs.Shelves.{marks_of, number_of, shelf_of};
 ghost use Rattle.desk_store.specs.Views.{folder_in, marks_in, picked_slot, shelves_in};
@@ -72,7 +72,7 @@ impl<F: Folder> Desk<F> {
         // Which answer comes.
         ensures readable { IfOk result (λ desk. IfSome (F.contents desk.folder) IsReadable) }
         ensures shown { IfErr result (λ refusal. IfSome (F.contents folder)
-            (λ held. Shows (finished held) refusal.0)) }
+            (λ held. ShowsDeskFault (finished held) refusal.0)) }
         ensures cause { HasCause (F.faults folder) (F.faults (folder_in result))
             (IsErrAnd result (λ refusal. refusal.0 ≡ DeskOpenFault.DeskFault)) }
 

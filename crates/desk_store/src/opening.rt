@@ -9,7 +9,7 @@ ghost use Rattle.folder_files.specs.InfoFiles.{desktop_in};
 ghost use Rattle.folder_files.specs.Slots.{AreSlots};
 ghost use Rattle.desk_journal.specs.Overlays.{FinishesAs, StandsAs, finished};
 ghost use Rattle.desk_store.specs.Bounds.{AreBounded};
-ghost use Rattle.desk_store.specs.Desks.{IsDesk, IsJudged, IsReadable, Shows};
+ghost use Rattle.desk_store.specs.Desks.{IsDesk, IsJudged, IsReadable, ShowsDeskFault};
 ghost use Rattle.desk_store.specs.Finds.{FindsAll, rows_count};
 ghost use Rattle.desk_store.specs.Shelves.{AreInOrder, first_slots as untouched, marks_of, slots_in, slots_or_first};
 
@@ -36,7 +36,7 @@ pub(crate) fn open_files<F: Folder>(
     ensures sound { IfOk result (λ slots. AreBounded slots.items) }
     ensures readable { IfOk result (λ slots. IfSome (F.contents folder.new) IsReadable) }
     ensures shown { IfErr result (λ fault. IfSome (F.contents folder.old)
-        (λ held. Shows (finished held) fault)) }
+        (λ held. ShowsDeskFault (finished held) fault)) }
     ensures judged { IfErr result (λ fault. IsJudged fault → F.contents folder.new
         ≡ option_map finished (F.contents folder.old)) }
     ensures cause { HasCause (F.faults folder.old) (F.faults folder.new)

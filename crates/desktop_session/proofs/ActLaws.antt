@@ -13,7 +13,7 @@ use Rattle.dlp_commands.specs.Changes.{asks_by}
 use Rattle.dlp_commands.specs.DeviceSteps.{DeviceStep, function_number, outcome, served, tried, tried_by}
 use Rattle.dlp_commands.specs.Reached.{writes}
 use Rattle.dlp_commands.specs.Writings.{WriteRecord}
-use Rattle.dlp_commands.specs.Talks.{Talk, Answered, WasAnswered}
+use Rattle.dlp_commands.specs.Talks.{Talk, HasAnswer, WasAnswered}
 use Rattle.desktop_session.specs.Acts.{Act, act, acted, text, AsksNoId}
 use Rattle.desktop_session.specs.Says.{saying}
 use Rattle.std.proofs.Common.{rules}
@@ -59,7 +59,7 @@ unfolding saying
 told_one one was is = search (rules)
 
 pub saying_answered : {new : Option Talk} (old : Option Talk) (value : RequestValue) (answer : List ℕ) → IsRequest value → AsksNoId value
-    → Answered old (request_text value) answer new → new ≡ saying (act value ∷ []) old
+    → HasAnswer old (request_text value) answer new → new ≡ saying (act value ∷ []) old
 unfolding saying text
 saying_answered None value answer fits fixed is = is
 saying_answered (Some old) value answer fits fixed is =

@@ -10,7 +10,7 @@ use Rattle.dlp_commands.specs.Talks.{Talk}
 use Rattle.desktop_session.specs.declared.fault.SessionFault.{SessionFault}
 use Rattle.desktop_session.specs.Acts.{Act, acted, text}
 use Rattle.desktop_session.specs.Answers.{answer_by, mapped, no_more, said_in, user_of}
-use Rattle.desktop_session.specs.Greetings.{AsksUser, Greeted, HasSlot, begun_by, user_by}
+use Rattle.desktop_session.specs.Greetings.{AsksUser, AnswersGreeting, HasSlot, begun_by, user_by}
 use Rattle.desktop_session.specs.Requests.{beginning, reading_user}
 use Rattle.desktop_session.specs.Says.{said, saying}
 use Rattle.desktop_session.specs.Stops.{Does}
@@ -41,7 +41,7 @@ first_failed fault first second is = search (rules)
 
 pub greet_first : (users : List ℕ) (add : Bool) (talk : Option Talk) {fault : Option LinkFault} (reply : List ℕ) {e : SessionFault}
     → ◌≡◌ {A = Result UserInfo SessionFault} (Err e) (answer_by fault (user_by users add (said_in 0x10 user_of (reply_at 0x10 reply))))
-    → (fault ≡ None → IfSome talk (λ talk. reply ≡ (acted reading_user talk.device).0)) → Greeted users add talk fault (Err e)
+    → (fault ≡ None → IfSome talk (λ talk. reply ≡ (acted reading_user talk.device).0)) → AnswersGreeting users add talk fault (Err e)
 greet_first users add talk {fault} reply is told = record {
   first = reply;
   second = second_of talk;
@@ -65,7 +65,7 @@ pub greet_second : (users : List ℕ) (add : Bool) (talk mid : Option Talk) {bef
     → Ok user ≡ answer_by before (user_by users add (said_in 0x10 user_of (reply_at 0x10 first)))
     → (before ≡ None → IfSome talk (λ talk. first ≡ (acted reading_user talk.device).0)) → (before ≡ None → mid ≡ saying (reading_user ∷ []) talk)
     → r ≡ answer_by fault (said_in 0x2E no_more (reply_at 0x2E second)) → (fault ≡ None → IfSome mid (λ talk. second ≡ (acted beginning talk.device).0))
-    → Greeted users add talk fault (mapped (λ _. user) r)
+    → AnswersGreeting users add talk fault (mapped (λ _. user) r)
 greet_second users add talk mid {before} {fault} first second {user} known told said is begun =
     let none : before ≡ None = no_fault_said before (user_by users add (said_in 0x10 user_of (reply_at 0x10 first))) user known in
     let found = said_of_answer before (user_by users add (said_in 0x10 user_of (reply_at 0x10 first))) known in

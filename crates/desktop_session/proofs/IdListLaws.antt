@@ -9,7 +9,7 @@ use Rattle.desktop_session.specs.Acts.{acted, text}
 use Rattle.desktop_session.specs.Lists.{id_listings, ids_in, ids_listed}
 use Rattle.desktop_session.specs.Requests.{listing_ids}
 use Rattle.desktop_session.specs.Sessions.{SessionValue}
-use Rattle.desktop_session.specs.Stops.{Asked, Does, Stops}
+use Rattle.desktop_session.specs.Stops.{AsksOne, Does, Stops}
 use Rattle.desktop_session.proofs.ListLaws.{id_listings_next, id_reply_from, ids_next}
 use Rattle.desktop_session.proofs.StopLaws.{does_none, does_then, fell_none, stops_more, stops_none, stops_then}
 use Rattle.std.proofs.lemmas.Grind.{common_steps}
@@ -48,7 +48,7 @@ module _ {L : Type 0} {talk : L → Option Talk} {since : L → L → Type 0} {f
 
   -- one request more, that was sent
   pub ids_stop : (since_more : (a b c : L) → since a b → since b c → since a c) {handle parts : ℕ} (start : ℕ) {ids : List ℕ} {old now new : SessionValue L}
-      → start ≡ 8000 * parts → IdsSoFar talk since fault downs handle parts ids old now → Asked talk since fault downs (listing_ids handle start) now new
+      → start ≡ 8000 * parts → IdsSoFar talk since fault downs handle parts ids old now → AsksOne talk since fault downs (listing_ids handle start) now new
       → Stops talk since fault downs (map text (id_listings handle (parts + 1))) old.link new.link
   ids_stop since_more {handle} {parts} start {old} {now} {new} begins before asked =
       let here : Stops talk since fault downs (text (listing_ids handle (8000 * parts)) ∷ []) now.link new.link =
@@ -59,7 +59,7 @@ module _ {L : Type 0} {talk : L → Option Talk} {since : L → L → Type 0} {f
 
   pub ids_on : (since_more : (a b c : L) → since a b → since b c → since a c) {handle parts : ℕ} (start : ℕ) {ids more_ids : List ℕ}
       {old now new : SessionValue L}
-      → start ≡ 8000 * parts → IdsSoFar talk since fault downs handle parts ids old now → Asked talk since fault downs (listing_ids handle start) now new
+      → start ≡ 8000 * parts → IdsSoFar talk since fault downs handle parts ids old now → AsksOne talk since fault downs (listing_ids handle start) now new
       → fault new.link ≡ None → more_ids ≡ ids ++ ids_in (reply_at 0x31 new.reply) → IdsSoFar talk since fault downs handle (parts + 1) more_ids old new
   ids_on since_more {handle} {parts} start {ids} {old} {now} {new} begins before asked none added =
       let does : Does talk (listing_ids handle (8000 * parts) ∷ []) now.link new.link =

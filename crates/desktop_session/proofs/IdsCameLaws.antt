@@ -16,7 +16,7 @@ use Rattle.desktop_session.specs.Requests.{listing_ids}
 use Rattle.desktop_session.specs.Says.{saying}
 use Rattle.desktop_session.specs.Sessions.{SessionValue}
 use Rattle.desktop_session.specs.Starts.{IsCounted}
-use Rattle.desktop_session.specs.Stops.{Asked, Does, Stops}
+use Rattle.desktop_session.specs.Stops.{AsksOne, Does, Stops}
 use Rattle.desktop_session.proofs.CameLaws.{Came, ids_came}
 use Rattle.desktop_session.proofs.IdListLaws.{IdsSoFar, ids_begin, ids_stop}
 use Rattle.desktop_session.proofs.ListLaws.{id_listings_next, id_reply_from, ids_next}
@@ -83,10 +83,10 @@ unfolding reply_at
 none_read number = refl
 
 pub asked_at : {L : Type 0} {talk : L → Option Talk} {since : L → L → Type 0} {fault : L → Option LinkFault} {downs : L → ℕ} {handle start : ℕ}
-    {now new : SessionValue L} (ids : List ℕ) → start ≡ length ids → Asked talk since fault downs (listing_ids handle start) now new
-    → Asked talk since fault downs (listing_ids handle (length ids)) now new
+    {now new : SessionValue L} (ids : List ℕ) → start ≡ length ids → AsksOne talk since fault downs (listing_ids handle start) now new
+    → AsksOne talk since fault downs (listing_ids handle (length ids)) now new
 asked_at {talk} {since} {fault} {downs} {handle} {now} {new} ids is asked =
-    subst (λ n. Asked talk since fault downs (listing_ids handle n) now new) is asked
+    subst (λ n. AsksOne talk since fault downs (listing_ids handle n) now new) is asked
 
 untold_on : {now : Option Talk} (first : Option Talk) (acts : List Act) → first ≡ None → now ≡ saying acts first → now ≡ None
 unfolding saying
@@ -122,7 +122,7 @@ module _ {L : Type 0} {talk : L → Option Talk} {since : L → L → Type 0} {f
   -- the reply is the device's
   reply_of : {ids : List ℕ} {now new : SessionValue L} {said : Talk} (before : IdsCame talk since fault downs handle count ids old now)
       (is : talk old.link ≡ Some said) (at : AtParts handle count ids before.acts said.device) → length ids < count
-      → Asked talk since fault downs (listing_ids handle (length ids)) now new → fault new.link ≡ None
+      → AsksOne talk since fault downs (listing_ids handle (length ids)) now new → fault new.link ≡ None
       → reply_at 0x31 new.reply ≡ reply_at 0x31 (acted (listing_ids handle (8000 * at.parts)) said.device).0
   reply_of {ids} {now} {new} {said} before is at less asked none =
       subst (λ o. IfSome o (λ talk. reply_at 0x31 new.reply ≡ reply_at 0x31 (acted (listing_ids handle (8000 * at.parts)) talk.device).0)) is
@@ -130,7 +130,7 @@ module _ {L : Type 0} {talk : L → Option Talk} {since : L → L → Type 0} {f
 
   came_of : {ids : List ℕ} {now new : SessionValue L} {said : Talk} (before : IdsCame talk since fault downs handle count ids old now)
       (is : talk old.link ≡ Some said) (at : AtParts handle count ids before.acts said.device) → IsCounted (talk old.link) handle count
-      → length ids < count → Asked talk since fault downs (listing_ids handle (length ids)) now new → fault new.link ≡ None
+      → length ids < count → AsksOne talk since fault downs (listing_ids handle (length ids)) now new → fault new.link ≡ None
       → IsOk (said_in 0x31 ids_of (reply_at 0x31 new.reply)) → Came (8000 * at.parts) count (length (ids_in (reply_at 0x31 new.reply)))
   came_of {new} {said} before is at counted less asked none read =
       let same = reply_of before is at less asked none in
@@ -139,7 +139,7 @@ module _ {L : Type 0} {talk : L → Option Talk} {since : L → L → Type 0} {f
       (subst (λ r. IsOk (said_in 0x31 ids_of r)) same read))
 
   told_more : {ids : List ℕ} {now new : SessionValue L} (before : IdsCame talk since fault downs handle count ids old now) → length ids < count
-      → Asked talk since fault downs (listing_ids handle (length ids)) now new → fault new.link ≡ None
+      → AsksOne talk since fault downs (listing_ids handle (length ids)) now new → fault new.link ≡ None
       → IsOk (said_in 0x31 ids_of (reply_at 0x31 new.reply)) → IsCounted (talk old.link) handle count → (o : Option Talk) → talk old.link ≡ o
       → IfSome o (λ talk. AtParts handle count (ids ++ ids_in (reply_at 0x31 new.reply)) (before.acts ++ listing_ids handle (length ids) ∷ []) talk.device)
   told_more before less asked none read counted None is = tt
@@ -150,7 +150,7 @@ module _ {L : Type 0} {talk : L → Option Talk} {since : L → L → Type 0} {f
 
   pub came_more : (since_more : (a b c : L) → since a b → since b c → since a c) {ids more : List ℕ} {now new : SessionValue L}
       → IdsCame talk since fault downs handle count ids old now → length ids < count
-      → Asked talk since fault downs (listing_ids handle (length ids)) now new → fault new.link ≡ None
+      → AsksOne talk since fault downs (listing_ids handle (length ids)) now new → fault new.link ≡ None
       → IsOk (said_in 0x31 ids_of (reply_at 0x31 new.reply)) → more ≡ ids ++ ids_in (reply_at 0x31 new.reply)
       → IdsCame talk since fault downs handle count more old new
   came_more since_more {ids} {more} {now} {new} before less asked none read added =
@@ -168,7 +168,7 @@ module _ {L : Type 0} {talk : L → Option Talk} {since : L → L → Type 0} {f
 
   -- some came, where a device is told
   pub some_came : {ids : List ℕ} {now new : SessionValue L} → IdsCame talk since fault downs handle count ids old now → length ids < count
-      → Asked talk since fault downs (listing_ids handle (length ids)) now new → fault new.link ≡ None
+      → AsksOne talk since fault downs (listing_ids handle (length ids)) now new → fault new.link ≡ None
       → IsOk (said_in 0x31 ids_of (reply_at 0x31 new.reply)) → IsCounted (talk old.link) handle count
       → IfSome (talk old.link) (λ talk. 0 < length (ids_in (reply_at 0x31 new.reply)))
   some_came {ids} {now} {new} before less asked none read counted = by (talk old.link) refl
@@ -183,7 +183,7 @@ module _ {L : Type 0} {talk : L → Option Talk} {since : L → L → Type 0} {f
 
   pub came_stops : (since_more : (a b c : L) → since a b → since b c → since a c) {ids : List ℕ} {now new : SessionValue L}
       → IdsCame talk since fault downs handle count ids old now → length ids < count
-      → Asked talk since fault downs (listing_ids handle (length ids)) now new → IsCounted (talk old.link) handle count
+      → AsksOne talk since fault downs (listing_ids handle (length ids)) now new → IsCounted (talk old.link) handle count
       → Stops talk since fault downs (map text (id_listings handle (id_parts count))) old.link new.link
   came_stops since_more {ids} {now} {new} before less asked counted = by (talk old.link) refl
     where
@@ -197,7 +197,7 @@ module _ {L : Type 0} {talk : L → Option Talk} {since : L → L → Type 0} {f
           ids_begin handle (at.parts + 1) (id_parts count) (omega (arith, start, less)) (ids_stop since_more (length ids) start (so_far before is at) asked)
 
   pub came_replied : {ids : List ℕ} {now new : SessionValue L} → IdsCame talk since fault downs handle count ids old now → length ids < count
-      → Asked talk since fault downs (listing_ids handle (length ids)) now new → IsCounted (talk old.link) handle count
+      → AsksOne talk since fault downs (listing_ids handle (length ids)) now new → IsCounted (talk old.link) handle count
       → IsByReplyTo talk fault (id_parts count) (λ part. listing_ids handle (8000 * part)) old new
   came_replied {ids} {now} {new} before less asked counted = by (talk old.link) refl
     where
@@ -207,7 +207,7 @@ module _ {L : Type 0} {talk : L → Option Talk} {since : L → L → Type 0} {f
           let at = at_of before is counted in
           let start = at.at less in
           ids_replied (id_parts count) (so_far before is at)
-          (subst (λ n. Asked talk since fault downs (listing_ids handle n) now new) start asked) (omega (arith, start, less))
+          (subst (λ n. AsksOne talk since fault downs (listing_ids handle n) now new) start asked) (omega (arith, start, less))
 
   pub came_all_stops : {ids : List ℕ} {now : SessionValue L} → IdsCame talk since fault downs handle count ids old now → count ≤ length ids
       → IsCounted (talk old.link) handle count → Stops talk since fault downs (map text (id_listings handle (id_parts count))) old.link now.link
@@ -242,7 +242,7 @@ module _ {L : Type 0} {talk : L → Option Talk} {since : L → L → Type 0} {f
   -- ---- a reply without ids where some are due comes from no device that is told
 
   pub short_untold : {ids more : List ℕ} {now new : SessionValue L} → IdsCame talk since fault downs handle count ids old now → length ids < count
-      → Asked talk since fault downs (listing_ids handle (length ids)) now new → fault new.link ≡ None
+      → AsksOne talk since fault downs (listing_ids handle (length ids)) now new → fault new.link ≡ None
       → IsOk (said_in 0x31 ids_of (reply_at 0x31 new.reply)) → more ≡ ids ++ ids_in (reply_at 0x31 new.reply) → length more ≡ length ids
       → IsCounted (talk old.link) handle count → talk old.link ≡ None
   short_untold {ids} {more} {now} {new} before less asked none read added same counted =

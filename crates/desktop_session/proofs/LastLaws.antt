@@ -24,7 +24,7 @@ use Rattle.desktop_session.proofs.ActLaws.{read_back}
 use Rattle.desktop_session.proofs.AnswerLaws.{cause_of_reply}
 use Rattle.desktop_session.specs.Says.{saying}
 use Rattle.desktop_session.specs.Sessions.{SessionValue}
-use Rattle.desktop_session.specs.Stops.{Asked, Does}
+use Rattle.desktop_session.specs.Stops.{AsksOne, Does}
 use Rattle.desktop_session.specs.Tellings.{number_of}
 
 -- what the reply to one act says is what the last reply says
@@ -44,13 +44,13 @@ says_last says one {new} (Some talk) bytes fits is told reads =
     })
 
 module _ {L : Type 0} {talk : L → Option Talk} {since : L → L → Type 0} {fault : L → Option LinkFault} {downs : L → ℕ} {one : Act} {old new : SessionValue L} where
-  asked_last : (says : RequestValue → Result ReplyValue ReplyFault → Type 0) → Asked talk since fault downs one old new → fault new.link ≡ None
+  asked_last : (says : RequestValue → Result ReplyValue ReplyFault → Type 0) → AsksOne talk since fault downs one old new → fault new.link ≡ None
       → says one.asks (reply_at (number_of one) new.reply) → IfSome (talk new.link) (LastSays says)
   asked_last says asked none reads =
       says_last says one (talk old.link) new.reply asked.fits ((asked.does none).said) (asked.told none) reads
 
   -- by the cause of a refusal, its function, and that it is not the answer that a call has for error 5
-  pub last_by : (cause : SessionFault) → Asked talk since fault downs one old new → HasCause (fault new.link) (reply_at (number_of one) new.reply) cause
+  pub last_by : (cause : SessionFault) → AsksOne talk since fault downs one old new → HasCause (fault new.link) (reply_at (number_of one) new.reply) cause
       → IsToldOf (number_of one) cause → (may_find_none one.asks.form ≡ true → IsNotMissing cause) → IsByLastReply (talk new.link) cause
   last_by (session.Refused function code) asked is own other =
       asked_last (IsRefusal function code.0) asked is.0 (record { own = own; refuses = is.1; other = other })
@@ -59,7 +59,7 @@ module _ {L : Type 0} {talk : L → Option Talk} {since : L → L → Type 0} {f
   last_by other asked is own found = tt
 
   -- and without the last
-  pub error_by : (cause : SessionFault) → Asked talk since fault downs one old new → HasCause (fault new.link) (reply_at (number_of one) new.reply) cause
+  pub error_by : (cause : SessionFault) → AsksOne talk since fault downs one old new → HasCause (fault new.link) (reply_at (number_of one) new.reply) cause
       → IsToldOf (number_of one) cause → IsByErrorReply (talk new.link) cause
   error_by (session.Refused function code) asked is own =
       asked_last (IsErrorReply function code.0) asked is.0 (record { own = own; refuses = is.1 })
@@ -113,7 +113,7 @@ never_missing f P none some = absurd (let never : ⊥ = cc in never)
 
 module _ {L A : Type 0} {talk : L → Option Talk} {since : L → L → Type 0} {fault : L → Option LinkFault} {downs : L → ℕ} {one : Act} {old new : SessionValue L} where
   -- by what an answered act's reply says
-  pub last_caused : (answer : Result A SessionFault) → Asked talk since fault downs one old new
+  pub last_caused : (answer : Result A SessionFault) → AsksOne talk since fault downs one old new
       → ◌≡◌ {A = Result (Unit {0}) SessionFault} (Ok tt) (answer_by (fault new.link) (Ok tt))
       → IfErr answer (HasCause None (reply_at (number_of one) new.reply)) → IfErr answer (IsToldOf (number_of one))
       → (may_find_none one.asks.form ≡ true → IfErr answer IsNotMissing) → IfErr answer (IsByLastReply (talk new.link))
@@ -121,7 +121,7 @@ module _ {L A : Type 0} {talk : L → Option Talk} {since : L → L → Type 0} 
   last_caused (Err cause) asked done_is is own other =
       last_by cause asked (cause_of_reply (fault new.link) (reply_at (number_of one) new.reply) cause done_is is) own other
 
-  pub last_said : (take : ReplyValue → A) (answer : Result A SessionFault) → may_find_none one.asks.form ≡ false → Asked talk since fault downs one old new
+  pub last_said : (take : ReplyValue → A) (answer : Result A SessionFault) → may_find_none one.asks.form ≡ false → AsksOne talk since fault downs one old new
       → ◌≡◌ {A = Result (Unit {0}) SessionFault} (Ok tt) (answer_by (fault new.link) (Ok tt))
       → answer ≡ said_in (number_of one) take (reply_at (number_of one) new.reply) → IfErr answer (IsByLastReply (talk new.link))
   last_said take (Ok done) none asked done_is is = tt
@@ -131,7 +131,7 @@ module _ {L A : Type 0} {talk : L → Option Talk} {since : L → L → Type 0} 
 
   -- by what a call answers
   pub last_answered : (take : ReplyValue → A) (answer : Result A SessionFault) → may_find_none one.asks.form ≡ false
-      → Asked talk since fault downs one old new
+      → AsksOne talk since fault downs one old new
       → answer ≡ answer_by (fault new.link) (said_in (number_of one) take (reply_at (number_of one) new.reply)) → IfErr answer (IsByLastReply (talk new.link))
   last_answered take (Ok done) none asked is = tt
   last_answered take (Err cause) none asked is =
@@ -229,31 +229,31 @@ other_removed (Some fault) said cause is = link_other fault cause is
 
 module _ {L : Type 0} {talk : L → Option Talk} {since : L → L → Type 0} {fault : L → Option LinkFault} {downs : L → ℕ} {one : Act} {old new : SessionValue L} where
   pub last_refused_by : {A : Type 0} (take : ReplyValue → A) (cause : SessionFault) → (may_find_none one.asks.form ≡ true → IsNotMissing cause)
-      → Asked talk since fault downs one old new
+      → AsksOne talk since fault downs one old new
       → Err cause ≡ answer_by (fault new.link) (said_in (number_of one) take (reply_at (number_of one) new.reply)) → IsByLastReply (talk new.link) cause
   last_refused_by take cause other asked is =
       last_by cause asked (cause_answered (fault new.link) (number_of one) take (reply_at (number_of one) new.reply) cause is)
       (told_answered (fault new.link) (number_of one) take (reply_at (number_of one) new.reply) cause is) other
 
-  pub error_refused : {A : Type 0} (take : ReplyValue → A) (cause : SessionFault) → Asked talk since fault downs one old new
+  pub error_refused : {A : Type 0} (take : ReplyValue → A) (cause : SessionFault) → AsksOne talk since fault downs one old new
       → Err cause ≡ answer_by (fault new.link) (said_in (number_of one) take (reply_at (number_of one) new.reply)) → IsByErrorReply (talk new.link) cause
   error_refused take cause asked is =
       error_by cause asked (cause_answered (fault new.link) (number_of one) take (reply_at (number_of one) new.reply) cause is)
       (told_answered (fault new.link) (number_of one) take (reply_at (number_of one) new.reply) cause is)
 
   pub last_refused : {A : Type 0} (take : ReplyValue → A) (cause : SessionFault) → may_find_none one.asks.form ≡ false
-      → Asked talk since fault downs one old new
+      → AsksOne talk since fault downs one old new
       → Err cause ≡ answer_by (fault new.link) (said_in (number_of one) take (reply_at (number_of one) new.reply)) → IsByLastReply (talk new.link) cause
   last_refused take cause none asked is = last_refused_by take cause (never_missing one.asks.form _ none) asked is
 
-  pub last_found : {A : Type 0} (take : ReplyValue → A) (cause : SessionFault) → Asked talk since fault downs one old new
+  pub last_found : {A : Type 0} (take : ReplyValue → A) (cause : SessionFault) → AsksOne talk since fault downs one old new
       → ◌≡◌ {A = Result (Option A) SessionFault} (Err cause) (answer_by (fault new.link) (or_none (said_in (number_of one) take (reply_at (number_of one) new.reply))))
       → IsByLastReply (talk new.link) cause
   last_found take cause asked is =
       last_refused_by take cause (λ may. other_found (fault new.link) (said_in (number_of one) take (reply_at (number_of one) new.reply)) cause is) asked
       (by_found (fault new.link) (said_in (number_of one) take (reply_at (number_of one) new.reply)) cause is)
 
-  pub last_removed : (cause : SessionFault) → Asked talk since fault downs one old new
+  pub last_removed : (cause : SessionFault) → AsksOne talk since fault downs one old new
       → ◌≡◌ {A = Result Bool SessionFault} (Err cause) (answer_by (fault new.link) (or_false (said_in (number_of one) no_more (reply_at (number_of one) new.reply))))
       → IsByLastReply (talk new.link) cause
   last_removed cause asked is =

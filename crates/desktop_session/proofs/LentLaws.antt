@@ -26,7 +26,7 @@ use Rattle.desktop_session.specs.Answers.{record_of, resource_of, said_in}
 use Rattle.desktop_session.specs.Lent.{LentResource, LentValue, record_lent, resource_lent}
 use Rattle.desktop_session.specs.Lists.{id_parts, ids_in, ids_listed}
 use Rattle.desktop_session.specs.Requests.{listing_ids, reading_at, reading_next, reading_of, reading_resource}
-use Rattle.desktop_session.specs.Tellings.{IsProper, told}
+use Rattle.desktop_session.specs.Tellings.{IsTellable, told}
 use Rattle.desktop_session.proofs.GrowLaws.{take_whole}
 use Rattle.desktop_session.proofs.RequestFits.{at_fits, ids_fit, next_fits, of_fits, resource_fits}
 use Rattle.desktop_session.proofs.RowLaws.{next_row}
@@ -46,18 +46,18 @@ led_to : (device : Device) {base : Base} (o : Option Opened) → option_and_then
     → database_of base.opened.name device.databases ≡ Some base.database
 led_to device o is = grind (arith, common_steps, nat_tests, found_at)
 
-base_bounded : {device : Device} (handle : ℕ) {base : Base} → IsProper device → base_at device handle ≡ Some base → IsBoundedDatabase base.database
+base_bounded : {device : Device} (handle : ℕ) {base : Base} → IsTellable device → base_at device handle ≡ Some base → IsBoundedDatabase base.database
 base_bounded {device} handle {base} proper is =
     AllByRecursion-database_of IsBoundedDatabase base.opened.name device.databases base.database proper.bounded.databases
     (led_to device (opened_at handle device.handles) is)
 
-record_short : {device : Device} (handle place : ℕ) {base : Base} {item : Record} → IsProper device → base_at device handle ≡ Some base
+record_short : {device : Device} (handle place : ℕ) {base : Base} {item : Record} → IsTellable device → base_at device handle ≡ Some base
     → slice_get base.database.records place ≡ Some item → length item.content.bytes ≤ 65500
 record_short handle place {base} {item} proper is there =
     let bounded = base_bounded handle proper is in
     (AllByRecursion-get IsBoundedRecord base.database.records place item bounded.records there).short
 
-resource_short : {device : Device} (handle place : ℕ) {base : Base} {resource : Resource} → IsProper device → base_at device handle ≡ Some base
+resource_short : {device : Device} (handle place : ℕ) {base : Base} {resource : Resource} → IsTellable device → base_at device handle ≡ Some base
     → slice_get base.database.resources place ≡ Some resource → length resource.bytes ≤ 65500
 resource_short handle place {base} {resource} proper is there =
     let bounded = base_bounded handle proper is in
@@ -81,7 +81,7 @@ told_at : (device : Device) (handle place : ℕ) {base : Base} {item : Record} �
 unfolding told tried
 told_at device handle place is records there = search (rules, none_past)
 
-pub lent_at : (device : Device) (handle place : ℕ) (base : Base) (item : Record) → IsProper device → handle < 2 ^ 8 → place < 2 ^ 16
+pub lent_at : (device : Device) (handle place : ℕ) (base : Base) (item : Record) → IsTellable device → handle < 2 ^ 8 → place < 2 ^ 16
     → base_at device handle ≡ Some base → on_records base.database ≡ true → slice_get base.database.records place ≡ Some item
     → said_in 0x20 record_of (reply_at 0x20 (acted (reading_at handle place) device).0) ≡ Ok (record_lent item)
 unfolding record_said
@@ -95,7 +95,7 @@ told_of : (device : Device) {place : ℕ} (handle id : ℕ) {base : Base} {item 
 unfolding told tried
 told_of device handle id is records found there = grind (arith, common_steps, nat_tests, none_past)
 
-pub lent_of : (device : Device) (handle id place : ℕ) (base : Base) (item : Record) → IsProper device → handle < 2 ^ 8 → id < 2 ^ 32
+pub lent_of : (device : Device) (handle id place : ℕ) (base : Base) (item : Record) → IsTellable device → handle < 2 ^ 8 → id < 2 ^ 32
     → base_at device handle ≡ Some base → on_records base.database ≡ true → place_of_id id base.database.records ≡ Some place
     → slice_get base.database.records place ≡ Some item
     → said_in 0x20 record_of (reply_at 0x20 (acted (reading_of handle id) device).0) ≡ Ok (record_lent item)
@@ -109,7 +109,7 @@ told_next : (device : Device) {place : ℕ} (handle : ℕ) {base : Base} {item :
 unfolding told
 told_next device handle is records first there = cc (next_row device handle is records first there)
 
-pub lent_next : (device : Device) (handle place : ℕ) (base : Base) (item : Record) → IsProper device → handle < 2 ^ 8
+pub lent_next : (device : Device) (handle place : ℕ) (base : Base) (item : Record) → IsTellable device → handle < 2 ^ 8
     → base_at device handle ≡ Some base → on_records base.database ≡ true → next_changed base.opened.next base.database.records ≡ Some place
     → slice_get base.database.records place ≡ Some item
     → said_in 0x1F record_of (reply_at 0x1F (acted (reading_next handle) device).0) ≡ Ok (record_lent item)
@@ -128,7 +128,7 @@ told_resource : (device : Device) (handle place : ℕ) {base : Base} {resource :
 unfolding told tried
 told_resource device handle place is resources there = search (rules, none_past)
 
-pub lent_resource_at : (device : Device) (handle place : ℕ) (base : Base) (resource : Resource) → IsProper device → handle < 2 ^ 8 → place < 2 ^ 16
+pub lent_resource_at : (device : Device) (handle place : ℕ) (base : Base) (resource : Resource) → IsTellable device → handle < 2 ^ 8 → place < 2 ^ 16
     → base_at device handle ≡ Some base → on_resources base.database ≡ true → slice_get base.database.resources place ≡ Some resource
     → said_in 0x23 resource_of (reply_at 0x23 (acted (reading_resource handle place) device).0) ≡ Ok (resource_lent resource)
 unfolding resource_said
@@ -163,12 +163,12 @@ told_ids : (device : Device) (handle start : ℕ) {base : Base} → base_at devi
 unfolding told tried
 told_ids device handle start is records = rw is (rw records refl)
 
-ids_reply : {device : Device} (handle start : ℕ) {base : Base} → IsProper device → handle < 2 ^ 8 → start < 2 ^ 16 → base_at device handle ≡ Some base
+ids_reply : {device : Device} (handle start : ℕ) {base : Base} → IsTellable device → handle < 2 ^ 8 → start < 2 ^ 16 → base_at device handle ≡ Some base
     → on_records base.database ≡ true
     → ids_in (reply_at 0x31 (acted (listing_ids handle start) device).0) ≡ take 8000 (drop start (ids_of base.database.records))
 ids_reply handle start proper byte half is records = grind (arith, common_steps, nat_tests, acted_reads, act_sayable, ids_fit, told_ids)
 
-ids_so_far : {device : Device} (handle parts : ℕ) {base : Base} → IsProper device → handle < 2 ^ 8 → parts ≤ 9 → base_at device handle ≡ Some base
+ids_so_far : {device : Device} (handle parts : ℕ) {base : Base} → IsTellable device → handle < 2 ^ 8 → parts ≤ 9 → base_at device handle ≡ Some base
     → on_records base.database ≡ true → ids_listed device handle parts ≡ take (8000 * parts) (ids_of base.database.records)
 unfolding ids_listed
 ids_so_far handle zero {base} proper byte few is records = grind (arith, common_steps, nat_tests)
@@ -180,7 +180,7 @@ ids_so_far {device} handle (suc parts) {base} proper byte few is records =
     ∙ take_more ids (8000 * parts) 8000
     ∙ ap (λ n. take n ids) (let same : 8000 * parts + 8000 ≡ 8000 * suc parts = omega arith in same)
 
-pub ids_are : (device : Device) (handle count : ℕ) (base : Base) → IsProper device → handle < 2 ^ 8 → count < 2 ^ 16
+pub ids_are : (device : Device) (handle count : ℕ) (base : Base) → IsTellable device → handle < 2 ^ 8 → count < 2 ^ 16
     → base_at device handle ≡ Some base → on_records base.database ≡ true → length (ids_of base.database.records) ≤ count
     → ids_listed device handle (id_parts count) ≡ ids_of base.database.records
 ids_are device handle count base proper byte half is records all =

@@ -10,7 +10,7 @@ use Rattle.palm_device.specs.Devices.{Device}
 use Rattle.dlp_commands.specs.declared.link.LinkFault.{LinkFault}
 use Rattle.dlp_commands.specs.DatabaseFunctions.{read_db_list}
 use Rattle.dlp_commands.specs.DeviceSteps.{outcome, tried}
-use Rattle.dlp_commands.specs.Reached.{Tried, reads}
+use Rattle.dlp_commands.specs.Reached.{Trial, reads}
 use Rattle.dlp_commands.specs.Talks.{Talk}
 use Rattle.dlp_commands.specs.declared.reading.Reading.TheVariants as reading
 use Rattle.desktop_session.specs.declared.fault.SessionFault.{SessionFault}
@@ -19,7 +19,7 @@ use Rattle.desktop_session.specs.Lists.{Lists, has_more, heads_in, heads_listed,
 use Rattle.desktop_session.specs.Requests.{listing, listing_ids}
 use Rattle.desktop_session.specs.Says.{said, saying}
 use Rattle.desktop_session.specs.Sessions.{SessionValue}
-use Rattle.desktop_session.specs.Stops.{Asked, Does, Stops}
+use Rattle.desktop_session.specs.Stops.{AsksOne, Does, Stops}
 use Rattle.desktop_session.specs.Starts.{next_start}
 use Rattle.desktop_session.proofs.StartLaws.{more_follow, told_end, told_next}
 use Rattle.desktop_session.proofs.StopLaws.{does_none, does_then, fell_none, stops_none, stops_then}
@@ -35,7 +35,7 @@ use Rattle.std.proofs.Common.{rules}
 abbrev Same : Device → Device × ReplyValue → Type 0
 Same device done = done.0 ≡ device
 
-outcome_same : {device : Device} (number : ℕ) (r : Tried) → IfDone (Same device) r → (outcome device number r).1 ≡ device
+outcome_same : {device : Device} (number : ℕ) (r : Trial) → IfDone (Same device) r → (outcome device number r).1 ≡ device
 outcome_same number r same = search (rules)
 
 list_keeps : (device : Device) (start : ℕ) → IfDone (Same device) (read_db_list device 0x80 0 start)
@@ -174,22 +174,22 @@ module _ {L : Type 0} {talk : L → Option Talk} {since : L → L → Type 0} {f
 
   -- one request more, that was answered
   pub stops_on : (since_more : (a b c : L) → since a b → since b c → since a c) {count : ℕ} {now new : SessionValue L}
-      → ListsSoFar talk since fault downs count heads old now → Asked talk since fault downs (listing count) now new
+      → ListsSoFar talk since fault downs count heads old now → AsksOne talk since fault downs (listing count) now new
       → Stops talk since fault downs (map text (listings (count + 1))) old.link new.link
   stops_on since_more before asked = search (rules, listings_next, map-append, stops_then)
 
   pub does_on : {count : ℕ} {now new : SessionValue L} → ListsSoFar talk since fault downs count heads old now
-      → Asked talk since fault downs (listing count) now new → fault new.link ≡ None → Does talk (listings (count + 1)) old.link new.link
+      → AsksOne talk since fault downs (listing count) now new → fault new.link ≡ None → Does talk (listings (count + 1)) old.link new.link
   does_on {count} {now} {new} before asked none =
       rw (listings_next count) (does_then talk (listings count) (listing count ∷ []) old.link now.link new.link before.does (asked.does none))
 
   reply_on : {count : ℕ} {now new : SessionValue L} → ListsSoFar talk since fault downs count heads old now
-      → Asked talk since fault downs (listing count) now new → fault new.link ≡ None
+      → AsksOne talk since fault downs (listing count) now new → fault new.link ≡ None
       → IfSome (talk old.link) (λ talk. reply_at 0x16 new.reply ≡ list_reply talk.device count)
   reply_on before asked none = grind (arith, common_steps, nat_tests, reply_from)
 
   pub lists_on : (since_more : (a b c : L) → since a b → since b c → since a c) {count : ℕ} {more_heads : List DbHead} {now new : SessionValue L}
-      → ListsSoFar talk since fault downs count heads old now → Asked talk since fault downs (listing count) now new → fault new.link ≡ None
+      → ListsSoFar talk since fault downs count heads old now → AsksOne talk since fault downs (listing count) now new → fault new.link ≡ None
       → has_more (reply_at 0x16 new.reply) ≡ true → more_heads ≡ heads ++ heads_in (reply_at 0x16 new.reply)
       → ListsSoFar talk since fault downs (count + 1) more_heads old new
   lists_on since_more {count} {new} before asked none more added =
@@ -222,7 +222,7 @@ module _ {L : Type 0} {talk : L → Option Talk} {since : L → L → Type 0} {f
   -- ---- where it ended
 
   pub lists_done : (since_more : (a b c : L) → since a b → since b c → since a c) {count : ℕ} {all : List DbHead} {now new : SessionValue L}
-      → ListsSoFar talk since fault downs count heads old now → Asked talk since fault downs (listing count) now new → fault new.link ≡ None → count < 65536
+      → ListsSoFar talk since fault downs count heads old now → AsksOne talk since fault downs (listing count) now new → fault new.link ≡ None → count < 65536
       → next_start count (reply_at 0x16 new.reply) ≡ None → all ≡ heads ++ heads_in (reply_at 0x16 new.reply)
       → Lists talk since fault downs old.link new.link (Ok all)
   lists_done since_more {count} {new} before asked none few ends added =
@@ -239,7 +239,7 @@ module _ {L : Type 0} {talk : L → Option Talk} {since : L → L → Type 0} {f
       }
 
   pub lists_failed : (since_more : (a b c : L) → since a b → since b c → since a c) {count : ℕ} {now new : SessionValue L} (why : SessionFault)
-      → ListsSoFar talk since fault downs count heads old now → Asked talk since fault downs (listing count) now new → count < 65536
+      → ListsSoFar talk since fault downs count heads old now → AsksOne talk since fault downs (listing count) now new → count < 65536
       → Lists talk since fault downs old.link new.link (Err why)
   lists_failed since_more {count} why before asked few = record {
     count = count + 1;
@@ -255,7 +255,7 @@ module _ {L : Type 0} {talk : L → Option Talk} {since : L → L → Type 0} {f
 -- the list goes on behind a reply
 pub lists_goes_on : {L : Type 0} {talk : L → Option Talk} {since : L → L → Type 0} {fault : L → Option LinkFault} {downs : L → ℕ} {heads : List DbHead}
     {old : SessionValue L} (since_more : (a b c : L) → since a b → since b c → since a c) {start next : ℕ} {more_heads : List DbHead}
-    {now new : SessionValue L} → ListsSoFar talk since fault downs start heads old now → Asked talk since fault downs (listing start) now new
+    {now new : SessionValue L} → ListsSoFar talk since fault downs start heads old now → AsksOne talk since fault downs (listing start) now new
     → fault new.link ≡ None → start < 65536 → next_start start (reply_at 0x16 new.reply) ≡ Some next
     → more_heads ≡ heads ++ heads_in (reply_at 0x16 new.reply) → ListsSoFar talk since fault downs next more_heads old new
 lists_goes_on {talk} {old} since_more {start} {next} {new} before asked none few goes added =

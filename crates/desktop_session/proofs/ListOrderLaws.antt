@@ -15,7 +15,7 @@ use Rattle.desktop_session.specs.Lists.{HasCause, HasReplied, IsByReplyTo, IsNot
 use Rattle.desktop_session.specs.Orders.{HasRecords, IsAnswered, IsPossible, IsUnrefused, may_find_none}
 use Rattle.desktop_session.specs.Requests.{listing, listing_ids}
 use Rattle.desktop_session.specs.Sessions.{SessionValue}
-use Rattle.desktop_session.specs.Tellings.{IsProper, told}
+use Rattle.desktop_session.specs.Tellings.{IsTellable, told}
 use Rattle.desktop_session.proofs.OrderLaws.{possible_answered}
 use Rattle.desktop_session.proofs.RequestFits.{ids_fit, list_fits}
 use Rattle.desktop_session.proofs.TellLaws.{act_sayable, acted_reads}
@@ -37,7 +37,7 @@ unrefused : (f : Form) (fault : Option LinkFault) (read : Result ReplyValue Repl
 unrefused f fault read value cause is answered none has = search (rules, refuses_five, is_five)
 
 -- the device's reply to one of the requests is read as what it tells
-list_read : {device : Device} {bytes : List ℕ} → IsProper device → (replied : HasReplied 65536 listing device bytes)
+list_read : {device : Device} {bytes : List ℕ} → IsTellable device → (replied : HasReplied 65536 listing device bytes)
     → reply_at 0x16 bytes ≡ Ok (told (listing replied.place) device)
 list_read proper replied = grind (arith, common_steps, nat_tests, acted_reads, act_sayable, list_fits)
 
@@ -49,7 +49,7 @@ ids_possible : (handle start : ℕ) (device : Device) → IsSomeAnd (base_at dev
 unfolding IsPossible
 ids_possible handle start device has = has
 
-list_by : {device : Device} {bytes : List ℕ} (cause : SessionFault) → IsProper device → HasReplied 65536 listing device bytes
+list_by : {device : Device} {bytes : List ℕ} (cause : SessionFault) → IsTellable device → HasReplied 65536 listing device bytes
     → HasCause None (reply_at 0x16 bytes) cause → IsNotMissing cause → IsUnrefused {A = Unit {0}} (Err cause)
 list_by {device} {bytes} cause proper replied has other =
     unrefused (listing replied.place).asks.form None (reply_at 0x16 bytes) (told (listing replied.place) device) cause
@@ -58,7 +58,7 @@ list_by {device} {bytes} cause proper replied has other =
 ids_small : (count place : ℕ) → count < 2 ^ 16 → place < id_parts count → 8000 * place < 2 ^ 16
 ids_small count place few below = omega arith
 
-ids_by : {device : Device} (handle count : ℕ) {bytes : List ℕ} (cause : SessionFault) → IsProper device → handle < 2 ^ 8 → count < 2 ^ 16
+ids_by : {device : Device} (handle count : ℕ) {bytes : List ℕ} (cause : SessionFault) → IsTellable device → handle < 2 ^ 8 → count < 2 ^ 16
     → IsSomeAnd (base_at device handle) HasRecords → HasReplied (id_parts count) (λ part. listing_ids handle (8000 * part)) device bytes
     → HasCause None (reply_at 0x31 bytes) cause → IsUnrefused {A = Unit {0}} (Err cause)
 ids_by handle count cause proper byte few records replied has =
@@ -70,12 +70,12 @@ fault_or : (fault : Option LinkFault) (read : Result ReplyValue ReplyFault) (cau
 fault_or fault read cause has each = search (rules)
 
 pub list_in_order : {L : Type 0} (talk : L → Option Talk) (fault : L → Option LinkFault) (old new : SessionValue L) (said : Talk) (cause : SessionFault)
-    → talk old.link ≡ Some said → IsProper said.device → IsByReplyTo talk fault 65536 listing old new
+    → talk old.link ≡ Some said → IsTellable said.device → IsByReplyTo talk fault 65536 listing old new
     → HasCause (fault new.link) (reply_at 0x16 new.reply) cause → IsNotMissing cause → IsUnrefused {A = Unit {0}} (Err cause)
 list_in_order talk fault old new said cause tells proper replied has other = search (rules, fault_or, list_by)
 
 pub ids_in_order : {L : Type 0} (talk : L → Option Talk) (fault : L → Option LinkFault) (old new : SessionValue L) (said : Talk) (handle count : ℕ)
-    (cause : SessionFault) → talk old.link ≡ Some said → IsProper said.device → handle < 2 ^ 8 → count < 2 ^ 16
+    (cause : SessionFault) → talk old.link ≡ Some said → IsTellable said.device → handle < 2 ^ 8 → count < 2 ^ 16
     → IsSomeAnd (base_at said.device handle) HasRecords
     → IsByReplyTo talk fault (id_parts count) (λ part. listing_ids handle (8000 * part)) old new
     → HasCause (fault new.link) (reply_at 0x31 new.reply) cause → IsUnrefused {A = Unit {0}} (Err cause)

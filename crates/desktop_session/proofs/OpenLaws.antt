@@ -14,7 +14,7 @@ use Rattle.palm_device.specs.declared.opened.Opened.{Opened}
 use Rattle.dlp_commands.specs.DatabaseFunctions.{create_db, delete_db, open_db, read_db_list}
 use Rattle.dlp_commands.specs.DeviceSteps.{outcome, tried, tried_by}
 use Rattle.dlp_commands.specs.Errors.{◌>>=◌, need}
-use Rattle.dlp_commands.specs.Reached.{Tried, read_next_modified_rec, reads, reset_record_index, with_index, with_next, writes}
+use Rattle.dlp_commands.specs.Reached.{Trial, read_next_modified_rec, reads, reset_record_index, with_index, with_next, writes}
 use Rattle.dlp_commands.specs.UserFunctions.{write_user_info}
 use Rattle.dlp_commands.specs.Writings.{WritingValue}
 use Rattle.dlp_commands.specs.declared.reading.Reading.{Reading}
@@ -97,7 +97,7 @@ all_stay : (free : ℕ) (device : Device) (f : Form) (fields : Fields (kinds_of 
 unfolding Stays
 all_stay free device f fields leaves = search (rules, mark_stays, list_stays, delete_stays, reads_stay, writes_stay, next_stays, reset_stays)
 
-outcome_stays : (device : Device) (number handle : ℕ) (r : Tried) → IfDone (Stays device.handles) r
+outcome_stays : (device : Device) (number handle : ℕ) (r : Trial) → IfDone (Stays device.handles) r
     → option_map (with_next 0) (opened_at handle (outcome device number r).1.handles) ≡ option_map (with_next 0) (opened_at handle device.handles)
 unfolding Stays
 outcome_stays device number handle r stays = grind (arith, common_steps, nat_tests)
@@ -135,12 +135,12 @@ made_done : (device : Device) (creator kind : List ℕ) (flags version : ℕ) (n
 unfolding Opened_under create_db
 made_done device creator kind flags version name = search (rules, done_then, under_free, need_some)
 
-opened_by : (device : Device) {handle : ℕ} (number mode : ℕ) (name : List ℕ) (r : Tried) → IfDone (Opened_under name mode reply.OpenDb) r
+opened_by : (device : Device) {handle : ℕ} (number mode : ℕ) (name : List ℕ) (r : Trial) → IfDone (Opened_under name mode reply.OpenDb) r
     → tells number r ≡ reply.OpenDb handle → IsOpenAs handle name mode (outcome device number r).1
 unfolding Opened_under
 opened_by device number mode name r opens is = search (rules)
 
-made_by : (device : Device) {handle : ℕ} (number mode : ℕ) (name : List ℕ) (r : Tried) → IfDone (Opened_under name mode reply.CreateDb) r
+made_by : (device : Device) {handle : ℕ} (number mode : ℕ) (name : List ℕ) (r : Trial) → IfDone (Opened_under name mode reply.CreateDb) r
     → tells number r ≡ reply.CreateDb handle → IsOpenAs handle name mode (outcome device number r).1
 unfolding Opened_under
 made_by device number mode name r opens is = search (rules)

@@ -15,7 +15,7 @@ use Rattle.dlp_commands.specs.declared.link.LinkFault.{LinkFault}
 use Rattle.dlp_commands.specs.DatabaseFunctions.{close_db, create_db, delete_db, named, open_db, read_db_list}
 use Rattle.dlp_commands.specs.DeviceSteps.{tried, tried_by}
 use Rattle.dlp_commands.specs.Errors.{not_found, not_supported, parameter, ◌>>=◌, check, need}
-use Rattle.dlp_commands.specs.Reached.{Tried, read_next_modified_rec, reads, writes}
+use Rattle.dlp_commands.specs.Reached.{Trial, read_next_modified_rec, reads, writes}
 use Rattle.dlp_commands.specs.Readings.{block_part, read_in, record_part}
 use Rattle.dlp_commands.specs.Talks.{Talk}
 use Rattle.dlp_commands.specs.UserFunctions.{write_user_info}
@@ -30,7 +30,7 @@ use Rattle.desktop_session.specs.Orders.{AreAnswered, AreInOrder, CanAsk, CanDel
 use Rattle.desktop_session.specs.Orders.{IsAnswered, IsPossible, IsUnrefused, SaysInOrder, TakesRecord, TakesRecords, TakesResource, may_find_none}
 use Rattle.desktop_session.specs.Replies.{IsDone}
 use Rattle.desktop_session.specs.Sessions.{SessionValue}
-use Rattle.desktop_session.specs.Stops.{Asked}
+use Rattle.desktop_session.specs.Stops.{AsksOne}
 use Rattle.desktop_session.specs.Tellings.{number_of, tells, told}
 use Rattle.desktop_session.proofs.TellLaws.{acted_reads}
 use Rattle.std.proofs.lemmas.Grind.{common_steps}
@@ -209,7 +209,7 @@ clean_met f free device handle can = search (rules, some_with, writes_met, meets
 done_answers : (f : Form) (value : ReplyValue) → IsDone value → IsAnswered f value
 done_answers f value done = search (rules)
 
-told_met : (f : Form) (number : ℕ) (r : Tried) → Meets f Ends r → IsAnswered f (tells number r)
+told_met : (f : Form) (number : ℕ) (r : Trial) → Meets f Ends r → IsAnswered f (tells number r)
 told_met f number r met = search (rules, done_answers)
 
 module _ (free : ℕ) (device : Device) where
@@ -289,27 +289,27 @@ fault_unrefused fault said each = search (rules)
 -- where the link has no fault, the last reply is read as what the device tells
 reads_told : {L : Type 0} {talk : L → Option Talk} {since : L → L → Type 0} {fault : L → Option LinkFault} {downs : L → ℕ} {one : Act}
     {old new : SessionValue L}
-    → Asked talk since fault downs one old new → (order : SaysInOrder talk one old.link) → fault new.link ≡ None
+    → AsksOne talk since fault downs one old new → (order : SaysInOrder talk one old.link) → fault new.link ≡ None
     → reply_at (number_of one) new.reply ≡ Ok (told one order.said.device)
 reads_told asked order none = grind (arith, common_steps, nat_tests, acted_reads)
 
 module _ {L : Type 0} (talk : L → Option Talk) (since : L → L → Type 0) (fault : L → Option LinkFault) (downs : L → ℕ) (one : Act)
     (old new : SessionValue L) where
-  pub said_in_order : {A : Type 0} (take : ReplyValue → A) → Asked talk since fault downs one old new → SaysInOrder talk one old.link
+  pub said_in_order : {A : Type 0} (take : ReplyValue → A) → AsksOne talk since fault downs one old new → SaysInOrder talk one old.link
       → may_find_none one.asks.form ≡ false → IsUnrefused (answer_by (fault new.link) (said_in (number_of one) take (reply_at (number_of one) new.reply)))
   said_in_order take asked order none =
       fault_unrefused (fault new.link) (said_in (number_of one) take (reply_at (number_of one) new.reply)) (λ working.
       rw (reads_told asked order working)
       (said_unrefused (number_of one) one.asks.form take (told one order.said.device) none (possible_answered one order.said.device order.possible)))
 
-  pub found_in_order : {A : Type 0} (take : ReplyValue → A) → Asked talk since fault downs one old new → SaysInOrder talk one old.link
+  pub found_in_order : {A : Type 0} (take : ReplyValue → A) → AsksOne talk since fault downs one old new → SaysInOrder talk one old.link
       → IsUnrefused (answer_by (fault new.link) (or_none (said_in (number_of one) take (reply_at (number_of one) new.reply))))
   found_in_order take asked order =
       fault_unrefused (fault new.link) (or_none (said_in (number_of one) take (reply_at (number_of one) new.reply))) (λ working.
       rw (reads_told asked order working)
       (none_unrefused (number_of one) one.asks.form take (told one order.said.device) (possible_answered one order.said.device order.possible)))
 
-  pub removed_in_order : Asked talk since fault downs one old new → SaysInOrder talk one old.link
+  pub removed_in_order : AsksOne talk since fault downs one old new → SaysInOrder talk one old.link
       → IsUnrefused (answer_by (fault new.link) (or_false (said_in (number_of one) no_more (reply_at (number_of one) new.reply))))
   removed_in_order asked order =
       fault_unrefused (fault new.link) (or_false (said_in (number_of one) no_more (reply_at (number_of one) new.reply))) (λ working.

@@ -15,8 +15,8 @@ use Rattle.palm_device.specs.Records.{IsFree}
 use Rattle.dlp_commands.specs.declared.link.LinkFault.{LinkFault}
 use Rattle.dlp_commands.specs.DeviceSteps.{MayGive, MayGiveTo, function_number, outcome, tried}
 use Rattle.dlp_commands.specs.Holding.{fits}
-use Rattle.dlp_commands.specs.Reached.{Tried, writes}
-use Rattle.dlp_commands.specs.Talks.{Talk, Answered}
+use Rattle.dlp_commands.specs.Reached.{Trial, writes}
+use Rattle.dlp_commands.specs.Talks.{Talk, HasAnswer}
 use Rattle.dlp_commands.proofs.DoneLaws.{Done}
 use Rattle.dlp_commands.proofs.ReplyLaws.{Replies, refused_reply, written_reply}
 use Rattle.dlp_commands.proofs.TableLaws.{tried_done}
@@ -30,7 +30,7 @@ use Rattle.desktop_session.specs.Puts.{IsGiven, Puts}
 use Rattle.desktop_session.specs.Requests.{putting, secret_bit}
 use Rattle.desktop_session.specs.Says.{saying}
 use Rattle.desktop_session.specs.Sessions.{SessionValue}
-use Rattle.desktop_session.specs.Stops.{Asked, Stops}
+use Rattle.desktop_session.specs.Stops.{AsksOne, Stops}
 use Rattle.desktop_session.proofs.ActLaws.{read_back, step_tried, told_one}
 use Rattle.desktop_session.proofs.SaysLaws.{sent_answered}
 use Rattle.desktop_session.proofs.TellLaws.{IfDone, done_then, need_some, read_again}
@@ -69,7 +69,7 @@ answers_own (Ok id) = refl
 answers_own (Err fault) = tt
 
 -- what was done or refused is answered under this id
-said_of : (free : ℕ) (old : Device) (value : RequestValue) (r : Tried) {bytes : List ℕ} → function_number value ≡ 0x21 → IfDone (IsWritten free) r
+said_of : (free : ℕ) (old : Device) (value : RequestValue) (r : Trial) {bytes : List ℕ} → function_number value ≡ 0x21 → IfDone (IsWritten free) r
     → Keeps (Done old value) r → (outcome old 0x21 r).0 ≡ bytes → IfOk (said_in 0x21 id_of (reply_at 0x21 bytes)) (λ id. id ≡ free)
 said_of free old value (Ok done) {bytes} function written keeps is = grind (arith, common_steps, nat_tests, read_again, id_reply)
 said_of free old value (Err code) {bytes} function written keeps is =
@@ -105,7 +105,7 @@ unfolding MayGive
 may_of old handle free content fits may = search (rules, read_back)
 
 is_new : (handle : ℕ) (content : ContentValue) (old new : Option Talk) (bytes : List ℕ) {answer : Result ℕ SessionFault}
-    → IsRequest (putting 0 handle 0 content).asks → Answered old (text (putting 0 handle 0 content)) bytes new → answer ≡ said_in 0x21 id_of (reply_at 0x21 bytes)
+    → IsRequest (putting 0 handle 0 content).asks → HasAnswer old (text (putting 0 handle 0 content)) bytes new → answer ≡ said_in 0x21 id_of (reply_at 0x21 bytes)
     → IsNew handle content old new bytes answer
 unfolding saying text acted tried
 is_new handle content None new bytes {answer} fits is says = record {
@@ -144,19 +144,19 @@ put_value handle content one two three four = grind (arith, common_steps, nat_te
 pub record IsPut {L : Type 0} (talk : L → Option Talk) (since : L → L → Type 0) (fault : L → Option LinkFault) (downs : L → ℕ) (value : RequestValue)
     (old new : SessionValue L) : Type 0 where
   pub fits : IsRequest value
-  pub asked : AsksNoId value → Asked talk since fault downs (act value) old new
+  pub asked : AsksNoId value → AsksOne talk since fault downs (act value) old new
   pub stops : Stops talk since fault downs (text (act value) ∷ []) old.link new.link
-  pub answered : Answered (talk old.link) (text (act value)) new.reply (talk new.link)
+  pub answered : HasAnswer (talk old.link) (text (act value)) new.reply (talk new.link)
   pub user : new.user ≡ old.user
   pub abandoned : new.abandoned ≡ old.abandoned
 
 module _ {L : Type 0} {talk : L → Option Talk} {since : L → L → Type 0} {fault : L → Option LinkFault} {downs : L → ℕ} {handle : ℕ} {content : ContentValue}
     {old new : SessionValue L} {answer : Result ℕ SessionFault} where
-  pub puts_old : {id : ℕ} → 0 < id → Asked talk since fault downs (putting 0 handle id content) old new
+  pub puts_old : {id : ℕ} → 0 < id → AsksOne talk since fault downs (putting 0 handle id content) old new
       → Puts talk since fault downs handle id content old new answer
   puts_old some asked = search (rules, given_none, answers_other)
 
-  pub puts_new : IsRequest (putting 0 handle 0 content).asks → Answered (talk old.link) (text (putting 0 handle 0 content)) new.reply (talk new.link)
+  pub puts_new : IsRequest (putting 0 handle 0 content).asks → HasAnswer (talk old.link) (text (putting 0 handle 0 content)) new.reply (talk new.link)
       → Stops talk since fault downs (text (putting 0 handle 0 content) ∷ []) old.link new.link → new.user ≡ old.user → new.abandoned ≡ old.abandoned
       → answer ≡ said_in 0x21 id_of (reply_at 0x21 new.reply) → Puts talk since fault downs handle 0 content old new answer
   unfolding text

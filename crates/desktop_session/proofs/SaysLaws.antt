@@ -2,7 +2,7 @@
 use Rattle.std.proofs.Common.{◌≡◌, ◌≤◌, refl, ℕ, List, [], ◌∷◌, ◌++◌, append_assoc, arith}
 use Rattle.std.proofs.lemmas.List.{append-nil, length-append, map-append}
 use Rattle.std.specs.Prelude.{Option, Some, None, IsSome}
-use Rattle.dlp_commands.specs.Talks.{Talk, Answered, Unanswered}
+use Rattle.dlp_commands.specs.Talks.{Talk, HasAnswer, LacksAnswer}
 use Rattle.desktop_session.specs.Acts.{Act}
 use Rattle.desktop_session.specs.Says.{said, said_one, saying, sent, grown, Begins, answered}
 use Rattle.std.proofs.lemmas.Grind.{common_steps}
@@ -59,31 +59,31 @@ begins_same more is = search (rules, begins_grown)
 -- ---- an exchange that was answered
 
 module _ (old new : Option Talk) (request : List ℕ) where
-  pub sent_answered : (reply : List ℕ) → Answered old request reply new → sent new ≡ grown (sent old) (request ∷ [])
+  pub sent_answered : (reply : List ℕ) → HasAnswer old request reply new → sent new ≡ grown (sent old) (request ∷ [])
   unfolding sent grown
   sent_answered reply is = grind (arith, common_steps, nat_tests, append-nil, map-append)
 
-  pub answered_more : (reply : List ℕ) → Answered old request reply new → answered old ≤ answered new
+  pub answered_more : (reply : List ℕ) → HasAnswer old request reply new → answered old ≤ answered new
   unfolding answered
   answered_more reply is = grind (arith, common_steps, nat_tests, length-append)
 
   -- ---- one that was not
 
-  pub begins_unanswered : Unanswered old request new → Begins (sent new) (grown (sent old) (request ∷ []))
+  pub begins_unanswered : LacksAnswer old request new → Begins (sent new) (grown (sent old) (request ∷ []))
   unfolding sent grown Begins
   begins_unanswered is = search (rules, append-nil)
 
-  pub answered_same : Unanswered old request new → answered old ≤ answered new
+  pub answered_same : LacksAnswer old request new → answered old ≤ answered new
   unfolding answered
   answered_same is = grind (arith, common_steps, nat_tests)
 
-  pub tells_answered : (reply : List ℕ) → Answered old request reply new → IsSome old → IsSome new
+  pub tells_answered : (reply : List ℕ) → HasAnswer old request reply new → IsSome old → IsSome new
   tells_answered reply is told = search (rules)
 
-  pub tells_unanswered : Unanswered old request new → IsSome old → IsSome new
+  pub tells_unanswered : LacksAnswer old request new → IsSome old → IsSome new
   tells_unanswered is told = search (rules)
 
   -- ---- more is to come
 
-  pub begins_answered : (reply : List ℕ) → Answered old request reply new → Begins (sent new) (grown (sent old) (request ∷ []))
+  pub begins_answered : (reply : List ℕ) → HasAnswer old request reply new → Begins (sent new) (grown (sent old) (request ∷ []))
   begins_answered reply is = begins_is (sent_answered reply is)

@@ -9,7 +9,7 @@ use Rattle.std.proofs.lemmas.Bool.Decides.{nat_tests}
 use Rattle.pdb_values.specs.Databases.{DatabaseValue}
 use Rattle.pdb_values.specs.declared.head.DbHead.{DbHead}
 use Rattle.dlp_args.specs.Arguments.{Argument, arg_text, written_form}
-use Rattle.dlp_args.specs.Cells.{Kind}
+use Rattle.dlp_args.specs.Cells.{CellKind}
 use Rattle.dlp_args.specs.Fields.{Fields, fields_in}
 use Rattle.dlp_args.specs.Functions.{function_of}
 use Rattle.dlp_args.specs.Reading.{◌>>=◌, argument_at, arguments_at, header_at, short_at}
@@ -45,12 +45,12 @@ one content = record { id = 0x20; bytes = content }
 front_field : (k : ℕ) (rest : List ℕ) (v : Fields db_list) → k < 2 ^ 16 → fields_in db_list (to_be_bytes w16 k ++ rest) ≡ Some v → v.0 ≡ k
 front_field k rest v half is = grind (arith, nat_tests, common_steps, number_again wide16 k rest half)
 
-pub valid_fields : (kinds : List Kind) (sizes : Fields kinds → Bool) (checks : Fields kinds → Checks) (place : ℕ) (content : List ℕ) (v : Fields kinds)
+pub valid_fields : (kinds : List CellKind) (sizes : Fields kinds → Bool) (checks : Fields kinds → Checks) (place : ℕ) (content : List ℕ) (v : Fields kinds)
     → valid_in kinds sizes checks place content ≡ Ok v → fields_in kinds content ≡ Some v
 unfolding valid_in
 valid_fields kinds sizes checks place content v is = grind arith
 
-pub valid_sizes : (kinds : List Kind) (sizes : Fields kinds → Bool) (checks : Fields kinds → Checks) (place : ℕ) (content : List ℕ) (v : Fields kinds)
+pub valid_sizes : (kinds : List CellKind) (sizes : Fields kinds → Bool) (checks : Fields kinds → Checks) (place : ℕ) (content : List ℕ) (v : Fields kinds)
     → valid_in kinds sizes checks place content ≡ Ok v → sizes v ≡ true
 unfolding valid_in
 valid_sizes kinds sizes checks place content v is = grind arith

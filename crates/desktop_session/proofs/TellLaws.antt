@@ -21,7 +21,7 @@ use Rattle.dlp_commands.specs.DatabaseFunctions.{open_db}
 use Rattle.dlp_commands.specs.DeviceRuns.{Ran}
 use Rattle.dlp_commands.specs.DeviceSteps.{DeviceStep, FormMayGive, MayGive, function_number, outcome, served, tried}
 use Rattle.dlp_commands.specs.Errors.{◌>>=◌, need}
-use Rattle.dlp_commands.specs.Reached.{Tried}
+use Rattle.dlp_commands.specs.Reached.{Trial}
 use Rattle.dlp_commands.specs.Talks.{Talk}
 use Rattle.dlp_commands.proofs.DoneLaws.{Done}
 use Rattle.dlp_commands.proofs.ReplyLaws.{Replies, refused_reply}
@@ -30,7 +30,7 @@ use Rattle.dlp_commands.proofs.TriedLaws.{Keeps}
 use Rattle.desktop_session.specs.Acts.{Act, AsksNoId, act, acted, text}
 use Rattle.desktop_session.specs.Requests.{opening_in}
 use Rattle.desktop_session.specs.Says.{said, said_one}
-use Rattle.desktop_session.specs.Tellings.{AreSayable, IsProper, IsSayable, device_after, exchanges, number_of, tells, told}
+use Rattle.desktop_session.specs.Tellings.{AreSayable, IsTellable, IsSayable, device_after, exchanges, number_of, tells, told}
 use Rattle.desktop_session.proofs.ActLaws.{read_back}
 use Rattle.std.proofs.Common.{rules}
 
@@ -40,28 +40,28 @@ pub read_again : (number : ℕ) (value : ReplyValue) → Replies number value �
 read_again number value replies =
     reply_again number value (reply_text value) (rw (← replies.function) (reply_written value replies.is))
 
-outcome_reads : {old : Device} (value : RequestValue) (r : Tried) → Keeps (Done old value) r → IsProper old
+outcome_reads : {old : Device} (value : RequestValue) (r : Trial) → Keeps (Done old value) r → IsTellable old
     → reply_at (function_number value) (outcome old (function_number value) r).0 ≡ Ok (tells (function_number value) r)
 outcome_reads value (Ok done) keeps proper = read_again (function_number value) done.1 (keeps.reply proper.sound proper.bounded)
 outcome_reads value (Err code) keeps proper =
     read_again (function_number value) (reply.Refused (function_number value) code) (refused_reply (function_number value) code keeps.0 keeps.1)
 
-pub acted_reads : (one : Act) (device : Device) → IsProper device → IsSayable one device → reply_at (number_of one) (acted one device).0 ≡ Ok (told one device)
+pub acted_reads : (one : Act) (device : Device) → IsTellable device → IsSayable one device → reply_at (number_of one) (acted one device).0 ≡ Ok (told one device)
 unfolding acted told
 acted_reads one device proper sayable = search (rules, outcome_reads, tried_done)
 
 -- ---- the device stays proper
 
-outcome_proper : {old : Device} (value : RequestValue) (r : Tried) → Keeps (Done old value) r → IsRequest value → IsProper old
-    → IsProper (outcome old (function_number value) r).1
+outcome_proper : {old : Device} (value : RequestValue) (r : Trial) → Keeps (Done old value) r → IsRequest value → IsTellable old
+    → IsTellable (outcome old (function_number value) r).1
 unfolding IsRequest
 outcome_proper value r keeps fits proper = search (rules)
 
-pub acted_proper : (one : Act) (device : Device) → IsProper device → IsSayable one device → IsProper (acted one device).1
+pub acted_proper : (one : Act) (device : Device) → IsTellable device → IsSayable one device → IsTellable (acted one device).1
 unfolding acted
 acted_proper one device proper sayable = search (rules, outcome_proper, tried_done)
 
-pub after_proper : (acts : List Act) (device : Device) → IsProper device → AreSayable acts device → IsProper (device_after acts device)
+pub after_proper : (acts : List Act) (device : Device) → IsTellable device → AreSayable acts device → IsTellable (device_after acts device)
 after_proper [] device proper sayable = proper
 after_proper (one ∷ acts) device proper sayable = after_proper acts (acted one device).1 (acted_proper one device proper sayable.0) sayable.1
 
@@ -130,7 +130,7 @@ pub open_done : (device : Device) (mode : ℕ) (name : List ℕ) → device.hand
 unfolding open_db
 open_done device mode name none = search (rules, done_then, least_free, need_some)
 
-one_by : {handle : ℕ} (number : ℕ) (name : List ℕ) (mode : ℕ) (r : Tried) → IfDone (Opens name mode (reply.OpenDb 1)) r → tells number r ≡ reply.OpenDb handle
+one_by : {handle : ℕ} (number : ℕ) (name : List ℕ) (mode : ℕ) (r : Trial) → IfDone (Opens name mode (reply.OpenDb 1)) r → tells number r ≡ reply.OpenDb handle
     → handle ≡ 1
 one_by number name mode r opens is = search (rules)
 

@@ -15,7 +15,7 @@ use Rattle.dlp_replies.specs.ReplyValues.{ReplyValue}
 use Rattle.pdb_values.specs.declared.head.DbHead.{DbHead}
 use Rattle.desktop_session.specs.Lists.{has_more, heads_in, heads_listed, list_reply}
 use Rattle.desktop_session.specs.Requests.{listing}
-use Rattle.desktop_session.specs.Tellings.{IsProper, told}
+use Rattle.desktop_session.specs.Tellings.{IsTellable, told}
 use Rattle.desktop_session.proofs.GrowLaws.{take_next, take_whole}
 use Rattle.desktop_session.proofs.RequestFits.{list_fits}
 use Rattle.desktop_session.proofs.TellLaws.{act_sayable, acted_reads}
@@ -32,7 +32,7 @@ told_none : (device : Device) (k : ℕ) → slice_get device.databases k ≡ Non
 unfolding told tried read_db_list
 told_none device k none = rw none refl
 
-reply_is : {device : Device} (k : ℕ) → IsProper device → k < 2 ^ 16 → list_reply device k ≡ Ok (told (listing k) device)
+reply_is : {device : Device} (k : ℕ) → IsTellable device → k < 2 ^ 16 → list_reply device k ≡ Ok (told (listing k) device)
 reply_is k proper half = search (rules, acted_reads, act_sayable, list_fits)
 
 flag_is : (b : Bool) → has_bit 0x80 (cond b 0x80 0) ≡ b
@@ -40,26 +40,26 @@ flag_is true = refl
 flag_is false = refl
 
 -- more follow where a further database is there
-more_there : {device : Device} (k : ℕ) {database : DatabaseValue} → IsProper device → k < 2 ^ 16 → slice_get device.databases k ≡ Some database
+more_there : {device : Device} (k : ℕ) {database : DatabaseValue} → IsTellable device → k < 2 ^ 16 → slice_get device.databases k ≡ Some database
     → has_more (list_reply device k) ≡ nat_lt (k + 1) (length device.databases)
 more_there k proper half there = search (rules, reply_is, told_there, flag_is)
 
-more_none : {device : Device} (k : ℕ) → IsProper device → k < 2 ^ 16 → slice_get device.databases k ≡ None → has_more (list_reply device k) ≡ false
+more_none : {device : Device} (k : ℕ) → IsTellable device → k < 2 ^ 16 → slice_get device.databases k ≡ None → has_more (list_reply device k) ≡ false
 more_none {device} k proper half none = cc (reply_is k proper half, told_none device k none)
 
 past : (databases : List DatabaseValue) (k : ℕ) → slice_get databases k ≡ None → nat_lt (k + 1) (length databases) ≡ false
 past databases k none = let out = within_list databases k none in le-ltb _ _ (omega arith)
 
-more_by : (o : Option DatabaseValue) {device : Device} (k : ℕ) → IsProper device → k < 2 ^ 16 → slice_get device.databases k ≡ o
+more_by : (o : Option DatabaseValue) {device : Device} (k : ℕ) → IsTellable device → k < 2 ^ 16 → slice_get device.databases k ≡ o
     → has_more (list_reply device k) ≡ nat_lt (k + 1) (length device.databases)
 more_by o k proper half there = search (rules, more_there, more_none, past)
 
-pub more_is : (device : Device) (k : ℕ) → IsProper device → k < 2 ^ 16
+pub more_is : (device : Device) (k : ℕ) → IsTellable device → k < 2 ^ 16
     → has_more (list_reply device k) ≡ nat_lt (k + 1) (length device.databases)
 more_is device k proper half = more_by (slice_get device.databases k) k proper half refl
 
 -- as many requests as databases, and one where there is none
-pub count_is : (device : Device) (count : ℕ) → IsProper device → 0 < count → count ≤ 65536
+pub count_is : (device : Device) (count : ℕ) → IsTellable device → 0 < count → count ≤ 65536
     → ((k : ℕ) → k + 1 < count → has_more (list_reply device k) ≡ true)
     → (count ≡ 65536) ⊎ (has_more (list_reply device (count - 1)) ≡ false) → count ≡ max 1 (length device.databases)
 count_is device zero proper some few more last = absurd (omega arith)
@@ -80,13 +80,13 @@ count_is device (suc (suc k)) proper some few more last =
 abbrev head_of : DatabaseValue → DbHead
 head_of database = listed database.head
 
-heads_one : (o : Option DatabaseValue) {device : Device} (k : ℕ) → IsProper device → k < 2 ^ 16 → slice_get device.databases k ≡ o
+heads_one : (o : Option DatabaseValue) {device : Device} (k : ℕ) → IsTellable device → k < 2 ^ 16 → slice_get device.databases k ≡ o
     → map head_of (take k device.databases) ++ heads_in (list_reply device k) ≡ map head_of (take (k + 1) device.databases)
 heads_one (Some database) {device} k proper half there =
     cc (reply_is k proper half, told_there device k there, map-append head_of (take k device.databases) (database ∷ []), take_next device.databases k there)
 heads_one None {device} k proper half none = grind (arith, common_steps, nat_tests, within_list, reply_is, told_none, append-nil, take_whole)
 
-heads_so_far : {device : Device} (count : ℕ) → IsProper device → count ≤ 65536 → heads_listed device count ≡ map head_of (take count device.databases)
+heads_so_far : {device : Device} (count : ℕ) → IsTellable device → count ≤ 65536 → heads_listed device count ≡ map head_of (take count device.databases)
 unfolding heads_listed
 heads_so_far zero proper few = refl
 heads_so_far {device} (suc k) proper few =
@@ -94,6 +94,6 @@ heads_so_far {device} (suc k) proper few =
     ∙ heads_one (slice_get device.databases k) k proper (omega arith) refl
     ∙ ap (λ n. map head_of (take n device.databases)) (let same : k + 1 ≡ suc k = omega arith in same)
 
-pub heads_are : (device : Device) (count : ℕ) → IsProper device → length device.databases ≤ count → count ≤ 65536
+pub heads_are : (device : Device) (count : ℕ) → IsTellable device → length device.databases ≤ count → count ≤ 65536
     → heads_listed device count ≡ map (λ database. listed database.head) device.databases
 heads_are device count proper all few = search (rules, heads_so_far, take_whole)

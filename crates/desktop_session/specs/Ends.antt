@@ -35,7 +35,7 @@ end_of (Err halted) = Err halted.cause
 
 -- An ending answered the fault of the link, or what the reply says, which is the device's to
 -- EndOfSync where the link has no fault.
-pub record Finished (talk : Option Talk) (fault : Option LinkFault)
+pub record AnswersEnding (talk : Option Talk) (fault : Option LinkFault)
     (answer : Result (Unit {0}) SessionFault) : Type 0 where
   pub reply : List ℕ
   pub is : answer ≡ answer_by fault (said_in 0x2F no_more (reply_at 0x2F reply))

@@ -22,7 +22,7 @@ use Rattle.dlp_commands.specs.UserFunctions.{name_length, name_or_empty}
 use Rattle.desktop_session.specs.declared.fault.SessionFault.{SessionFault}
 use Rattle.desktop_session.specs.declared.fault.SessionFault.TheVariants as session
 use Rattle.desktop_session.specs.Acts.{Act, acted}
-use Rattle.desktop_session.specs.Tellings.{IsProper, IsSayable, told}
+use Rattle.desktop_session.specs.Tellings.{IsTellable, IsSayable, told}
 
 -- ---- what may be asked when
 
@@ -179,6 +179,6 @@ IsUnrefused (Err other) = Unit {0}
 pub record SaysInOrder {L : Type 0} (talk : L → Option Talk) (act : Act) (link : L) : Type 0 where
   pub said : Talk
   pub tells : talk link ≡ Some said
-  pub proper : IsProper said.device
+  pub proper : IsTellable said.device
   pub sayable : IsSayable act said.device
   pub possible : IsPossible act said.device

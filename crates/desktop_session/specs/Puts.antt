@@ -8,7 +8,7 @@ use Rattle.dlp_commands.specs.Talks.{Talk}
 use Rattle.desktop_session.specs.declared.fault.SessionFault.{SessionFault}
 use Rattle.desktop_session.specs.Requests.{putting}
 use Rattle.desktop_session.specs.Sessions.{SessionValue}
-use Rattle.desktop_session.specs.Stops.{Asked}
+use Rattle.desktop_session.specs.Stops.{AsksOne}
 
 -- a new record of id 0 got an id that no record of the database under the handle has
 abbrev pub IsGiven : ℕ → ℕ → ℕ → Option Talk → Type 0
@@ -23,7 +23,7 @@ pub record Puts {L : Type 0} (talk : L → Option Talk) (since : L → L → Typ
     (content : ContentValue) (old new : SessionValue L)
     (answer : Result ℕ SessionFault) : Type 0 where
   pub given : ℕ
-  pub asked : Asked talk since fault downs (putting given handle id content) old new
+  pub asked : AsksOne talk since fault downs (putting given handle id content) old new
   pub free : fault new.link ≡ None → IsGiven given handle id (talk old.link)
   pub new_id : IfOk answer (λ answer. id ≡ 0 → answer ≡ given)
   pub old_id : 0 < id → given ≡ 0

@@ -29,7 +29,7 @@ pub record Does {L : Type 0} (talk : L → Option Talk) (acts : List Act) (old n
 -- A session asked for one act, by a request that fits: nothing else went out; where the link has no
 -- fault the act was done, and the last reply is the device's to it; the user is as before, and
 -- nothing was abandoned.
-pub record Asked {L : Type 0} (talk : L → Option Talk) (since : L → L → Type 0)
+pub record AsksOne {L : Type 0} (talk : L → Option Talk) (since : L → L → Type 0)
     (fault : L → Option LinkFault) (downs : L → ℕ) (one : Act)
     (old new : SessionValue L) : Type 0 where
   pub fits : IsRequest one.asks

@@ -7,7 +7,7 @@ use Rattle.palm_device.specs.Devices.{Device}
 use Rattle.palm_device.specs.Soundness.{IsDevice}
 use Rattle.dlp_commands.specs.DeviceRuns.{Exchange}
 use Rattle.dlp_commands.specs.DeviceSteps.{FormMayGive, function_number, tried}
-use Rattle.dlp_commands.specs.Reached.{Tried}
+use Rattle.dlp_commands.specs.Reached.{Trial}
 use Rattle.desktop_session.specs.Acts.{Act, acted, text}
 
 -- the function of an act
@@ -15,7 +15,7 @@ abbrev pub number_of : Act → ℕ
 number_of act = function_number act.asks
 
 -- the reply to what was done, or its error
-abbrev pub tells : ℕ → Tried → ReplyValue
+abbrev pub tells : ℕ → Trial → ReplyValue
 tells number (Ok done) = done.1
 tells number (Err code) = Refused number code
 
@@ -29,7 +29,7 @@ pub record IsSayable (act : Act) (device : Device) : Type 0 where
   pub free : FormMayGive device act.given act.asks.form act.asks.fields
 
 -- a device whose values keep the bounds of their types
-pub record IsProper (device : Device) : Type 0 where
+pub record IsTellable (device : Device) : Type 0 where
   pub sound : IsDevice device
   pub bounded : IsBounded device
 

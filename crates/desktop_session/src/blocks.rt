@@ -3,7 +3,7 @@ ghost use Rattle.std.specs.Prelude.{◌≡◌};
 ghost use Rattle.dlp_replies.specs.ReplyReading.{reply_at};
 ghost use Rattle.desktop_session.specs.Answers.{IsCopy, answer_by, block_of, mapped, or_none, said_in};
 ghost use Rattle.desktop_session.specs.Requests.{reading_app, reading_sort};
-ghost use Rattle.desktop_session.specs.Stops.{Asked};
+ghost use Rattle.desktop_session.specs.Stops.{AsksOne};
 
 use crate::fault::SessionFault;
 use crate::open_db::OpenDb;
@@ -17,7 +17,7 @@ impl<'s, L: Link> OpenDb<'s, L> {
     pub fn read_app(&mut self, alloc: Global) -> Result<Option<Vec<u8>>, SessionFault>
         ensures same_reference { self.new.linked.ghost_name ≡ self.old.linked.ghost_name }
         ensures same_handle { self.new.handle ≡ self.old.handle }
-        ensures asked { Asked L.talk L.since L.fault L.downs (reading_app self.old.handle)
+        ensures asked { AsksOne L.talk L.since L.fault L.downs (reading_app self.old.handle)
             self.old.linked.now self.new.linked.now }
         ensures answer { IsCopy (λ copy. copy.items) result
             (answer_by (L.fault self.new.linked.now.link)
@@ -37,7 +37,7 @@ impl<'s, L: Link> OpenDb<'s, L> {
     pub fn read_sort(&mut self, alloc: Global) -> Result<Option<Vec<u8>>, SessionFault>
         ensures same_reference { self.new.linked.ghost_name ≡ self.old.linked.ghost_name }
         ensures same_handle { self.new.handle ≡ self.old.handle }
-        ensures asked { Asked L.talk L.since L.fault L.downs (reading_sort self.old.handle)
+        ensures asked { AsksOne L.talk L.since L.fault L.downs (reading_sort self.old.handle)
             self.old.linked.now self.new.linked.now }
         ensures answer { IsCopy (λ copy. copy.items) result
             (answer_by (L.fault self.new.linked.now.link)

@@ -6,7 +6,7 @@ ghost use Rattle.dlp_replies.specs.ReplyReading.{reply_at};
 ghost use Rattle.dlp_commands.specs.UserFunctions.{chosen, name_length};
 ghost use Rattle.desktop_session.specs.Answers.{answer_by, no_more, or_false, said_in};
 ghost use Rattle.desktop_session.specs.Requests.{deleting, marked_name, marking};
-ghost use Rattle.desktop_session.specs.Stops.{Asked};
+ghost use Rattle.desktop_session.specs.Stops.{AsksOne};
 
 use crate::fault::SessionFault;
 use crate::linked::Linked;
@@ -21,7 +21,7 @@ impl<L: Link> Linked<L> {
     #[tactic(auto, using(crate::proofs::RequestFits::mark_fits, crate::proofs::AnswerLaws::answer_said, crate::proofs::AnswerLaws::answer_failed))]
     pub fn mark(&mut self, mark: &UserInfo, bits: u8) -> Result<(), SessionFault>
         requires { self.old.abandoned ≡ false }
-        ensures asked { Asked L.talk L.since L.fault L.downs (marking mark.now bits) self.old
+        ensures asked { AsksOne L.talk L.since L.fault L.downs (marking mark.now bits) self.old
             self.new }
         ensures answer { result ≡ answer_by (L.fault self.new.link)
             (said_in 0x11 no_more (reply_at 0x11 self.new.reply)) }
@@ -43,7 +43,7 @@ impl<L: Link> Linked<L> {
     #[tactic(auto, using(crate::proofs::RequestFits::delete_fits, crate::proofs::AnswerLaws::answer_said, crate::proofs::AnswerLaws::answer_failed))]
     pub fn delete(&mut self, name: &DbName) -> Result<bool, SessionFault>
         requires { self.old.abandoned ≡ false }
-        ensures asked { Asked L.talk L.since L.fault L.downs (deleting name.now) self.old self.new }
+        ensures asked { AsksOne L.talk L.since L.fault L.downs (deleting name.now) self.old self.new }
         ensures answer { result ≡ answer_by (L.fault self.new.link)
             (or_false (said_in 0x1A no_more (reply_at 0x1A self.new.reply))) }
     {

@@ -3,10 +3,10 @@ ghost use Rattle.std.specs.Prelude.{◌≡◌, ◌∷◌, [], IfErr, IfOk, false
 ghost use Rattle.dlp_replies.specs.ReplyReading.{reply_at};
 ghost use Rattle.desktop_session.specs.Acts.{text};
 ghost use Rattle.desktop_session.specs.Answers.{answer_by, no_more, said_in};
-ghost use Rattle.desktop_session.specs.Ends.{Finished, end_of, link_ended};
+ghost use Rattle.desktop_session.specs.Ends.{AnswersEnding, end_of, link_ended};
 ghost use Rattle.desktop_session.specs.Lasts.{IsByLastReply};
 ghost use Rattle.desktop_session.specs.Requests.{ending};
-ghost use Rattle.desktop_session.specs.Stops.{Asked, Does, Stops};
+ghost use Rattle.desktop_session.specs.Stops.{AsksOne, Does, Stops};
 
 use crate::fault::SessionFault;
 use crate::linked::Linked;
@@ -30,7 +30,7 @@ pub struct Halted<L> {
 impl<L: Link> Linked<L> {
     // Tells the handheld that all is done.
     fn end(&mut self) -> Result<(), SessionFault>
-        ensures asked { Asked L.talk L.since L.fault L.downs ending self.old self.new }
+        ensures asked { AsksOne L.talk L.since L.fault L.downs ending self.old self.new }
         ensures answer { result ≡ answer_by (L.fault self.new.link)
             (said_in 0x2F no_more (reply_at 0x2F self.new.reply)) }
         ensures last { IfErr result (IsByLastReply (L.talk self.new.link)) }
@@ -45,7 +45,7 @@ impl<L: Link> Linked<L> {
         ensures stops { Stops L.talk L.since L.fault L.downs (text ending ∷ []) self.link
             (link_ended result) }
         ensures does { IfOk result (λ ended. Does L.talk (ending ∷ []) self.link ended.link) }
-        ensures answer { Finished (L.talk self.link) (L.fault (link_ended result)) (end_of result) }
+        ensures answer { AnswersEnding (L.talk self.link) (L.fault (link_ended result)) (end_of result) }
         ensures last { IfErr result (λ halted. IsByLastReply (L.talk halted.link) halted.cause) }
     {
         let mut linked = self;

@@ -3,10 +3,10 @@ ghost use Rattle.std.specs.Prelude.{◌≡◌, ◌≤◌, ◌∷◌, ◌⊎◌, 
 ghost use Rattle.dlp_replies.specs.ReplyReading.{reply_at};
 ghost use Rattle.desktop_session.specs.Acts.{text};
 ghost use Rattle.desktop_session.specs.Answers.{answer_by, no_more, said_in, user_of};
-ghost use Rattle.desktop_session.specs.Greetings.{AsksUser, Greeted, HasSlot, user_by, user_with};
+ghost use Rattle.desktop_session.specs.Greetings.{AsksUser, AnswersGreeting, HasSlot, user_by, user_with};
 ghost use Rattle.desktop_session.specs.Lasts.{IsByLastReply};
 ghost use Rattle.desktop_session.specs.Requests.{beginning, reading_user};
-ghost use Rattle.desktop_session.specs.Stops.{Asked, Does, Stops};
+ghost use Rattle.desktop_session.specs.Stops.{AsksOne, Does, Stops};
 ghost use Rattle.pdb_values.specs.Slots.{slot_for as slot_of};
 
 use crate::fault::SessionFault;
@@ -21,7 +21,7 @@ impl<L: Link> Linked<L> {
     fn ask_user(&mut self, users: &[u32], add: bool) -> Result<UserInfo, SessionFault>
         requires some { 1 ≤ length users.now }
         requires room { length users.now ≤ 16 }
-        ensures asked { Asked L.talk L.since L.fault L.downs reading_user self.old self.new }
+        ensures asked { AsksOne L.talk L.since L.fault L.downs reading_user self.old self.new }
         ensures answer { result ≡ answer_by (L.fault self.new.link)
             (user_by users.now add (said_in 0x10 user_of (reply_at 0x10 self.new.reply))) }
         ensures last { IfErr result (IsByLastReply (L.talk self.new.link)) }
@@ -34,7 +34,7 @@ impl<L: Link> Linked<L> {
     // Says that the conduits begin.
     #[tactic(auto, using(crate::proofs::RequestFits::begin_fits, crate::proofs::AnswerLaws::answer_said, crate::proofs::AnswerLaws::answer_failed))]
     fn ask_conduits(&mut self) -> Result<(), SessionFault>
-        ensures asked { Asked L.talk L.since L.fault L.downs beginning self.old self.new }
+        ensures asked { AsksOne L.talk L.since L.fault L.downs beginning self.old self.new }
         ensures answer { result ≡ answer_by (L.fault self.new.link)
             (said_in 0x2E no_more (reply_at 0x2E self.new.reply)) }
         ensures last { IfErr result (IsByLastReply (L.talk self.new.link)) }
@@ -70,7 +70,7 @@ impl<L: Link> Linked<L> {
             self.old.link self.new.link }
         ensures does { OnOk result (Does L.talk (reading_user ∷ beginning ∷ []) self.old.link
             self.new.link) }
-        ensures greeted { Greeted users.now add (L.talk self.old.link) (L.fault
+        ensures greeted { AnswersGreeting users.now add (L.talk self.old.link) (L.fault
             self.new.link) result }
         ensures unseated { AsksUser L.talk L.since L.fault L.downs self.old.link self.new.link
             ⊎ HasSlot users.now add (L.talk self.old.link) }

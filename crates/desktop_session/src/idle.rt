@@ -2,7 +2,7 @@
 ghost use Rattle.std.specs.Prelude.{◌≡◌, ◌≤◌, ◌∷◌, ◌⊎◌, [], IfErr, IfOk, false, length};
 ghost use Rattle.desktop_session.specs.Acts.{text};
 ghost use Rattle.desktop_session.specs.Ends.{link_begun, user_begun};
-ghost use Rattle.desktop_session.specs.Greetings.{AsksUser, Greeted, HasSlot};
+ghost use Rattle.desktop_session.specs.Greetings.{AsksUser, AnswersGreeting, HasSlot};
 ghost use Rattle.desktop_session.specs.Lasts.{IsByLastReply};
 ghost use Rattle.desktop_session.specs.Requests.{beginning, reading_user};
 ghost use Rattle.desktop_session.specs.Stops.{Does, Stops};
@@ -57,7 +57,7 @@ impl<L: Link> Idle<L> {
             self.link linked.link) }
 
         // The user, or the cause of the refusal.
-        ensures greeted { Greeted users.now add (L.talk self.link) (L.fault (link_begun result))
+        ensures greeted { AnswersGreeting users.now add (L.talk self.link) (L.fault (link_begun result))
             (user_begun result) }
         ensures last { IfErr result (λ halted. IsByLastReply (L.talk halted.link) halted.cause) }
         // Nothing but the user is asked for unless the handheld's has a slot.

@@ -25,8 +25,8 @@ ghost use Rattle.desktop_session.specs.Requests.{closing, making, opening_in, re
 ghost use Rattle.desktop_session.specs.Says.{said};
 ghost use Rattle.desktop_session.specs.Sessions.{SessionValue};
 ghost use Rattle.desktop_session.specs.Starts.{next_start};
-ghost use Rattle.desktop_session.specs.Stops.{Asked};
-ghost use Rattle.desktop_session.specs.Tellings.{AreSayable, IsProper, IsSayable, device_after, exchanges, number_of, told};
+ghost use Rattle.desktop_session.specs.Stops.{AsksOne};
+ghost use Rattle.desktop_session.specs.Tellings.{AreSayable, IsTellable, IsSayable, device_after, exchanges, number_of, told};
 
 use crate::fault::SessionFault;
 use dlp_commands::Link;
@@ -35,7 +35,7 @@ use dlp_commands::Link;
 /// `BadReply` never comes, and
 /// `Refused` only where the table refuses the act.
 pub fn replies_tell()
-    ensures { (one : Act) (device : Device) → IsProper device → IsSayable one device
+    ensures { (one : Act) (device : Device) → IsTellable device → IsSayable one device
         → reply_at (number_of one) (acted one device).0 ≡ Ok (told one device) }
 {}
 
@@ -47,8 +47,8 @@ pub fn acts_are_steps()
         ≡ device_after acts talk.device }
     ensures added { (acts : List Act) (talk : Talk) → (said acts talk).exchanges
         ≡ talk.exchanges ++ exchanges acts talk.device }
-    ensures proper { (acts : List Act) (device : Device) → IsProper device → AreSayable acts device
-        → IsProper (device_after acts device) }
+    ensures proper { (acts : List Act) (device : Device) → IsTellable device → AreSayable acts device
+        → IsTellable (device_after acts device) }
 {}
 
 /// Over any link a call that stops for a refusal, or for a reply that can't be read, stops for what the
@@ -58,22 +58,22 @@ pub fn acts_are_steps()
 pub fn refusals_are_the_last_reply<L: Link, A>()
     ensures said { (one : Act) (old new : SessionValue L) (take : ReplyValue → A)
         (cause : SessionFault) → (may_find_none one.asks.form ≡ true → IsNotMissing cause)
-        → Asked L.talk L.since L.fault L.downs one old new
+        → AsksOne L.talk L.since L.fault L.downs one old new
         → Err cause ≡ answer_by (L.fault new.link)
         (said_in (number_of one) take (reply_at (number_of one) new.reply))
         → IsByLastReply (L.talk new.link) cause }
     ensures refused { (one : Act) (old new : SessionValue L) (take : ReplyValue → A)
-        (cause : SessionFault) → Asked L.talk L.since L.fault L.downs one old new
+        (cause : SessionFault) → AsksOne L.talk L.since L.fault L.downs one old new
         → Err cause ≡ answer_by (L.fault new.link)
         (said_in (number_of one) take (reply_at (number_of one) new.reply))
         → IsByErrorReply (L.talk new.link) cause }
     ensures found { (one : Act) (old new : SessionValue L) (take : ReplyValue → A)
-        (cause : SessionFault) → Asked L.talk L.since L.fault L.downs one old new
+        (cause : SessionFault) → AsksOne L.talk L.since L.fault L.downs one old new
         → Err cause ≡ answer_by (L.fault new.link)
         (or_none (said_in (number_of one) take (reply_at (number_of one) new.reply)))
         → IsByLastReply (L.talk new.link) cause }
     ensures removed { (one : Act) (old new : SessionValue L) (cause : SessionFault)
-        → Asked L.talk L.since L.fault L.downs one old new
+        → AsksOne L.talk L.since L.fault L.downs one old new
         → Err cause ≡ answer_by (L.fault new.link)
         (or_false (said_in (number_of one) no_more (reply_at (number_of one) new.reply)))
         → IsByLastReply (L.talk new.link) cause }
@@ -90,10 +90,10 @@ pub fn first_handle_is_one()
 /// is none; and it is the list of their heads, without their seeds. Over any device the list goes on one index behind each start, so
 /// that the requests are for the indices from 0 on, one after the other.
 pub fn lists_are_whole()
-    ensures heads { (device : Device) (count : ℕ) → IsProper device
+    ensures heads { (device : Device) (count : ℕ) → IsTellable device
         → length device.databases ≤ count → count ≤ 65536
         → heads_listed device count ≡ map (λ database. listed database.head) device.databases }
-    ensures count { (device : Device) (count : ℕ) → IsProper device → 0 < count → count ≤ 65536
+    ensures count { (device : Device) (count : ℕ) → IsTellable device → 0 < count → count ≤ 65536
         → ((k : ℕ) → k + 1 < count → has_more (list_reply device k) ≡ true)
         → (count ≡ 65536) ⊎ (has_more (list_reply device (count - 1)) ≡ false)
         → count ≡ max 1 (length device.databases) }
@@ -124,30 +124,30 @@ pub fn open_ones_stay_open()
 /// says, with all its bytes, and the ids are those of the database's records, in their order.
 pub fn lent_ones_are_the_devices()
     ensures at { (device : Device) (handle place : ℕ) (base : Base) (item : Record)
-        → IsProper device → handle < 2 ^ 8 → place < 2 ^ 16 → base_at device handle ≡ Some base
+        → IsTellable device → handle < 2 ^ 8 → place < 2 ^ 16 → base_at device handle ≡ Some base
         → on_records base.database ≡ true → slice_get base.database.records place ≡ Some item
         → said_in 0x20 record_of (reply_at 0x20 (acted (reading_at handle place) device).0)
         ≡ Ok (record_lent item) }
     ensures by_id { (device : Device) (handle id place : ℕ) (base : Base) (item : Record)
-        → IsProper device → handle < 2 ^ 8 → id < 2 ^ 32 → base_at device handle ≡ Some base
+        → IsTellable device → handle < 2 ^ 8 → id < 2 ^ 32 → base_at device handle ≡ Some base
         → on_records base.database ≡ true → place_of_id id base.database.records ≡ Some place
         → slice_get base.database.records place ≡ Some item
         → said_in 0x20 record_of (reply_at 0x20 (acted (reading_of handle id) device).0)
         ≡ Ok (record_lent item) }
     ensures next { (device : Device) (handle place : ℕ) (base : Base) (item : Record)
-        → IsProper device → handle < 2 ^ 8 → base_at device handle ≡ Some base
+        → IsTellable device → handle < 2 ^ 8 → base_at device handle ≡ Some base
         → on_records base.database ≡ true
         → next_changed base.opened.next base.database.records ≡ Some place
         → slice_get base.database.records place ≡ Some item
         → said_in 0x1F record_of (reply_at 0x1F (acted (reading_next handle) device).0)
         ≡ Ok (record_lent item) }
     ensures resource { (device : Device) (handle place : ℕ) (base : Base) (resource : Resource)
-        → IsProper device → handle < 2 ^ 8 → place < 2 ^ 16 → base_at device handle ≡ Some base
+        → IsTellable device → handle < 2 ^ 8 → place < 2 ^ 16 → base_at device handle ≡ Some base
         → on_resources base.database ≡ true
         → slice_get base.database.resources place ≡ Some resource
         → said_in 0x23 resource_of (reply_at 0x23 (acted (reading_resource handle place) device).0)
         ≡ Ok (resource_lent resource) }
-    ensures ids { (device : Device) (handle count : ℕ) (base : Base) → IsProper device
+    ensures ids { (device : Device) (handle count : ℕ) (base : Base) → IsTellable device
         → handle < 2 ^ 8 → count < 2 ^ 16 → base_at device handle ≡ Some base
         → on_records base.database ≡ true → length (ids_of base.database.records) ≤ count
         → ids_listed device handle (id_parts count) ≡ ids_of base.database.records }

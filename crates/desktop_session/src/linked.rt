@@ -2,10 +2,10 @@
 ghost use Rattle.std.specs.Prelude.{◌≡◌, ◌∷◌, [], OnOk, Ok, false, true};
 ghost use Rattle.dlp_requests.specs.RequestTexts.{IsRequest};
 ghost use Rattle.dlp_requests.specs.Views.{request_value};
-ghost use Rattle.dlp_commands.specs.Talks.{Answered};
+ghost use Rattle.dlp_commands.specs.Talks.{HasAnswer};
 ghost use Rattle.desktop_session.specs.Acts.{AsksNoId, act, text};
 ghost use Rattle.desktop_session.specs.Answers.{answer_by};
-ghost use Rattle.desktop_session.specs.Stops.{Asked, Stops};
+ghost use Rattle.desktop_session.specs.Stops.{AsksOne, Stops};
 
 use crate::fault::{SessionFault, of_link};
 use dlp_commands::{Link, Message, Request, write_request};
@@ -49,12 +49,12 @@ impl<L: Link> Linked<L> {
     // Sends a request and takes the reply to it.
     pub(crate) fn ask(&mut self, request: &Request<'_>) -> Result<(), SessionFault>
         requires { IsRequest (request_value request.now) }
-        ensures asked { AsksNoId (request_value request.now) → Asked L.talk L.since L.fault L.downs
+        ensures asked { AsksNoId (request_value request.now) → AsksOne L.talk L.since L.fault L.downs
             (act (request_value request.now)) self.old self.new }
         ensures stops { Stops L.talk L.since L.fault L.downs (text (act (request_value request.now))
             ∷ [])
             self.old.link self.new.link }
-        ensures answered { OnOk result (Answered (L.talk self.old.link)
+        ensures answered { OnOk result (HasAnswer (L.talk self.old.link)
             (text (act (request_value request.now))) self.new.reply (L.talk self.new.link)) }
         ensures fault { result ≡ answer_by (L.fault self.new.link) (Ok tt) }
         ensures rest { (self.new.user ≡ self.old.user) × (self.new.abandoned ≡ self.old.abandoned) }

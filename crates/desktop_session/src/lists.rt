@@ -8,7 +8,7 @@ ghost use Rattle.desktop_session.specs.Lists.{HasCause, IsByReplyTo, IsNotMissin
 ghost use Rattle.desktop_session.specs.Lists.{id_listings, id_parts, ids_in, ids_listed};
 ghost use Rattle.desktop_session.specs.Requests.{listing, listing_ids};
 ghost use Rattle.desktop_session.specs.Starts.{IsCounted, IsListedUpTo, next_start};
-ghost use Rattle.desktop_session.specs.Stops.{Asked, Does, Stops};
+ghost use Rattle.desktop_session.specs.Stops.{AsksOne, Does, Stops};
 
 use crate::fault::SessionFault;
 use crate::linked::Linked;
@@ -26,7 +26,7 @@ impl<L: Link> Linked<L> {
         start: u16,
         heads: &mut Vec<DbHead>,
     ) -> Result<Option<u16>, SessionFault>
-        ensures asked { Asked L.talk L.since L.fault L.downs (listing start) self.old self.new }
+        ensures asked { AsksOne L.talk L.since L.fault L.downs (listing start) self.old self.new }
         ensures none { OnOk result (L.fault self.new.link ≡ None) }
         ensures heads { OnOk result (heads.new.items ≡ heads.old.items ++ heads_in (reply_at 0x16
             self.new.reply)) }
@@ -53,7 +53,7 @@ impl<L: Link> Linked<L> {
         start: u16,
         ids: &mut Vec<RecordId>,
     ) -> Result<(), SessionFault>
-        ensures asked { Asked L.talk L.since L.fault L.downs (listing_ids handle start) self.old
+        ensures asked { AsksOne L.talk L.since L.fault L.downs (listing_ids handle start) self.old
             self.new }
         ensures none { OnOk result (L.fault self.new.link ≡ None) }
         ensures ids { OnOk result (ids.new.items ≡ ids.old.items ++ ids_in (reply_at 0x31

@@ -4,7 +4,7 @@ ghost use Rattle.std.specs.Borrow.{sem};
 ghost use Rattle.dlp_replies.specs.ReplyReading.{reply_at};
 ghost use Rattle.desktop_session.specs.Answers.{answer_by, handle_of, no_more, said_in};
 ghost use Rattle.desktop_session.specs.Requests.{closing, making, making_of, opening, opening_in, opening_to_read};
-ghost use Rattle.desktop_session.specs.Stops.{Asked};
+ghost use Rattle.desktop_session.specs.Stops.{AsksOne};
 
 use crate::fault::SessionFault;
 use crate::linked::Linked;
@@ -22,7 +22,7 @@ impl<L: Link> Linked<L> {
     // Asks for a database to be opened in a mode, and answers its handle.
     #[tactic(auto, using(crate::proofs::RequestFits::open_fits, crate::proofs::AnswerLaws::answer_said, crate::proofs::AnswerLaws::answer_failed))]
     fn ask_to_open(&mut self, mode: u8, name: &DbName) -> Result<u8, SessionFault>
-        ensures asked { Asked L.talk L.since L.fault L.downs (opening_in mode name.now) self.old
+        ensures asked { AsksOne L.talk L.since L.fault L.downs (opening_in mode name.now) self.old
             self.new }
         ensures answer { result ≡ answer_by (L.fault self.new.link)
             (said_in 0x17 handle_of (reply_at 0x17 self.new.reply)) }
@@ -46,7 +46,7 @@ impl<L: Link> Linked<L> {
         version: u16,
         name: &DbName,
     ) -> Result<u8, SessionFault>
-        ensures asked { Asked L.talk L.since L.fault L.downs
+        ensures asked { AsksOne L.talk L.since L.fault L.downs
             (making_of creator.0 kind.0 attributes version name.now) self.old self.new }
         ensures answer { result ≡ answer_by (L.fault self.new.link)
             (said_in 0x18 handle_of (reply_at 0x18 self.new.reply)) }
@@ -73,12 +73,12 @@ impl<L: Link> Linked<L> {
         requires { self.old.abandoned ≡ false }
         ensures* stopped { sem 𝓛 (RestsIfErr (the_row L.row L.Link) self.entry
             (λ opened. opened.linked.ghost_name) result
-            (λ last. Asked L.talk L.since L.fault L.downs (opening name.now) self.entry.now last
+            (λ last. AsksOne L.talk L.since L.fault L.downs (opening name.now) self.entry.now last
             × IfErr result (λ fault. Err fault ≡ answer_by (L.fault last.link)
             (said_in 0x17 handle_of (reply_at 0x17 last.reply))))) }
         ensures same_reference { IfOk result (λ opened. opened.linked.ghost_name ≡
             self.entry.ghost_name) }
-        ensures asked { IfOk result (λ opened. Asked L.talk L.since L.fault L.downs
+        ensures asked { IfOk result (λ opened. AsksOne L.talk L.since L.fault L.downs
             (opening name.now)
             self.old opened.linked.now) }
         ensures handle { IfOk result (λ opened. Ok opened.handle ≡ answer_by
@@ -99,13 +99,13 @@ impl<L: Link> Linked<L> {
         requires { self.old.abandoned ≡ false }
         ensures* stopped { sem 𝓛 (RestsIfErr (the_row L.row L.Link) self.entry
             (λ opened. opened.linked.ghost_name) result
-            (λ last. Asked L.talk L.since L.fault L.downs (opening_to_read name.now)
+            (λ last. AsksOne L.talk L.since L.fault L.downs (opening_to_read name.now)
             self.entry.now last
             × IfErr result (λ fault. Err fault ≡ answer_by (L.fault last.link)
             (said_in 0x17 handle_of (reply_at 0x17 last.reply))))) }
         ensures same_reference { IfOk result (λ opened. opened.linked.ghost_name ≡
             self.entry.ghost_name) }
-        ensures asked { IfOk result (λ opened. Asked L.talk L.since L.fault L.downs
+        ensures asked { IfOk result (λ opened. AsksOne L.talk L.since L.fault L.downs
             (opening_to_read name.now)
             self.old opened.linked.now) }
         ensures handle { IfOk result (λ opened. Ok opened.handle ≡ answer_by
@@ -127,12 +127,12 @@ impl<L: Link> Linked<L> {
         requires { self.old.abandoned ≡ false }
         ensures* stopped { sem 𝓛 (RestsIfErr (the_row L.row L.Link) self.entry
             (λ opened. opened.linked.ghost_name) result
-            (λ last. Asked L.talk L.since L.fault L.downs (making head.now) self.entry.now last
+            (λ last. AsksOne L.talk L.since L.fault L.downs (making head.now) self.entry.now last
             × IfErr result (λ fault. Err fault ≡ answer_by (L.fault last.link)
             (said_in 0x18 handle_of (reply_at 0x18 last.reply))))) }
         ensures same_reference { IfOk result (λ opened. opened.linked.ghost_name ≡
             self.entry.ghost_name) }
-        ensures asked { IfOk result (λ opened. Asked L.talk L.since L.fault L.downs
+        ensures asked { IfOk result (λ opened. AsksOne L.talk L.since L.fault L.downs
             (making head.now)
             self.old opened.linked.now) }
         ensures handle { IfOk result (λ opened. Ok opened.handle ≡ answer_by
@@ -167,7 +167,7 @@ impl<'s, L: Link> OpenDb<'s, L> {
 
     /// Closes it.
     pub fn close(self) -> Result<(), SessionFault>
-        ensures asked { Asked L.talk L.since L.fault L.downs (closing self.entry.handle)
+        ensures asked { AsksOne L.talk L.since L.fault L.downs (closing self.entry.handle)
             self.entry.linked.now self.exit.0.now }
         ensures answer { result ≡ answer_by (L.fault self.exit.0.now.link)
             (said_in 0x19 no_more (reply_at 0x19 self.exit.0.now.reply)) }

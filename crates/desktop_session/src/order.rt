@@ -20,8 +20,8 @@ ghost use Rattle.desktop_session.specs.Orders.{IsMark, IsPossible};
 ghost use Rattle.desktop_session.specs.Orders.{IsUnrefused, SaysInOrder, may_find_none};
 ghost use Rattle.desktop_session.specs.Requests.{listing, listing_ids, making, marking};
 ghost use Rattle.desktop_session.specs.Sessions.{SessionValue};
-ghost use Rattle.desktop_session.specs.Stops.{Asked};
-ghost use Rattle.desktop_session.specs.Tellings.{IsProper, number_of, told};
+ghost use Rattle.desktop_session.specs.Stops.{AsksOne};
+ghost use Rattle.desktop_session.specs.Tellings.{IsTellable, number_of, told};
 
 use crate::fault::SessionFault;
 use dlp_commands::Link;
@@ -39,16 +39,16 @@ pub fn possible_requests_are_answered()
 /// `BadReply`: whatever it takes from the reply, and also where error 5 has an answer of its own.
 pub fn kept_order_is_never_refused<L: Link, A>()
     ensures said { (one : Act) (old new : SessionValue L) (take : ReplyValue → A)
-        → Asked L.talk L.since L.fault L.downs one old new → SaysInOrder L.talk one old.link
+        → AsksOne L.talk L.since L.fault L.downs one old new → SaysInOrder L.talk one old.link
         → may_find_none one.asks.form ≡ false
         → IsUnrefused (answer_by (L.fault new.link)
         (said_in (number_of one) take (reply_at (number_of one) new.reply))) }
     ensures found { (one : Act) (old new : SessionValue L) (take : ReplyValue → A)
-        → Asked L.talk L.since L.fault L.downs one old new → SaysInOrder L.talk one old.link
+        → AsksOne L.talk L.since L.fault L.downs one old new → SaysInOrder L.talk one old.link
         → IsUnrefused (answer_by (L.fault new.link)
         (or_none (said_in (number_of one) take (reply_at (number_of one) new.reply)))) }
     ensures removed { (one : Act) (old new : SessionValue L)
-        → Asked L.talk L.since L.fault L.downs one old new → SaysInOrder L.talk one old.link
+        → AsksOne L.talk L.since L.fault L.downs one old new → SaysInOrder L.talk one old.link
         → IsUnrefused (answer_by (L.fault new.link)
         (or_false (said_in (number_of one) no_more (reply_at (number_of one) new.reply)))) }
 {}
@@ -56,12 +56,12 @@ pub fn kept_order_is_never_refused<L: Link, A>()
 /// The same of lists: of the databases at any time, and of the ids of an open database of records.
 pub fn kept_lists_are_never_refused<L: Link>()
     ensures databases { (old new : SessionValue L) (said : Talk) (cause : SessionFault)
-        → L.talk old.link ≡ Some said → IsProper said.device
+        → L.talk old.link ≡ Some said → IsTellable said.device
         → IsByReplyTo L.talk L.fault 65536 listing old new
         → HasCause (L.fault new.link) (reply_at 0x16 new.reply) cause → IsNotMissing cause
         → IsUnrefused {A = Unit {0}} (Err cause) }
     ensures ids { (old new : SessionValue L) (said : Talk) (handle count : ℕ) (cause : SessionFault)
-        → L.talk old.link ≡ Some said → IsProper said.device → handle < 2 ^ 8 → count < 2 ^ 16
+        → L.talk old.link ≡ Some said → IsTellable said.device → handle < 2 ^ 8 → count < 2 ^ 16
         → IsSomeAnd (base_at said.device handle) HasRecords
         → IsByReplyTo L.talk L.fault (id_parts count)
         (λ part. listing_ids handle (8000 * part)) old new

@@ -10,7 +10,7 @@ ghost use Rattle.desktop_session.specs.contracts.open_db.OpenDb as open_row;
 ghost use Rattle.desktop_session.specs.Answers.{answer_by, count_of, or_none, record_of, resource_of, said_in};
 ghost use Rattle.desktop_session.specs.Lent.{lent_resource, lent_value};
 ghost use Rattle.desktop_session.specs.Requests.{counting, reading_at, reading_next, reading_of, reading_resource};
-ghost use Rattle.desktop_session.specs.Stops.{Asked};
+ghost use Rattle.desktop_session.specs.Stops.{AsksOne};
 
 use crate::fault::SessionFault;
 use crate::lent::{RecordLent, ResourceLent};
@@ -26,7 +26,7 @@ impl<'s, L: Link> OpenDb<'s, L> {
     pub fn count(&mut self) -> Result<u16, SessionFault>
         ensures same_reference { self.new.linked.ghost_name ≡ self.old.linked.ghost_name }
         ensures same_handle { self.new.handle ≡ self.old.handle }
-        ensures asked { Asked L.talk L.since L.fault L.downs (counting self.old.handle)
+        ensures asked { AsksOne L.talk L.since L.fault L.downs (counting self.old.handle)
             self.old.linked.now self.new.linked.now }
         ensures answer { result ≡ answer_by (L.fault self.new.linked.now.link)
             (said_in 0x2B count_of (reply_at 0x2B self.new.linked.now.reply)) }
@@ -41,7 +41,7 @@ impl<'s, L: Link> OpenDb<'s, L> {
 impl<L: Link> Linked<L> {
     #[tactic(auto, using(crate::proofs::RequestFits::at_fits))]
     fn ask_at(&mut self, handle: u8, index: u16) -> Result<(), SessionFault>
-        ensures asked { Asked L.talk L.since L.fault L.downs (reading_at handle index) self.old
+        ensures asked { AsksOne L.talk L.since L.fault L.downs (reading_at handle index) self.old
             self.new }
         ensures fault { result ≡ answer_by (L.fault self.new.link) (Ok tt) }
     {
@@ -55,7 +55,7 @@ impl<L: Link> Linked<L> {
 
     #[tactic(auto, using(crate::proofs::RequestFits::of_fits))]
     fn ask_of(&mut self, handle: u8, id: RecordId) -> Result<(), SessionFault>
-        ensures asked { Asked L.talk L.since L.fault L.downs (reading_of handle id) self.old
+        ensures asked { AsksOne L.talk L.since L.fault L.downs (reading_of handle id) self.old
             self.new }
         ensures fault { result ≡ answer_by (L.fault self.new.link) (Ok tt) }
     {
@@ -69,7 +69,7 @@ impl<L: Link> Linked<L> {
 
     #[tactic(auto, using(crate::proofs::RequestFits::next_fits))]
     fn ask_next(&mut self, handle: u8) -> Result<(), SessionFault>
-        ensures asked { Asked L.talk L.since L.fault L.downs (reading_next handle) self.old
+        ensures asked { AsksOne L.talk L.since L.fault L.downs (reading_next handle) self.old
             self.new }
         ensures fault { result ≡ answer_by (L.fault self.new.link) (Ok tt) }
     {
@@ -78,7 +78,7 @@ impl<L: Link> Linked<L> {
 
     #[tactic(auto, using(crate::proofs::RequestFits::resource_fits))]
     fn ask_resource(&mut self, handle: u8, index: u16) -> Result<(), SessionFault>
-        ensures asked { Asked L.talk L.since L.fault L.downs (reading_resource handle index)
+        ensures asked { AsksOne L.talk L.since L.fault L.downs (reading_resource handle index)
             self.old self.new }
         ensures fault { result ≡ answer_by (L.fault self.new.link) (Ok tt) }
     {
@@ -99,7 +99,7 @@ impl<'s, L: Link> OpenDb<'s, L> {
             (record { mir = named 0; lft = [] }) L.row L.Link) self.entry
             (λ last. (last.linked.ghost_name ≡ self.old.linked.ghost_name) × (last.handle ≡
             self.old.handle)
-            × Asked L.talk L.since L.fault L.downs (reading_at self.old.handle index)
+            × AsksOne L.talk L.since L.fault L.downs (reading_at self.old.handle index)
             self.old.linked.now last.linked.now
             × Gives lent_value result (answer_by (L.fault last.linked.now.link)
             (said_in 0x20 record_of (reply_at 0x20 last.linked.now.reply))))) }
@@ -119,7 +119,7 @@ impl<'s, L: Link> OpenDb<'s, L> {
             (record { mir = named 0; lft = [] }) L.row L.Link) self.entry
             (λ last. (last.linked.ghost_name ≡ self.old.linked.ghost_name) × (last.handle ≡
             self.old.handle)
-            × Asked L.talk L.since L.fault L.downs (reading_of self.old.handle id)
+            × AsksOne L.talk L.since L.fault L.downs (reading_of self.old.handle id)
             self.old.linked.now last.linked.now
             × Gives (option_map lent_value) result (answer_by (L.fault last.linked.now.link)
             (or_none (said_in 0x20 record_of (reply_at 0x20 last.linked.now.reply)))))) }
@@ -139,7 +139,7 @@ impl<'s, L: Link> OpenDb<'s, L> {
             (record { mir = named 0; lft = [] }) L.row L.Link) self.entry
             (λ last. (last.linked.ghost_name ≡ self.old.linked.ghost_name) × (last.handle ≡
             self.old.handle)
-            × Asked L.talk L.since L.fault L.downs (reading_next self.old.handle)
+            × AsksOne L.talk L.since L.fault L.downs (reading_next self.old.handle)
             self.old.linked.now last.linked.now
             × Gives (option_map lent_value) result (answer_by (L.fault last.linked.now.link)
             (or_none (said_in 0x1F record_of (reply_at 0x1F last.linked.now.reply)))))) }
@@ -159,7 +159,7 @@ impl<'s, L: Link> OpenDb<'s, L> {
             (record { mir = named 0; lft = [] }) L.row L.Link) self.entry
             (λ last. (last.linked.ghost_name ≡ self.old.linked.ghost_name) × (last.handle ≡
             self.old.handle)
-            × Asked L.talk L.since L.fault L.downs (reading_resource self.old.handle index)
+            × AsksOne L.talk L.since L.fault L.downs (reading_resource self.old.handle index)
             self.old.linked.now last.linked.now
             × Gives lent_resource result (answer_by (L.fault last.linked.now.link)
             (said_in 0x23 resource_of (reply_at 0x23 last.linked.now.reply))))) }

@@ -4,7 +4,7 @@ ghost use Rattle.dlp_replies.specs.ReplyReading.{reply_at};
 ghost use Rattle.desktop_session.specs.Answers.{answer_by, id_of, no_more, or_false, said_in};
 ghost use Rattle.desktop_session.specs.Puts.{Puts};
 ghost use Rattle.desktop_session.specs.Requests.{cleaning, putting_resource, removing, resetting, secret_bit, writing_app, writing_sort};
-ghost use Rattle.desktop_session.specs.Stops.{Asked};
+ghost use Rattle.desktop_session.specs.Stops.{AsksOne};
 
 use crate::fault::SessionFault;
 use crate::linked::Linked;
@@ -58,7 +58,7 @@ impl<L: Link> Linked<L> {
         bytes: &[u8],
     ) -> Result<(), SessionFault>
         requires { length bytes.now ≤ 65500 }
-        ensures asked { Asked L.talk L.since L.fault L.downs
+        ensures asked { AsksOne L.talk L.since L.fault L.downs
             (putting_resource handle kind.0 id bytes.now)
             self.old self.new }
         ensures fault { result ≡ answer_by (L.fault self.new.link) (Ok tt) }
@@ -93,7 +93,7 @@ impl<'s, L: Link> OpenDb<'s, L> {
     pub fn remove(&mut self, id: RecordId) -> Result<bool, SessionFault>
         ensures same_reference { self.new.linked.ghost_name ≡ self.old.linked.ghost_name }
         ensures same_handle { self.new.handle ≡ self.old.handle }
-        ensures asked { Asked L.talk L.since L.fault L.downs (removing self.old.handle id)
+        ensures asked { AsksOne L.talk L.since L.fault L.downs (removing self.old.handle id)
             self.old.linked.now self.new.linked.now }
         ensures answer { result ≡ answer_by (L.fault self.new.linked.now.link)
             (or_false (said_in 0x22 no_more (reply_at 0x22 self.new.linked.now.reply))) }
@@ -112,7 +112,7 @@ impl<'s, L: Link> OpenDb<'s, L> {
     pub fn clean_up(&mut self) -> Result<(), SessionFault>
         ensures same_reference { self.new.linked.ghost_name ≡ self.old.linked.ghost_name }
         ensures same_handle { self.new.handle ≡ self.old.handle }
-        ensures asked { Asked L.talk L.since L.fault L.downs (cleaning self.old.handle)
+        ensures asked { AsksOne L.talk L.since L.fault L.downs (cleaning self.old.handle)
             self.old.linked.now self.new.linked.now }
         ensures answer { result ≡ answer_by (L.fault self.new.linked.now.link)
             (said_in 0x26 no_more (reply_at 0x26 self.new.linked.now.reply)) }
@@ -127,7 +127,7 @@ impl<'s, L: Link> OpenDb<'s, L> {
     pub fn reset_flags(&mut self) -> Result<(), SessionFault>
         ensures same_reference { self.new.linked.ghost_name ≡ self.old.linked.ghost_name }
         ensures same_handle { self.new.handle ≡ self.old.handle }
-        ensures asked { Asked L.talk L.since L.fault L.downs (resetting self.old.handle)
+        ensures asked { AsksOne L.talk L.since L.fault L.downs (resetting self.old.handle)
             self.old.linked.now self.new.linked.now }
         ensures answer { result ≡ answer_by (L.fault self.new.linked.now.link)
             (said_in 0x27 no_more (reply_at 0x27 self.new.linked.now.reply)) }
@@ -143,7 +143,7 @@ impl<'s, L: Link> OpenDb<'s, L> {
         requires { length bytes.now ≤ 65500 }
         ensures same_reference { self.new.linked.ghost_name ≡ self.old.linked.ghost_name }
         ensures same_handle { self.new.handle ≡ self.old.handle }
-        ensures asked { Asked L.talk L.since L.fault L.downs (writing_app self.old.handle bytes.now)
+        ensures asked { AsksOne L.talk L.since L.fault L.downs (writing_app self.old.handle bytes.now)
             self.old.linked.now self.new.linked.now }
         ensures answer { result ≡ answer_by (L.fault self.new.linked.now.link)
             (said_in 0x1C no_more (reply_at 0x1C self.new.linked.now.reply)) }
@@ -159,7 +159,7 @@ impl<'s, L: Link> OpenDb<'s, L> {
         requires { length bytes.now ≤ 65500 }
         ensures same_reference { self.new.linked.ghost_name ≡ self.old.linked.ghost_name }
         ensures same_handle { self.new.handle ≡ self.old.handle }
-        ensures asked { Asked L.talk L.since L.fault L.downs (writing_sort
+        ensures asked { AsksOne L.talk L.since L.fault L.downs (writing_sort
             self.old.handle bytes.now)
             self.old.linked.now self.new.linked.now }
         ensures answer { result ≡ answer_by (L.fault self.new.linked.now.link)
@@ -177,7 +177,7 @@ impl<'s, L: Link> OpenDb<'s, L> {
         requires { length resource.now.bytes ≤ 65500 }
         ensures same_reference { self.new.linked.ghost_name ≡ self.old.linked.ghost_name }
         ensures same_handle { self.new.handle ≡ self.old.handle }
-        ensures asked { Asked L.talk L.since L.fault L.downs (putting_resource
+        ensures asked { AsksOne L.talk L.since L.fault L.downs (putting_resource
             self.old.handle resource.now.kind.0 resource.now.id resource.now.bytes)
             self.old.linked.now self.new.linked.now }
         ensures answer { result ≡ answer_by (L.fault self.new.linked.now.link)

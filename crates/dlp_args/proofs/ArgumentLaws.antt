@@ -10,13 +10,13 @@ use Rattle.std.specs.List.{AllByRecursion}
 use Rattle.std.proofs.lemmas.List.Concat.{flat_map-cons}
 use Rattle.std.proofs.lemmas.List.{take_at, drop_at, take-append-drop, length-append, length-take}
 use Rattle.dlp_args.specs.declared.fault.ArgFault.{ArgFault}
-use Rattle.dlp_args.specs.Arguments.{Argument, Form, Tiny, Short, Long, header, greatest, ArgText, ArgTexts, IsArgument, written_form, arg_text, arg_texts}
+use Rattle.dlp_args.specs.Arguments.{Argument, HeaderForm, Tiny, Short, Long, header, greatest, ArgText, ArgTexts, IsArgument, written_form, arg_text, arg_texts}
 use Rattle.dlp_args.specs.Reading.{Header, short_at, long_at, header_at, argument_at, arguments_at}
 use Rattle.dlp_args.proofs.NumberLaws.{IsBytes, IsBytes-drop, IsBytes-take, IsBytes-rest, bind_ok, guard_ok, chosen, ok_is, wide16, wide32, front_bytes}
 
 -- the bytes begin with a header
 record Heads (bytes : List ℕ) (found : Header) : Type 0 where
-  form : Form
+  form : HeaderForm
   parts : bytes ≡ header form found.id found.size ++ found.rest
   low : 32 ≤ found.id
   high : found.id < 64
@@ -89,7 +89,7 @@ header_takes place (first ∷ second ∷ rest) {found} fits e =
 
 -- an argument was taken from the front
 pub record Takes (bytes : List ℕ) (argument : Argument) (rest : List ℕ) : Type 0 where
-  pub form : Form
+  pub form : HeaderForm
   pub text : List ℕ
   pub is : ArgText form argument text
   pub parts : bytes ≡ text ++ rest
@@ -141,12 +141,12 @@ long_again : (place id size : ℕ) (rest : List ℕ) → 32 ≤ id → id < 64 �
 unfolding long_at
 long_again place id size rest low high fits = grind arith
 
-header_again : (place : ℕ) (form : Form) (id size : ℕ) (rest : List ℕ) → 32 ≤ id → id < 64 → size ≤ greatest form
+header_again : (place : ℕ) (form : HeaderForm) (id size : ℕ) (rest : List ℕ) → 32 ≤ id → id < 64 → size ≤ greatest form
     → header_at place (header form id size ++ rest) ≡ Ok (record { id = id; size = size; rest = rest })
 unfolding header_at
 header_again place form id size rest low high fits = grind (arith, le-ltb, lt-ltb, short_again, long_again)
 
-pub argument_again : (place : ℕ) {form : Form} {argument : Argument} {text : List ℕ} (rest : List ℕ) → ArgText form argument text
+pub argument_again : (place : ℕ) {form : HeaderForm} {argument : Argument} {text : List ℕ} (rest : List ℕ) → ArgText form argument text
     → argument_at place (text ++ rest) ≡ Ok (argument, rest)
 unfolding argument_at
 argument_again place {form} {argument} {text} rest is =

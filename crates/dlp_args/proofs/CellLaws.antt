@@ -9,7 +9,7 @@ use Rattle.std.specs.Int.{Width, w8, w16, w32, byte_len, from_be_bytes, to_be_by
 use Rattle.std.proofs.lemmas.Bool.{eqb-true, eq-eqb, ltb-true, ltb-false, le-ltb}
 use Rattle.std.proofs.lemmas.List.{append-nil, take_at, drop_at, take-append-drop, length-append, length-take}
 use Rattle.dlp_args.proofs.NumberLaws.{IsBytes, IsBytes-drop, IsBytes-take, IsWide, wide16, wide32, front_bytes}
-use Rattle.dlp_args.specs.Cells.{Kind, Byte, Half, Word, Pad, Run, Text, MaybeText, Rest, Counted, Whole, Names, Cell, first_zero, cell_text, CellFits}
+use Rattle.dlp_args.specs.Cells.{CellKind, Byte, Half, Word, Pad, Run, Text, MaybeText, Rest, Counted, Whole, Names, Cell, first_zero, cell_text, CellFits}
 use Rattle.dlp_args.specs.Cells.{IsTextCell, IsMaybeTextCell, IsCell}
 use Rattle.dlp_args.specs.CellReading.{◌>>=◌, at_most_65500, number_at, some_at, text_in, short_text_in, maybe_text_in, counted_in, names_in, whole, cell_at}
 use Rattle.dlp_args.specs.Fields.{Fields, fields_in, fields_text, FieldsFit, AreFields, ends_well}
@@ -184,20 +184,20 @@ names_again names bytes is =
 
 -- ---- a cell
 
-abbrev Taken : (k : Kind) → List ℕ → Cell k × List ℕ → Type 0
+abbrev Taken : (k : CellKind) → List ℕ → Cell k × List ℕ → Type 0
 Taken k bytes x = (text : List ℕ) × (bytes ≡ text ++ x.1) × IsCell k x.0 text x.1 × IsBytes x.1
 
 no_bytes : IsBytes []
 no_bytes i = omega arith
 
 -- what stands up to the end
-ended : (k : Kind) (bytes : List ℕ) (o : Option (Cell k)) {x : Cell k × List ℕ} → ((y : Cell k) → o ≡ Some y → IsCell k y bytes []) → whole o ≡ Some x
+ended : (k : CellKind) (bytes : List ℕ) (o : Option (Cell k)) {x : Cell k × List ℕ} → ((y : Cell k) → o ≡ Some y → IsCell k y bytes []) → whole o ≡ Some x
     → Taken k bytes x
 ended k bytes o {x} is e =
     let found = map_some o _ x e in
     subst (Taken k bytes) found.2 (bytes, sym (append-nil bytes), is found.0 found.1, no_bytes)
 
-cell_takes : (k : Kind) (bytes : List ℕ) {x : Cell k × List ℕ} → IsBytes bytes → cell_at k bytes ≡ Some x → Taken k bytes x
+cell_takes : (k : CellKind) (bytes : List ℕ) {x : Cell k × List ℕ} → IsBytes bytes → cell_at k bytes ≡ Some x → Taken k bytes x
 unfolding some_at
 cell_takes Byte bytes {x} fits e = let t = number_takes wide8 bytes x.0 x.1 fits e in (to_be_bytes w8 x.0, t.0, (byte_text x.0 t.1, t.1), t.2)
 cell_takes Half bytes {x} fits e = let t = number_takes wide16 bytes x.0 x.1 fits e in (to_be_bytes w16 x.0, t.0, (refl, t.1), t.2)
@@ -218,7 +218,7 @@ cell_takes Names bytes fits e = ended Names bytes (names_in bytes) (λ y found. 
 at_end : (text : List ℕ) {rest : List ℕ} → rest ≡ [] → text ++ rest ≡ text
 at_end text e = rw e (append-nil text)
 
-cell_again : (k : Kind) (x : Cell k) (text rest : List ℕ) → IsCell k x text rest → cell_at k (text ++ rest) ≡ Some (x, rest)
+cell_again : (k : CellKind) (x : Cell k) (text rest : List ℕ) → IsCell k x text rest → cell_at k (text ++ rest) ≡ Some (x, rest)
 unfolding some_at number_at
 cell_again Byte n text rest is = grind (arith, nat_tests, common_steps)
 cell_again Half n text rest is = grind (arith, nat_tests, common_steps)
@@ -236,7 +236,7 @@ cell_again Names names text rest is = grind (arith, nat_tests, common_steps, at_
 
 -- ---- all cells
 
-pub fields_take : (ks : List Kind) (bytes : List ℕ) (fields : Fields ks) → IsBytes bytes → fields_in ks bytes ≡ Some fields → AreFields ks fields bytes
+pub fields_take : (ks : List CellKind) (bytes : List ℕ) (fields : Fields ks) → IsBytes bytes → fields_in ks bytes ≡ Some fields → AreFields ks fields bytes
 fields_take [] bytes fields fits e = grind (arith, nat_tests, common_steps)
 fields_take (k ∷ ks) bytes fields fits e =
     let first = bind_some (cell_at k bytes) _ fields e in
@@ -250,13 +250,13 @@ fields_take (k ∷ ks) bytes fields fits e =
       fields_take ks first.0.1 others.0 taken.3 others.1,
     )
 
-pub fields_again : (ks : List Kind) (fields : Fields ks) (bytes : List ℕ) → AreFields ks fields bytes → fields_in ks bytes ≡ Some fields
+pub fields_again : (ks : List CellKind) (fields : Fields ks) (bytes : List ℕ) → AreFields ks fields bytes → fields_in ks bytes ≡ Some fields
 fields_again [] fields bytes is = rw is refl
 fields_again (k ∷ ks) fields bytes is = grind (arith, nat_tests, common_steps, fields_again ks fields.1 is.1, cell_again)
 
 -- ---- what is written is a text
 
-last_written : (k : Kind) (x : Cell k) → CellFits k x → IsCell k x (cell_text k x) []
+last_written : (k : CellKind) (x : Cell k) → CellFits k x → IsCell k x (cell_text k x) []
 last_written Byte n fits = (refl, fits)
 last_written Half n fits = (refl, fits)
 last_written Word n fits = (refl, fits)
@@ -270,7 +270,7 @@ last_written Counted some fits = (refl, fits, refl)
 last_written Whole some fits = (refl, refl)
 last_written Names names fits = (refl, fits.0, fits.1, refl)
 
-cell_written : (k l : Kind) (ks : List Kind) (x : Cell k) (rest : List ℕ) → ends_well (k ∷ l ∷ ks) ≡ true → CellFits k x
+cell_written : (k l : CellKind) (ks : List CellKind) (x : Cell k) (rest : List ℕ) → ends_well (k ∷ l ∷ ks) ≡ true → CellFits k x
     → IsCell k x (cell_text k x) rest × (ends_well (l ∷ ks) ≡ true)
 cell_written Byte l ks n rest ends fits = ((refl, fits), ends)
 cell_written Half l ks n rest ends fits = ((refl, fits), ends)
@@ -284,7 +284,7 @@ cell_written Counted l ks some rest ends fits = absurd cc
 cell_written Whole l ks some rest ends fits = absurd cc
 cell_written Names l ks names rest ends fits = absurd cc
 
-pub fields_written : (ks : List Kind) (fields : Fields ks) → ends_well ks ≡ true → FieldsFit ks fields → AreFields ks fields (fields_text ks fields)
+pub fields_written : (ks : List CellKind) (fields : Fields ks) → ends_well ks ≡ true → FieldsFit ks fields → AreFields ks fields (fields_text ks fields)
 fields_written [] fields ends fits = refl
 fields_written (k ∷ []) fields ends fits = (cell_text k fields.0, [], sym (append-nil (cell_text k fields.0)), last_written k fields.0 fits, refl)
 fields_written (k ∷ l ∷ ks) fields ends fits = grind (arith, nat_tests, common_steps, fields_written (l ∷ ks) fields.1, cell_written)

@@ -4,7 +4,7 @@ use Rattle.std.specs.Prelude.{ℕ, ◌+◌, List, [], ◌∷◌, length, take, d
 use Rattle.std.specs.Option.{option_map}
 use Rattle.std.specs.List.{position}
 use Rattle.std.specs.Int.{Width, w8, w16, w32, byte_len, from_be_bytes}
-use Rattle.dlp_args.specs.Cells.{Kind, Byte, Half, Word, Pad, Run, Text, MaybeText, Rest, Counted, Whole, Names, Cell}
+use Rattle.dlp_args.specs.Cells.{CellKind, Byte, Half, Word, Pad, Run, Text, MaybeText, Rest, Counted, Whole, Names, Cell}
 
 -- a step and then the next one, where both find something
 infixl 10 ◌>>=◌
@@ -61,7 +61,7 @@ abbrev pub whole : {A : Type 0} → Option A → Option (A × List ℕ)
 whole o = option_map (λ x. (x, [])) o
 
 -- a cell of each kind
-abbrev pub cell_at : (k : Kind) → List ℕ → Option (Cell k × List ℕ)
+abbrev pub cell_at : (k : CellKind) → List ℕ → Option (Cell k × List ℕ)
 cell_at Byte bytes = number_at w8 bytes
 cell_at Half bytes = number_at w16 bytes
 cell_at Word bytes = number_at w32 bytes

@@ -9,21 +9,21 @@ use Rattle.std.specs.Int.{w16, w32, to_be_bytes}
 -- with one zero, at its end; such a text of at most so many bytes, or nothing; at most 65,500
 -- bytes; their number and then at most 65,500 bytes;
 -- any bytes; the lengths of two runs of bytes and then both.
-pub data Kind : Type 0 where
-  Byte : Kind
-  Half : Kind
-  Word : Kind
-  Pad : Kind
-  Run : ℕ → Kind
-  Text : Kind
-  MaybeText : ℕ → Kind
-  Rest : Kind
-  Counted : Kind
-  Whole : Kind
-  Names : Kind
+pub data CellKind : Type 0 where
+  Byte : CellKind
+  Half : CellKind
+  Word : CellKind
+  Pad : CellKind
+  Run : ℕ → CellKind
+  Text : CellKind
+  MaybeText : ℕ → CellKind
+  Rest : CellKind
+  Counted : CellKind
+  Whole : CellKind
+  Names : CellKind
 
 -- what a cell holds; texts stand without their zero
-abbrev pub Cell : Kind → Type 0
+abbrev pub Cell : CellKind → Type 0
 Cell Byte = ℕ
 Cell Half = ℕ
 Cell Word = ℕ
@@ -54,7 +54,7 @@ IsMaybeTextCell limit None bytes = bytes ≡ []
 IsMaybeTextCell limit (Some text) bytes = IsTextCell text bytes × (length text ≤ limit)
 
 -- the bytes are a text of the cell, and the rest may follow
-abbrev pub IsCell : (k : Kind) → Cell k → List ℕ → List ℕ → Type 0
+abbrev pub IsCell : (k : CellKind) → Cell k → List ℕ → List ℕ → Type 0
 IsCell Byte n bytes rest = (bytes ≡ n ∷ []) × (n < 2 ^ 8)
 IsCell Half n bytes rest = (bytes ≡ to_be_bytes w16 n) × (n < 2 ^ 16)
 IsCell Word n bytes rest = (bytes ≡ to_be_bytes w32 n) × (n < 2 ^ 32)
@@ -71,7 +71,7 @@ IsCell Names names bytes rest =
     × (length names.1 < 256) × (rest ≡ [])
 
 -- the text that is written of a cell; a byte that isn't looked at is written 0
-abbrev pub cell_text : (k : Kind) → Cell k → List ℕ
+abbrev pub cell_text : (k : CellKind) → Cell k → List ℕ
 cell_text Byte n = n ∷ []
 cell_text Half n = to_be_bytes w16 n
 cell_text Word n = to_be_bytes w32 n
@@ -86,7 +86,7 @@ cell_text Whole some = some
 cell_text Names names = length names.0 ∷ length names.1 ∷ names.0 ++ names.1
 
 -- the bounds of what has a text
-abbrev pub CellFits : (k : Kind) → Cell k → Type 0
+abbrev pub CellFits : (k : CellKind) → Cell k → Type 0
 CellFits Byte n = n < 2 ^ 8
 CellFits Half n = n < 2 ^ 16
 CellFits Word n = n < 2 ^ 32

@@ -5,7 +5,7 @@ use Rattle.std.proofs.Common.{◌≡◌, ◌∙◌, ℕ, Bool, true, false, cond
 use Rattle.std.specs.Prelude.{◌==◌}
 use Rattle.std.specs.Option.{option_map}
 use Rattle.dlp_args.specs.Arguments.{Argument}
-use Rattle.dlp_args.specs.Cells.{Cell, CellFits, IsCell, Kind, Byte, Half, Word, Pad, Run, Text, MaybeText, Rest, Counted, Whole, Names}
+use Rattle.dlp_args.specs.Cells.{Cell, CellFits, IsCell, CellKind, Byte, Half, Word, Pad, Run, Text, MaybeText, Rest, Counted, Whole, Names}
 use Rattle.dlp_args.specs.Fields.{AreFields, Fields, FieldsFit, fields_in}
 use Rattle.dlp_args.specs.Functions as functions
 use Rattle.dlp_args.specs.Reading.{◌>>=◌}
@@ -107,7 +107,7 @@ first_byte-request_text value = refl
 maybe_fits : (limit : ℕ) (o : Option (List ℕ)) (text rest : List ℕ) → IsCell (MaybeText limit) o text rest → CellFits (MaybeText limit) o
 maybe_fits limit o text rest is = grind (arith, nat_tests, common_steps)
 
-cell_fits : (k : Kind) (x : Cell k) (text rest : List ℕ) → IsCell k x text rest → CellFits k x
+cell_fits : (k : CellKind) (x : Cell k) (text rest : List ℕ) → IsCell k x text rest → CellFits k x
 cell_fits Byte x text rest is = is.1
 cell_fits Half x text rest is = is.1
 cell_fits Word x text rest is = is.1
@@ -121,7 +121,7 @@ cell_fits Whole x text rest is = tt
 cell_fits Names x text rest is = (is.1, is.2)
 
 -- fields that have a text keep their bounds
-pub FieldsFit-AreFields : (ks : List Kind) (fields : Fields ks) (bytes : List ℕ) → AreFields ks fields bytes → FieldsFit ks fields
+pub FieldsFit-AreFields : (ks : List CellKind) (fields : Fields ks) (bytes : List ℕ) → AreFields ks fields bytes → FieldsFit ks fields
 FieldsFit-AreFields [] fields bytes are = tt
 FieldsFit-AreFields (k ∷ []) fields bytes are = cell_fits k fields.0 are.0 are.1 are.3
 FieldsFit-AreFields (k ∷ l ∷ ks) fields bytes are = (cell_fits k fields.0 are.0 are.1 are.3, FieldsFit-AreFields (l ∷ ks) fields.1 are.1 are.4)

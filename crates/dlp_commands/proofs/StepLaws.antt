@@ -23,7 +23,7 @@ use Rattle.dlp_commands.specs.Changes.{changes, given_in, is_change}
 use Rattle.dlp_commands.specs.DeviceRuns.{Exchange, Ran}
 use Rattle.dlp_commands.specs.DeviceSteps.{DeviceStep, MayGive, MayGiveTo, first_byte, function_number, outcome, served, served_by, tried}
 use Rattle.dlp_commands.specs.Errors.{fault_code}
-use Rattle.dlp_commands.specs.Reached.{Tried}
+use Rattle.dlp_commands.specs.Reached.{Trial}
 use Rattle.dlp_commands.specs.Talks.{Talk, WasAnswered, given}
 use Rattle.dlp_commands.specs.Targets.{is_name, target_of}
 use Rattle.dlp_commands.proofs.DoneLaws.{Done, RequestFits}
@@ -54,7 +54,7 @@ pub data Stepped (old : Device) (bytes reply : List ℕ) (new : Device) : Type 0
 code_is : (found : RequestFault) → IsCode (fault_code found)
 code_is found = grind (arith, nat_tests, common_steps)
 
-done_step : (old new : Device) (bytes reply : List ℕ) (value : RequestValue) (r : Tried) → request_at bytes ≡ Ok value → Keeps (Done old value) r
+done_step : (old new : Device) (bytes reply : List ℕ) (value : RequestValue) (r : Trial) → request_at bytes ≡ Ok value → Keeps (Done old value) r
     → outcome old (function_number value) r ≡ (reply, new) → Stepped old bytes reply new
 done_step old new bytes reply value (Ok done) read keeps is =
     let device : done.0 ≡ new = ap (λ (p : List ℕ × Device). p.1) is in

@@ -4,7 +4,7 @@ use Rattle.dlp_replies.specs.ReplyValues.{ReplyValue, Refused}
 use Rattle.dlp_replies.specs.Frames.{reply_text}
 use Rattle.palm_device.specs.Devices.{Device}
 use Rattle.dlp_commands.specs.DeviceSteps.{outcome}
-use Rattle.dlp_commands.specs.Reached.{Tried}
+use Rattle.dlp_commands.specs.Reached.{Trial}
 use Rattle.dlp_commands.specs.declared.refusal.Refusal.{Refusal}
 use Rattle.dlp_commands.specs.Refusals.{code_of}
 
@@ -25,6 +25,6 @@ answered number (Err code) = reply_text (Refused number code)
 
 -- the answer's reply and the new device are what the table says of the old one
 abbrev pub Does : {A : Type 0} → ℕ → (A → ReplyValue) → Device → Device → Result A Refusal
-    → Tried → Type 0
+    → Trial → Type 0
 Does number reply old new result tried =
     outcome old number tried ≡ (answer_text number reply result, new)

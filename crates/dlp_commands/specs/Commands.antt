@@ -7,7 +7,7 @@ use Rattle.palm_device.specs.Handles.{base_at}
 use Rattle.palm_device.specs.Records.{IsFree}
 use Rattle.dlp_commands.specs.DatabaseFunctions as databases
 use Rattle.dlp_commands.specs.DeviceSteps.{outcome}
-use Rattle.dlp_commands.specs.Reached.{Tried, read_next_modified_rec, reads, reset_record_index, writes}
+use Rattle.dlp_commands.specs.Reached.{Trial, read_next_modified_rec, reads, reset_record_index, writes}
 use Rattle.dlp_commands.specs.Readings.{read_number}
 use Rattle.dlp_commands.specs.UserFunctions as users
 use Rattle.dlp_commands.specs.Writings.{IsShortWriting, WriteRecord, WritingValue, write_number, writing_value}
@@ -34,7 +34,7 @@ quiet_number quiet.OpenConduit = 0x2E
 quiet_number quiet.EndOfSync = 0x2F
 
 -- what it does
-abbrev pub quiet_tried : Device → Quiet → Tried
+abbrev pub quiet_tried : Device → Quiet → Trial
 quiet_tried device quiet.ReadUser = users.read_user_info device
 quiet_tried device quiet.ReadSystem = users.read_sys_info device
 quiet_tried device (quiet.List flags card start) = databases.read_db_list device flags card start
@@ -48,7 +48,7 @@ quiet_tried device quiet.OpenConduit = users.open_conduit device
 quiet_tried device quiet.EndOfSync = users.end_of_sync device
 
 -- what WriteUserInfo does
-abbrev pub marks_tried : Device → UserMarks → Tried
+abbrev pub marks_tried : Device → UserMarks → Trial
 marks_tried device marks =
     users.write_user_info device
     marks.user marks.viewer marks.pc marks.date marks.bits marks.name_len
@@ -62,7 +62,7 @@ change_number (change.Delete card name) = 0x1A
 change_number (change.Write handle writing) = write_number (writing_value writing)
 
 -- what it does; `free` is the id that a new record gets
-abbrev pub change_tried : ℕ → Device → Change → Tried
+abbrev pub change_tried : ℕ → Device → Change → Trial
 change_tried free device (change.WriteUser marks) = marks_tried device marks
 change_tried free device (change.Create creator kind card flags version name) =
     databases.create_db device creator.0 kind.0 card flags version name.now
@@ -97,7 +97,7 @@ command_number (command.Quiet asked) = quiet_number asked
 command_number (command.Change asked) = change_number asked
 
 -- what a command does
-abbrev pub command_tried : ℕ → Device → Command → Tried
+abbrev pub command_tried : ℕ → Device → Command → Trial
 command_tried free device (command.Quiet asked) = quiet_tried device asked
 command_tried free device (command.Change asked) = change_tried free device asked
 

@@ -10,7 +10,7 @@ use Rattle.palm_device.specs.Devices.{Device, most_databases, with_handles}
 use Rattle.palm_device.specs.Handles.{is_open, free_handle, opened_at, with_handle, just_opened}
 use Rattle.palm_device.specs.Heads.{has_bit, is_read_only, new_head}
 use Rattle.dlp_commands.specs.Errors.{parameter, not_found, none_open, already_open, too_many_open, exists, read_only, limit, ◌>>=◌, check, need}
-use Rattle.dlp_commands.specs.Reached.{Tried}
+use Rattle.dlp_commands.specs.Reached.{Trial}
 
 -- ReadDBList, OpenDB, CreateDB, DeleteDB: another card than 0: parameter
 abbrev pub on_card : ℕ → Result (Unit {0}) ℕ
@@ -30,7 +30,7 @@ listed head = record head { seed = 0 }
 
 -- ReadDBList: flag 0x80 isn't set or no database has this index: not found. Replies the one of this
 -- index
-unfoldable pub read_db_list : Device → ℕ → ℕ → ℕ → Tried
+unfoldable pub read_db_list : Device → ℕ → ℕ → ℕ → Trial
 read_db_list device flags card start = do
   right ← on_card card
   asked ← check not_found (has_bit 0x80 flags)
@@ -44,7 +44,7 @@ read_db_list device flags card start = do
 -- OpenDB: no such database: not found; it is open: already open; eight are open: too many open; for
 -- writing and read-only:
 -- read-only. Opens it under the least free handle
-unfoldable pub open_db : Device → ℕ → ℕ → List ℕ → Tried
+unfoldable pub open_db : Device → ℕ → ℕ → List ℕ → Trial
 open_db device card mode name = do
   right ← named card name
   database ← need not_found (database_of name device.databases)
@@ -60,7 +60,7 @@ open_db device card mode name = do
 -- CreateDB: there is one: exists; eight are open: too many open; 200 databases: limit. Makes an
 -- empty one in its place by name,
 -- and opens it with mode 0xC0
-unfoldable pub create_db : Device → List ℕ → List ℕ → ℕ → ℕ → ℕ → List ℕ → Tried
+unfoldable pub create_db : Device → List ℕ → List ℕ → ℕ → ℕ → ℕ → List ℕ → Trial
 create_db device creator kind card flags version name = do
   right ← named card name
   new ← check exists (is_none (database_of name device.databases))
@@ -76,13 +76,13 @@ create_db device creator kind card flags version name = do
   )
 
 -- CloseDB: the handle isn't open: none open. Closes it
-unfoldable pub close_db : Device → ℕ → Tried
+unfoldable pub close_db : Device → ℕ → Trial
 close_db device handle = do
   opened ← need none_open (opened_at handle device.handles)
   Ok (with_handles device (with_handle handle None device.handles), reply.CloseDb)
 
 -- DeleteDB: no such database: not found; it is open: already open. Removes it
-unfoldable pub delete_db : Device → ℕ → List ℕ → Tried
+unfoldable pub delete_db : Device → ℕ → List ℕ → Trial
 delete_db device card name = do
   right ← named card name
   database ← need not_found (database_of name device.databases)

@@ -14,13 +14,13 @@ use Rattle.palm_device.specs.Handles.{base_at}
 use Rattle.palm_device.specs.Records.{IsFree}
 use Rattle.dlp_commands.specs.Errors.{fault_code}
 use Rattle.dlp_commands.specs.DatabaseFunctions as databases
-use Rattle.dlp_commands.specs.Reached.{Tried, read_next_modified_rec, reads, reset_record_index, writes}
+use Rattle.dlp_commands.specs.Reached.{Trial, read_next_modified_rec, reads, reset_record_index, writes}
 use Rattle.dlp_commands.specs.UserFunctions as users
 use Rattle.dlp_commands.specs.Writings as writing
 use Rattle.dlp_commands.specs.declared.reading.Reading.TheVariants as reading
 
 -- what a request of a form does; `free` is the id that a new record gets
-abbrev pub tried_by : ℕ → Device → (f : Form) → Fields (kinds_of f) → Tried
+abbrev pub tried_by : ℕ → Device → (f : Form) → Fields (kinds_of f) → Trial
 tried_by free device form.ReadUserInfo none = users.read_user_info device
 tried_by free device form.WriteUserInfo
     (user, (viewer, (pc, (date, (bits, (name_len, (name, end))))))) =
@@ -76,7 +76,7 @@ tried_by free device form.ReadRecordIdList (handle, (flags, (start, (maximum, en
     reads device handle (reading.RecordIds start maximum)
 
 -- what a request does
-unfoldable pub tried : ℕ → Device → RequestValue → Tried
+unfoldable pub tried : ℕ → Device → RequestValue → Trial
 tried free device value = tried_by free device value.form value.fields
 
 -- the function's byte of a request
@@ -84,7 +84,7 @@ abbrev pub function_number : RequestValue → ℕ
 function_number value = number_of value.form
 
 -- an error changes nothing and is replied
-abbrev pub outcome : Device → ℕ → Tried → List ℕ × Device
+abbrev pub outcome : Device → ℕ → Trial → List ℕ × Device
 outcome old number (Ok done) = (reply_text done.1, done.0)
 outcome old number (Err code) = (reply_text (Refused number code), old)
 

@@ -16,11 +16,11 @@ use Rattle.dlp_commands.specs.Writings.{WritingValue, written_in}
 use Rattle.dlp_commands.specs.declared.reading.Reading.{Reading}
 
 -- an error, or the device after the request and the reply
-abbrev pub Tried : Type 0
-Tried = Result (Device × ReplyValue) ℕ
+abbrev pub Trial : Type 0
+Trial = Result (Device × ReplyValue) ℕ
 
 -- a function that reads gives a reply and changes nothing
-abbrev pub reads : Device → ℕ → Reading → Tried
+abbrev pub reads : Device → ℕ → Reading → Trial
 reads device handle asked = do
   base ← need none_open (base_at device handle)
   reply ← read_in asked base.database
@@ -28,7 +28,7 @@ reads device handle asked = do
 
 -- a function that writes gives the database that its handle leads to another value, and a reply;
 -- `free` is the id that a new record gets
-abbrev pub writes : ℕ → Device → ℕ → WritingValue → Tried
+abbrev pub writes : ℕ → Device → ℕ → WritingValue → Trial
 writes free device handle asked = do
   base ← need none_open (base_at device handle)
   allowed ← check read_only (is_writable base)
@@ -53,12 +53,12 @@ next_of device handle = do
   next_in base.opened.next base.database
 
 -- ReadNextModifiedRec replies it, whole, and sets the record index behind it
-unfoldable pub read_next_modified_rec : Device → ℕ → Tried
+unfoldable pub read_next_modified_rec : Device → ℕ → Trial
 read_next_modified_rec device handle =
     next_of device handle >>= λ found. Ok (with_index device handle (found.0 + 1), found.1)
 
 -- ResetRecordIndex: the handle's record index is 0
-unfoldable pub reset_record_index : Device → ℕ → Tried
+unfoldable pub reset_record_index : Device → ℕ → Trial
 reset_record_index device handle = do
   base ← need none_open (base_at device handle)
   suited ← check not_supported (on_records base.database)

@@ -45,9 +45,9 @@ pub record WasAnswered (old : Talk) (request reply : List ℕ) (new : Option Tal
   })
 
 -- the same where the talk is told; where it isn't, it stays so
-abbrev pub Answered : Option Talk → List ℕ → List ℕ → Option Talk → Type 0
-Answered None request reply new = new ≡ None
-Answered (Some old) request reply new = WasAnswered old request reply new
+abbrev pub HasAnswer : Option Talk → List ℕ → List ℕ → Option Talk → Type 0
+HasAnswer None request reply new = new ≡ None
+HasAnswer (Some old) request reply new = WasAnswered old request reply new
 
 -- the device is as before, or it took one step by the request
 abbrev pub OneOrNone : Device → List ℕ → Device → Type 0
@@ -61,6 +61,6 @@ pub record WasLeft (old : Talk) (request : List ℕ) (new : Option Talk) : Type 
   pub is : new ≡ Some (record { device = device; exchanges = old.exchanges; left = Some request })
 
 -- the request didn't go out, or it was left without an answer
-abbrev pub Unanswered : Option Talk → List ℕ → Option Talk → Type 0
-Unanswered None request new = new ≡ None
-Unanswered (Some old) request new = (new ≡ Some old) ⊎ WasLeft old request new
+abbrev pub LacksAnswer : Option Talk → List ℕ → Option Talk → Type 0
+LacksAnswer None request new = new ≡ None
+LacksAnswer (Some old) request new = (new ≡ Some old) ⊎ WasLeft old request new

@@ -10,7 +10,7 @@ use Rattle.palm_device.specs.Devices.{Device, with_handles}
 use Rattle.palm_device.specs.Handles.{no_handles}
 use Rattle.palm_device.specs.Heads.{has_bit}
 use Rattle.dlp_commands.specs.Errors.{parameter, ◌>>=◌, check, need}
-use Rattle.dlp_commands.specs.Reached.{Tried}
+use Rattle.dlp_commands.specs.Reached.{Trial}
 
 -- the reply with what a device knows of its user
 abbrev pub user_reply : UserInfo → ReplyValue
@@ -18,7 +18,7 @@ user_reply user =
     reply.ReadUserInfo user.user user.viewer user.pc user.good user.last user.name user.password
 
 -- ReadUserInfo replies what the device knows
-abbrev pub read_user_info : Device → Tried
+abbrev pub read_user_info : Device → Trial
 read_user_info device = Ok (device, user_reply device.user)
 
 -- the length that goes with a name counts its zero; without a name it is 0
@@ -57,7 +57,7 @@ marked user viewer pc date bits name_len name old = do
   Ok (with_marks bits user viewer pc seconds named old)
 
 -- WriteUserInfo sets what the bits say
-unfoldable pub write_user_info : Device → ℕ → ℕ → ℕ → List ℕ → ℕ → ℕ → Option (List ℕ) → Tried
+unfoldable pub write_user_info : Device → ℕ → ℕ → ℕ → List ℕ → ℕ → ℕ → Option (List ℕ) → Trial
 write_user_info device user viewer pc date bits name_len name =
     marked user viewer pc date bits name_len name device.user
     >>= λ known. Ok (record device { user = known }, reply.WriteUserInfo)
@@ -67,17 +67,17 @@ abbrev pub system_reply : ReplyValue
 system_reply = reply.ReadSysInfo 0x01003000 0 (0 ∷ 1 ∷ 0 ∷ 0 ∷ [])
 
 -- ReadSysInfo replies that
-abbrev pub read_sys_info : Device → Tried
+abbrev pub read_sys_info : Device → Trial
 read_sys_info device = Ok (device, system_reply)
 
 -- AddSyncLogEntry keeps nothing
-abbrev pub add_sync_log_entry : Device → Tried
+abbrev pub add_sync_log_entry : Device → Trial
 add_sync_log_entry device = Ok (device, reply.AddSyncLogEntry)
 
 -- OpenConduit does nothing
-abbrev pub open_conduit : Device → Tried
+abbrev pub open_conduit : Device → Trial
 open_conduit device = Ok (device, reply.OpenConduit)
 
 -- EndOfSync closes all handles
-abbrev pub end_of_sync : Device → Tried
+abbrev pub end_of_sync : Device → Trial
 end_of_sync device = Ok (with_handles device no_handles, reply.EndOfSync)

@@ -2,7 +2,7 @@
 ghost use Rattle.std.specs.Prelude.{◌≡◌, ℕ, Bool, true, false, Option, IfSome, IsErrOf, OnErr, OnOk};
 ghost use Rattle.std.specs.Result.{result_err};
 ghost use Rattle.dlp_commands.specs.Links.{MayExchange, WentDown, first_fault};
-ghost use Rattle.dlp_commands.specs.Talks.{Answered, Talk, Unanswered};
+ghost use Rattle.dlp_commands.specs.Talks.{HasAnswer, Talk, LacksAnswer};
 
 use dlp_args::Message;
 
@@ -56,9 +56,9 @@ pub trait Link {
     fn exchange(&mut self, request: &Message, reply: &mut Message) -> Result<(), LinkFault>
         requires { MayExchange (begun self.old) (fault self.old) }
         // One step by the request, with its reply; or the request was left without an answer, or didn't go out.
-        ensures answered { OnOk result (Answered (talk self.old) request.now reply.new
+        ensures answered { OnOk result (HasAnswer (talk self.old) request.now reply.new
             (talk self.new)) }
-        ensures unanswered { OnErr result (Unanswered (talk self.old) request.now (talk self.new)) }
+        ensures unanswered { OnErr result (LacksAnswer (talk self.old) request.now (talk self.new)) }
 
         // The first fault is answered from then on, and then nothing is sent; it went down only where the count rose.
         ensures stays { IfSome (fault self.old)

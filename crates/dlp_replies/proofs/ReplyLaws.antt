@@ -14,7 +14,7 @@ use Rattle.dlp_args.specs.declared.fault.ArgFault.{ArgFault}
 use Rattle.dlp_args.proofs.NumberLaws.{IsBytes, IsBytes-drop, IsBytes-rest, chosen, ok_is, wide16}
 use Rattle.dlp_args.proofs.ArgumentLaws.{arguments_take, arguments_again}
 use Rattle.dlp_args.specs.Functions.{function_of}
-use Rattle.dlp_args.specs.Cells.{Kind}
+use Rattle.dlp_args.specs.Cells.{CellKind}
 use Rattle.dlp_args.specs.Fields.{Fields, fields_in}
 use Rattle.dlp_args.proofs.CellLaws.{fields_take, fields_again}
 use Rattle.dlp_replies.specs.declared.fault.ReplyFault.{ReplyFault}
@@ -45,7 +45,7 @@ of_arguments_is r y e = grind arith
 or_value_is : {A : Type 0} (place : ℕ) (bad : Option ℕ) (x y : A) → or_value place bad x ≡ Ok y → (bad ≡ None) × (x ≡ y)
 or_value_is place bad x y e = grind arith
 
-measured_is : (kinds : List Kind) (sizes : Fields kinds → Bool) (content : List ℕ) (fields : Fields kinds) → measured_in kinds sizes content ≡ Some fields
+measured_is : (kinds : List CellKind) (sizes : Fields kinds → Bool) (content : List ℕ) (fields : Fields kinds) → measured_in kinds sizes content ≡ Some fields
     → (fields_in kinds content ≡ Some fields) × (sizes fields ≡ true)
 measured_is kinds sizes content fields e = grind arith
 

@@ -9,7 +9,7 @@ use Rattle.pdb_values.proofs.DateLaws.{read_wire_of_wire_date}
 use Rattle.dlp_args.specs.Arguments.{arg_text}
 use Rattle.dlp_args.proofs.ArgumentLaws.{written_text}
 use Rattle.dlp_args.specs.Functions.{function_of}
-use Rattle.dlp_args.specs.Cells.{Kind, HasNoZero}
+use Rattle.dlp_args.specs.Cells.{CellKind, HasNoZero}
 use Rattle.dlp_args.specs.Fields.{Fields, fields_text, FieldsFit, ends_well}
 use Rattle.dlp_args.proofs.CellLaws.{fields_written, short_text_again}
 use Rattle.dlp_replies.specs.EntryLists.{entries_text}
@@ -24,7 +24,7 @@ use Rattle.dlp_replies.specs.ReplyValues.{ReplyValue}
 use Rattle.dlp_replies.proofs.EntryWritten.{rows_written, rows_pass, items_again}
 use Rattle.dlp_replies.proofs.IdLaws.{words_of_text, ids_text_len, ids_pass}
 
-with_written : (first : ℕ) (kinds : List Kind) (sizes : Fields kinds → Bool) (checks : Fields kinds → Checks) (make : Fields kinds
+with_written : (first : ℕ) (kinds : List CellKind) (sizes : Fields kinds → Bool) (checks : Fields kinds → Checks) (make : Fields kinds
     → ReplyValue) (fields : Fields kinds) (value : ReplyValue) → ends_well kinds ≡ true → FieldsFit kinds fields → sizes fields ≡ true
     → first_bad (checks fields) ≡ None → make fields ≡ value
     → length (first ∷ 1 ∷ 0 ∷ 0 ∷ arg_text (record { id = 0x20; bytes = fields_text kinds fields })) ≤ 65535

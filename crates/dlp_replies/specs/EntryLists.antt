@@ -6,13 +6,13 @@ use Rattle.std.specs.Int.{w16, w32, to_be_bytes}
 use Rattle.pdb_values.specs.declared.head.DbHead.{DbHead}
 use Rattle.pdb_values.specs.Names.{IsName}
 use Rattle.pdb_values.specs.PalmDates.{wire_date}
-use Rattle.dlp_args.specs.Cells.{Kind, Byte, Half, Word, Pad, Run, Text}
+use Rattle.dlp_args.specs.Cells.{CellKind, Byte, Half, Word, Pad, Run, Text}
 use Rattle.dlp_args.specs.Fields.{Fields, fields_text}
 
 -- the size of the whole entry, a byte that isn't looked at, attributes, type, creator, version and
 -- modification number of
 -- a database, its three dates, its index, and its name with a zero
-abbrev pub entry : List Kind
+abbrev pub entry : List CellKind
 entry = Byte ∷ Pad ∷ Half ∷ Run 4 ∷ Run 4 ∷ Half ∷ Word ∷ Run 8 ∷ Run 8 ∷ Run 8 ∷ Half ∷ Text ∷ []
 
 -- what the cells of an entry hold

@@ -5,7 +5,7 @@ use Rattle.std.specs.List.{AllByRecursion}
 use Rattle.std.specs.Int.{w16, to_be_bytes}
 use Rattle.pdb_values.specs.PalmDates.{wire_date}
 use Rattle.dlp_args.specs.Arguments.{arg_text}
-use Rattle.dlp_args.specs.Cells.{Kind, HasNoZero}
+use Rattle.dlp_args.specs.Cells.{CellKind, HasNoZero}
 use Rattle.dlp_args.specs.Fields.{Fields, fields_text, FieldsFit}
 use Rattle.dlp_replies.specs.EntryLists.{entries_text, IsEntry}
 use Rattle.dlp_replies.specs.IdLists.{ids_text, IsId}
@@ -21,7 +21,7 @@ use Rattle.dlp_replies.specs.ReplyValues.{ResetRecordIndex, AddSyncLogEntry, Mov
 pub data Frame : Type 0 where
   Refusal : (number : ℕ) → (code : ℕ) → Frame
   Alone : (number : ℕ) → Frame
-  With : (number : ℕ) (kinds : List Kind) → Fields kinds → Frame
+  With : (number : ℕ) (kinds : List CellKind) → Fields kinds → Frame
 
 -- a name with its zero; an empty name is no byte
 abbrev pub name_text : List ℕ → List ℕ

@@ -4,7 +4,7 @@ use Rattle.std.specs.Int.{w16, from_be_bytes}
 use Rattle.dlp_args.specs.Arguments.{Argument}
 use Rattle.dlp_args.specs.Reading.{◌>>=◌, arguments_at}
 use Rattle.dlp_args.specs.Functions.{function_of}
-use Rattle.dlp_args.specs.Cells.{Kind}
+use Rattle.dlp_args.specs.Cells.{CellKind}
 use Rattle.dlp_args.specs.Fields.{Fields, fields_in}
 use Rattle.dlp_replies.specs.declared.fault.ReplyFault.{ReplyFault}
 use Rattle.dlp_replies.specs.declared.fault.ReplyFault.TheVariants as fault
@@ -18,19 +18,19 @@ unfoldable pub reply_byte : ℕ → ℕ
 reply_byte number = if nat_lt number 0x80 then number + 0x80 else number
 
 -- what the cells of an argument's content hold, where its lengths are those of the layout
-abbrev pub measured_in : (kinds : List Kind) → (Fields kinds → Bool) → List ℕ
+abbrev pub measured_in : (kinds : List CellKind) → (Fields kinds → Bool) → List ℕ
     → Option (Fields kinds)
 measured_in kinds sizes content =
     option_and_then (λ v. if sizes v then Some v else None) (fields_in kinds content)
 
 -- the same where its values are some; the content begins at this place
-unfoldable pub valid_in : (kinds : List Kind) → (Fields kinds → Bool) → (Fields kinds → Checks) → ℕ
+unfoldable pub valid_in : (kinds : List CellKind) → (Fields kinds → Bool) → (Fields kinds → Checks) → ℕ
     → List ℕ → Result (Fields kinds) ReplyFault
 valid_in kinds sizes checks place content =
     or_size (measured_in kinds sizes content) >>= λ v. or_value place (first_bad (checks v)) v
 
 -- what they say
-abbrev pub made_in : (kinds : List Kind) → (Fields kinds → Bool) → (Fields kinds → Checks)
+abbrev pub made_in : (kinds : List CellKind) → (Fields kinds → Bool) → (Fields kinds → Checks)
     → (Fields kinds → ReplyValue) → ℕ → List ℕ
     → Result ReplyValue ReplyFault
 made_in kinds sizes checks make place content =

@@ -1,9 +1,9 @@
 -- Reply texts: how each reply stands on the wire (pilot-link, `dlp.c`).
 use Rattle.std.specs.Prelude.{◌≡◌, ◌<◌, ◌^◌, ◌⊎◌, ℕ, List, [], ◌∷◌, None, Bool, true, false}
 use Rattle.std.specs.Int.{w16, to_be_bytes}
-use Rattle.dlp_args.specs.Arguments.{Form, ArgText}
+use Rattle.dlp_args.specs.Arguments.{HeaderForm, ArgText}
 use Rattle.dlp_args.specs.Functions.{function_of}
-use Rattle.dlp_args.specs.Cells.{Kind}
+use Rattle.dlp_args.specs.Cells.{CellKind}
 use Rattle.dlp_args.specs.Fields.{Fields, AreFields}
 use Rattle.dlp_replies.specs.Checks.{Checks, first_bad}
 use Rattle.dlp_replies.specs.ReplyReading.{reply_byte}
@@ -13,11 +13,11 @@ use Rattle.dlp_replies.specs.Shapes.{Shape, Unknown, Bare, One, shape_of}
 -- the bytes are the function, one argument, no error, and then one of the texts of cells whose
 -- lengths agree and whose
 -- values say this
-pub record IsOne (first : ℕ) (kinds : List Kind) (sizes : Fields kinds → Bool)
+pub record IsOne (first : ℕ) (kinds : List CellKind) (sizes : Fields kinds → Bool)
     (checks : Fields kinds → Checks) (make : Fields kinds
     → ReplyValue) (value : ReplyValue) (bytes : List ℕ) : Type 0 where
   pub fields : Fields kinds
-  pub form : Form
+  pub form : HeaderForm
   pub content : List ℕ
   pub text : List ℕ
   pub argument : ArgText form (record { id = 0x20; bytes = content }) text

@@ -4,7 +4,7 @@ use Rattle.std.specs.Prelude.{◌*◌, ◌==◌, Bool, true, List, [], map, leng
 use Rattle.pdb_values.specs.PalmDates.{read_wire}
 use Rattle.dlp_args.specs.declared.function.Function.{Function}
 use Rattle.dlp_args.specs.declared.function.Function.TheVariants as function
-use Rattle.dlp_args.specs.Cells.{Kind}
+use Rattle.dlp_args.specs.Cells.{CellKind}
 use Rattle.dlp_args.specs.Fields.{Fields}
 use Rattle.dlp_replies.specs.Checks.{Checks, user_sizes, user_checks, record_checks, id_checks, user_name, text_or_none, date_or_zero}
 use Rattle.dlp_replies.specs.EntryReading.{rows_of, rows_or_none, rows_checks, item_of}
@@ -20,11 +20,11 @@ use Rattle.dlp_replies.specs.ReplyValues.{AddSyncLogEntry, MoveCategory, OpenCon
 pub data Shape : Type 0 where
   Unknown : Shape
   Bare : ReplyValue → Shape
-  One : (kinds : List Kind) → (Fields kinds → Bool) → (Fields kinds → Checks)
+  One : (kinds : List CellKind) → (Fields kinds → Bool) → (Fields kinds → Checks)
       → (Fields kinds → ReplyValue) → Shape
 
 -- one argument with any values
-abbrev pub plain : (kinds : List Kind) → (Fields kinds → ReplyValue) → Shape
+abbrev pub plain : (kinds : List CellKind) → (Fields kinds → ReplyValue) → Shape
 plain kinds make = One kinds (λ v. true) (λ v. []) make
 
 -- what the cells of a user and of a resource say

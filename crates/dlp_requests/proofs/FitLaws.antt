@@ -3,12 +3,12 @@ use Rattle.std.proofs.Common.{ℕ, ◌+◌, ◌≤◌, List, [], ◌∷◌, leng
 use Rattle.std.specs.Int.{w16, to_be_bytes}
 use Rattle.std.proofs.lemmas.List.{length-append}
 use Rattle.dlp_args.specs.Arguments.{header, written_form}
-use Rattle.dlp_args.specs.Cells.{Kind, Byte, Half, Word, Pad, Run, Text, MaybeText, Rest, Counted, Whole, Names, Cell, cell_text, CellFits}
+use Rattle.dlp_args.specs.Cells.{CellKind, Byte, Half, Word, Pad, Run, Text, MaybeText, Rest, Counted, Whole, Names, Cell, cell_text, CellFits}
 use Rattle.dlp_args.specs.Fields.{Fields, fields_text, FieldsFit}
 use Rattle.dlp_requests.specs.RequestTexts.{IsShortCell, AreShort, argument_text}
 
 -- the greatest length of what is written of a cell
-abbrev pub cell_most : Kind → ℕ
+abbrev pub cell_most : CellKind → ℕ
 cell_most Byte = 1
 cell_most Half = 2
 cell_most Word = 4
@@ -21,11 +21,11 @@ cell_most Counted = 65502
 cell_most Whole = 65500
 cell_most Names = 512
 
-abbrev pub fields_most : List Kind → ℕ
+abbrev pub fields_most : List CellKind → ℕ
 fields_most [] = 0
 fields_most (k ∷ ks) = cell_most k + fields_most ks
 
-length-cell_text : (k : Kind) (x : Cell k) → CellFits k x → IsShortCell k x → length (cell_text k x) ≤ cell_most k
+length-cell_text : (k : CellKind) (x : Cell k) → CellFits k x → IsShortCell k x → length (cell_text k x) ≤ cell_most k
 length-cell_text Byte n fits short = omega arith
 length-cell_text Half n fits short = omega arith
 length-cell_text Word n fits short = omega arith
@@ -39,7 +39,7 @@ length-cell_text Counted some fits short = omega (arith, length-append (to_be_by
 length-cell_text Whole some fits short = short
 length-cell_text Names names fits short = omega (arith, fits.0, fits.1, length-append names.0 names.1)
 
-pub length-fields_text : (ks : List Kind) (fields : Fields ks) → FieldsFit ks fields → AreShort ks fields → length (fields_text ks fields) ≤ fields_most ks
+pub length-fields_text : (ks : List CellKind) (fields : Fields ks) → FieldsFit ks fields → AreShort ks fields → length (fields_text ks fields) ≤ fields_most ks
 length-fields_text [] fields fits short = omega arith
 length-fields_text (k ∷ []) fields fits short = omega (arith, length-cell_text k fields.0 fits short.0)
 length-fields_text (k ∷ l ∷ ks) fields fits short =

@@ -15,7 +15,7 @@ use Rattle.dlp_args.specs.declared.function.Function.{Function}
 use Rattle.dlp_args.specs.declared.function.Function.TheVariants as function
 use Rattle.dlp_args.specs.Functions.{function_of}
 use Rattle.dlp_args.specs.Functions as functions
-use Rattle.dlp_args.specs.Cells.{Kind}
+use Rattle.dlp_args.specs.Cells.{CellKind}
 use Rattle.dlp_args.specs.Fields.{Fields, fields_in, fields_text, FieldsFit, ends_well}
 use Rattle.dlp_args.proofs.CellLaws.{map_some, fields_take, fields_again, fields_written}
 use Rattle.dlp_args.proofs.FunctionLaws.{number_is}
@@ -32,7 +32,7 @@ use Rattle.dlp_requests.specs.Views.{request_value}
 
 -- an argument's id is one, only its last cell stands up to the end, and it fits into a message; or there is no argument and no
 -- cell
-is_well : Option ℕ → List Kind → Bool
+is_well : Option ℕ → List CellKind → Bool
 is_well None [] = true
 is_well None (k ∷ ks) = false
 is_well (Some id) kinds = leb 32 id && (ltb id 64 && (ends_well kinds && leb (fields_most kinds) 65529))
@@ -284,7 +284,7 @@ request_again value bytes text =
 
 -- ---- what is written is a text
 
-argument_written : (id : Option ℕ) (kinds : List Kind) (fields : Fields kinds) → is_well id kinds ≡ true → length (fields_text kinds fields) ≤ 65535
+argument_written : (id : Option ℕ) (kinds : List CellKind) (fields : Fields kinds) → is_well id kinds ≡ true → length (fields_text kinds fields) ≤ 65535
     → HasArgument id (fields_text kinds fields) (argument_text id (fields_text kinds fields))
 unfolding is_well
 argument_written None [] fields well short = (refl, refl)
@@ -299,13 +299,13 @@ argument_written (Some id) kinds fields well short =
       refl,
     )
 
-well_ends : (id : Option ℕ) (kinds : List Kind) → is_well id kinds ≡ true → ends_well kinds ≡ true
+well_ends : (id : Option ℕ) (kinds : List CellKind) → is_well id kinds ≡ true → ends_well kinds ≡ true
 unfolding is_well
 well_ends None [] well = refl
 well_ends None (k ∷ ks) well = absurd cc
 well_ends (Some id) kinds well = (and_parts (ends_well kinds) _ ((and_parts (ltb id 64) _ ((and_parts (leb 32 id) _ well).1)).1)).0
 
-content_short : (id : Option ℕ) (kinds : List Kind) (fields : Fields kinds) → is_well id kinds ≡ true
+content_short : (id : Option ℕ) (kinds : List CellKind) (fields : Fields kinds) → is_well id kinds ≡ true
     → length (argument_text id (fields_text kinds fields)) < 65535 → length (fields_text kinds fields) ≤ 65535
 unfolding is_well
 content_short None [] fields well short = omega arith
@@ -330,7 +330,7 @@ request_written value is =
 
 -- ---- what fits into a message
 
-well_fits : (id : Option ℕ) (kinds : List Kind) → is_well id kinds ≡ true → fields_most kinds ≤ 65529
+well_fits : (id : Option ℕ) (kinds : List CellKind) → is_well id kinds ≡ true → fields_most kinds ≤ 65529
 unfolding is_well
 well_fits None [] well = omega arith
 well_fits None (k ∷ ks) well = absurd cc

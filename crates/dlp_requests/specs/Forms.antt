@@ -1,7 +1,7 @@
 -- The forms of requests: a function, the id of its argument, and what the argument is made of
 -- (pilot-link, `dlp.c`, `pi-dlp.h`).
 use Rattle.std.specs.Prelude.{ℕ, List, [], ◌∷◌, Option, Some, None}
-use Rattle.dlp_args.specs.Cells.{Kind, Byte, Half, Word, Pad, Run, Text, MaybeText, Rest, Counted}
+use Rattle.dlp_args.specs.Cells.{CellKind, Byte, Half, Word, Pad, Run, Text, MaybeText, Rest, Counted}
 
 -- one for each function; ReadSysInfo, ReadRecord and ReadResource have two
 pub data Form : Type 0 where
@@ -41,12 +41,12 @@ pub data Form : Type 0 where
 pub record Layout : Type 0 where
   pub number : ℕ
   pub argument : Option ℕ
-  pub kinds : List Kind
+  pub kinds : List CellKind
 
 abbrev pub bare : ℕ → Layout
 bare number = record { number = number; argument = None; kinds = [] }
 
-abbrev pub one : ℕ → ℕ → List Kind → Layout
+abbrev pub one : ℕ → ℕ → List CellKind → Layout
 one number id kinds = record { number = number; argument = Some id; kinds = kinds }
 
 -- the layout of each form; the names of its fields stand in `request_value`
@@ -92,5 +92,5 @@ abbrev pub argument_of : Form → Option ℕ
 argument_of form = (layout form).argument
 
 -- what the argument is made of
-abbrev pub kinds_of : Form → List Kind
+abbrev pub kinds_of : Form → List CellKind
 kinds_of form = (layout form).kinds

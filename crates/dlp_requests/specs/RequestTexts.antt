@@ -3,7 +3,7 @@
 use Rattle.std.specs.Prelude.{◌≡◌, ◌≤◌, ℕ, List, [], ◌∷◌, length, Option, Some, None}
 use Rattle.dlp_args.specs.Arguments.{ArgText, arg_text}
 use Rattle.dlp_args.specs.Arguments as argument
-use Rattle.dlp_args.specs.Cells.{Kind, Text, Whole, Cell}
+use Rattle.dlp_args.specs.Cells.{CellKind, Text, Whole, Cell}
 use Rattle.dlp_args.specs.Fields.{Fields, AreFields, fields_text, FieldsFit}
 use Rattle.dlp_requests.specs.Forms.{number_of, argument_of, kinds_of}
 use Rattle.dlp_requests.specs.RequestValues.{RequestValue}
@@ -13,7 +13,7 @@ use Rattle.dlp_requests.specs.RequestValues.{RequestValue}
 abbrev pub HasArgument : Option ℕ → List ℕ → List ℕ → Type 0
 HasArgument None content bytes = (content ≡ []) × (bytes ≡ 0 ∷ [])
 HasArgument (Some id) content bytes =
-    (form : argument.Form) × (text : List ℕ)
+    (form : argument.HeaderForm) × (text : List ℕ)
     × ArgText form (record { id = id; bytes = content }) text × (bytes ≡ 1 ∷ text)
 
 -- the bytes are a text of the request: the function, the number of arguments, and the argument with
@@ -37,12 +37,12 @@ request_text value =
     ∷ argument_text (argument_of value.form) (fields_text (kinds_of value.form) value.fields)
 
 -- a text, or bytes of no set length, are at most 65,500
-abbrev pub IsShortCell : (k : Kind) → Cell k → Type 0
+abbrev pub IsShortCell : (k : CellKind) → Cell k → Type 0
 IsShortCell Text text = length text ≤ 65500
 IsShortCell Whole some = length some ≤ 65500
 IsShortCell other x = Unit {0}
 
-abbrev pub AreShort : (ks : List Kind) → Fields ks → Type 0
+abbrev pub AreShort : (ks : List CellKind) → Fields ks → Type 0
 AreShort [] fields = Unit {0}
 AreShort (k ∷ ks) fields = IsShortCell k fields.0 × AreShort ks fields.1
 

@@ -12,7 +12,7 @@ use Rattle.desktop_session.specs.Acts.{Act, acted}
 use Rattle.desktop_session.specs.Requests.{reading_next}
 use Rattle.desktop_session.specs.Says.{saying}
 use Rattle.desktop_session.specs.Sessions.{SessionValue}
-use Rattle.desktop_session.specs.Stops.{Asked}
+use Rattle.desktop_session.specs.Stops.{AsksOne}
 use Rattle.desktop_session.specs.Tellings.{device_after}
 use Rattle.desktop_session.proofs.TellLaws.{said_device}
 use Rattle.slow_mirror.specs.Asks.{Asks}
@@ -75,7 +75,7 @@ goes_more (Some told) handle most k acts {now} seen {entry} below one added lend
 
 asked_here : {L : Type 0} {talk : L → Option Talk} {since : L → L → Type 0} {fault : L → Option LinkFault} {downs : L → ℕ} {handle here : ℕ}
     {now new : SessionValue L}
-    → here ≡ handle → Asked talk since fault downs (reading_next here) now new → Asked talk since fault downs (reading_next handle) now new
+    → here ≡ handle → AsksOne talk since fault downs (reading_next here) now new → AsksOne talk since fault downs (reading_next handle) now new
 asked_here is asked = search (rules)
 
 -- what was read grows
@@ -134,7 +134,7 @@ module _ {L : Type 0} {talk : L → Option Talk} {since : L → L → Type 0} {f
 
   pub changed_on : (since_more : (a b c : L) → since a b → since b c → since a c) {here k : ℕ} {more : List Seen} {entry : Seen} {now new : SessionValue L}
       → here ≡ handle → k < most → fault new.link ≡ None → seen_in (reply_at 0x1F new.reply) ≡ entry ∷ [] → more ≡ seen ++ entry ∷ []
-      → ChangedSoFar talk since fault downs handle most k seen old now → Asked talk since fault downs (reading_next here) now new
+      → ChangedSoFar talk since fault downs handle most k seen old now → AsksOne talk since fault downs (reading_next here) now new
       → ChangedSoFar talk since fault downs handle most (k + 1) more old new
   changed_on since_more {k} {new} is below none one added before asked =
       let asked = asked_here is asked in
@@ -165,7 +165,7 @@ module _ {L : Type 0} {talk : L → Option Talk} {since : L → L → Type 0} {f
 
   pub changed_ends : (since_more : (a b c : L) → since a b → since b c → since a c) {here k : ℕ} {A : Type 0} {now new : SessionValue L} (answer : A)
       → here ≡ handle → k < most → fault new.link ≡ None → seen_in (reply_at 0x1F new.reply) ≡ []
-      → ChangedSoFar talk since fault downs handle most k seen old now → Asked talk since fault downs (reading_next here) now new
+      → ChangedSoFar talk since fault downs handle most k seen old now → AsksOne talk since fault downs (reading_next here) now new
       → Asks talk since fault downs (changed_reads_of handle most (talk old.link)) old new (Ok answer) × IfSome (talk old.link)
       (λ told. seen ≡ changed_seen handle most told.device)
   changed_ends since_more {k} {new} answer is below none lent before asked =
@@ -182,7 +182,7 @@ module _ {L : Type 0} {talk : L → Option Talk} {since : L → L → Type 0} {f
   -- ---- a stop
 
   pub changed_stop : {A : Type 0} (since_more : (a b c : L) → since a b → since b c → since a c) {here k : ℕ} {now new : SessionValue L} (cause : SessionFault)
-      → here ≡ handle → k < most → ChangedSoFar talk since fault downs handle most k seen old now → Asked talk since fault downs (reading_next here) now new
+      → here ≡ handle → k < most → ChangedSoFar talk since fault downs handle most k seen old now → AsksOne talk since fault downs (reading_next here) now new
       → Asks {A = A} talk since fault downs (changed_reads_of handle most (talk old.link)) old new (Err cause)
   changed_stop since_more {k} {now} {new} cause is below before asked =
       let follows = then_of (talk old.link) handle (most - (k + 1)) before.acts in

@@ -12,7 +12,7 @@ use Rattle.dlp_commands.specs.Reached.{reads as reached}
 use Rattle.dlp_commands.specs.Talks.{Talk}
 use Rattle.dlp_commands.specs.declared.link.LinkFault.{LinkFault}
 use Rattle.dlp_commands.specs.declared.reading.Reading.TheVariants as reading
-use Rattle.conduit_rules.specs.States.{Based, base_at}
+use Rattle.conduit_rules.specs.States.{BaseState, base_at}
 use Rattle.conduit_rules.specs.declared.view.Seen.{Seen}
 use Rattle.desktop_session.specs.declared.fault.SessionFault.{SessionFault}
 use Rattle.desktop_session.specs.Acts.{Act, acted}
@@ -37,7 +37,7 @@ pub of_same : {device : Device} (handle id : ℕ) → (acted (reading_of handle 
 unfolding acted tried
 of_same handle id = search (rules, outcome_same, of_keeps)
 
-other_same : (handle id : ℕ) (based : Based) (device : Device) → device_after (other_reads handle id based) device ≡ device
+other_same : (handle id : ℕ) (based : BaseState) (device : Device) → device_after (other_reads handle id based) device ≡ device
 other_same handle id based device = search (rules, of_same)
 
 filled_same : (base : List Record) (handle : ℕ) (entry : Seen) (device : Device) → device_after (filled_reads base handle entry) device ≡ device

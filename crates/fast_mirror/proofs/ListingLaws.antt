@@ -13,7 +13,7 @@ use Rattle.desktop_session.specs.Requests.{counting}
 use Rattle.desktop_session.specs.Says.{said, saying}
 use Rattle.desktop_session.specs.Sessions.{SessionValue}
 use Rattle.desktop_session.specs.Starts.{IsCounted}
-use Rattle.desktop_session.specs.Stops.{Asked, Does, Stops}
+use Rattle.desktop_session.specs.Stops.{AsksOne, Does, Stops}
 use Rattle.desktop_session.proofs.StopLaws.{does_then, stops_then}
 use Rattle.desktop_session.proofs.UntoldLaws.{does_none_told, stops_none_told}
 use Rattle.slow_mirror.specs.Reads.{entries_of, entries_told}
@@ -65,19 +65,19 @@ module _ {L : Type 0} {talk : L → Option Talk} {since : L → L → Type 0} {f
     {old now : SessionValue L} where
   -- the count was told
   pub told_count : (handle : ℕ) → Ok count ≡ answer_by (fault now.link) (said_in 0x2B count_of (reply_at 0x2B now.reply))
-      → Asked talk since fault downs (counting handle) old now → IfSome (talk old.link) (λ told. count ≡ entries_told told.device handle)
+      → AsksOne talk since fault downs (counting handle) old now → IfSome (talk old.link) (λ told. count ≡ entries_told told.device handle)
   told_count handle x1 asked = search (rules, count_from, count_told)
 
   -- behind the counting the count is what the device tells
   counted_there : {handle here : ℕ} → here ≡ handle → Ok count ≡ answer_by (fault now.link) (said_in 0x2B count_of (reply_at 0x2B now.reply))
-      → Asked talk since fault downs (counting handle) old now → IsCounted (talk now.link) here count
+      → AsksOne talk since fault downs (counting handle) old now → IsCounted (talk now.link) here count
   counted_there {handle} {here} is said asked =
       let from = count_from (fault now.link) (reply_at 0x2B now.reply) said in
       subst (λ n. IsCounted (talk now.link) n count) (sym is)
       (count_stays handle now.reply (talk old.link) (asked.does from.0).said (asked.told from.0) (sym (said_without said from.0)))
 
   pub listing_stops : (since_more : (a b c : L) → since a b → since b c → since a c) {handle here : ℕ} {new : L} → here ≡ handle
-      → Ok count ≡ answer_by (fault now.link) (said_in 0x2B count_of (reply_at 0x2B now.reply)) → Asked talk since fault downs (counting handle) old now
+      → Ok count ≡ answer_by (fault now.link) (said_in 0x2B count_of (reply_at 0x2B now.reply)) → AsksOne talk since fault downs (counting handle) old now
       → (IsCounted (talk now.link) here count → Stops talk since fault downs (map text (id_listings here (id_parts count))) now.link new)
       → Stops talk since fault downs (map text (listing_acts handle (talk old.link))) old.link new
   listing_stops since_more {handle} {new} is said asked stops =
@@ -87,7 +87,7 @@ module _ {L : Type 0} {talk : L → Option Talk} {since : L → L → Type 0} {f
       (asked.does from.0) asked.stops (rw (← is) (stops (counted_there is said asked))))
 
   listing_does : {handle here : ℕ} {new : L} → here ≡ handle → Ok count ≡ answer_by (fault now.link) (said_in 0x2B count_of (reply_at 0x2B now.reply))
-      → Asked talk since fault downs (counting handle) old now → Does talk (id_listings here (id_parts count)) now.link new
+      → AsksOne talk since fault downs (counting handle) old now → Does talk (id_listings here (id_parts count)) now.link new
       → Does talk (listing_acts handle (talk old.link)) old.link new
   listing_does {handle} {new} is said asked does =
       let from = count_from (fault now.link) (reply_at 0x2B now.reply) said in
@@ -96,7 +96,7 @@ module _ {L : Type 0} {talk : L → Option Talk} {since : L → L → Type 0} {f
       (rw (← is) does))
 
   pub listing_done : {A : Type 0} {handle here : ℕ} (new : L) (answer : Result A SessionFault) → here ≡ handle
-      → Ok count ≡ answer_by (fault now.link) (said_in 0x2B count_of (reply_at 0x2B now.reply)) → Asked talk since fault downs (counting handle) old now
+      → Ok count ≡ answer_by (fault now.link) (said_in 0x2B count_of (reply_at 0x2B now.reply)) → AsksOne talk since fault downs (counting handle) old now
       → OnOk answer (IsCounted (talk now.link) here count → Does talk (id_listings here (id_parts count)) now.link new)
       → OnOk answer (Does talk (listing_acts handle (talk old.link)) old.link new)
   listing_done new (Ok x) is said asked does =
@@ -104,7 +104,7 @@ module _ {L : Type 0} {talk : L → Option Talk} {since : L → L → Type 0} {f
   listing_done new (Err cause) is said asked does = tt
 
   pub listing_ids : {A : Type 0} {handle here : ℕ} (items : A → List ℕ) (answer : Result A SessionFault) → here ≡ handle
-      → Ok count ≡ answer_by (fault now.link) (said_in 0x2B count_of (reply_at 0x2B now.reply)) → Asked talk since fault downs (counting handle) old now
+      → Ok count ≡ answer_by (fault now.link) (said_in 0x2B count_of (reply_at 0x2B now.reply)) → AsksOne talk since fault downs (counting handle) old now
       → IfOk answer (λ ids. IsCounted (talk now.link) here count → IfSome (talk now.link) (λ told. items ids ≡ ids_listed told.device here (id_parts count)))
       → IfOk answer (λ ids. IfSome (talk old.link) (λ told. items ids ≡ ids_told handle told.device))
   listing_ids {handle} items (Ok ids) is said asked listed =
@@ -114,7 +114,7 @@ module _ {L : Type 0} {talk : L → Option Talk} {since : L → L → Type 0} {f
   listing_ids items (Err cause) is said asked listed = tt
 
   pub listing_last : {A : Type 0} {handle here : ℕ} (new : L) (answer : Result A SessionFault) → here ≡ handle
-      → Ok count ≡ answer_by (fault now.link) (said_in 0x2B count_of (reply_at 0x2B now.reply)) → Asked talk since fault downs (counting handle) old now
+      → Ok count ≡ answer_by (fault now.link) (said_in 0x2B count_of (reply_at 0x2B now.reply)) → AsksOne talk since fault downs (counting handle) old now
       → IfErr answer (λ cause. IsCounted (talk now.link) here count → IsByLastReply (talk new) cause) → IfErr answer (IsByLastReply (talk new))
   listing_last new (Ok x) is said asked last = tt
   listing_last new (Err cause) is said asked last = last (counted_there is said asked)

@@ -19,7 +19,7 @@ use Rattle.conduit_rules.specs.Views.{slow_seen}
 use Rattle.conduit_rules.specs.declared.view.Seen.{Seen}
 use Rattle.desktop_session.specs.Acts.{acted}
 use Rattle.desktop_session.specs.Requests.{reading_next}
-use Rattle.desktop_session.specs.Tellings.{IsProper, device_after, told}
+use Rattle.desktop_session.specs.Tellings.{IsTellable, device_after, told}
 use Rattle.desktop_session.proofs.LentLaws.{lent_next}
 use Rattle.desktop_session.proofs.RequestFits.{next_fits}
 use Rattle.desktop_session.proofs.RowLaws.{next_row, no_next_row}
@@ -130,13 +130,13 @@ index_moved device handle next is = grind (arith, leads, moved)
 
 -- the database is open under the handle, with this record index
 pub record IsOpenAt (device : Device) (handle next : ℕ) (database : DatabaseValue) : Type 0 where
-  pub proper : IsProper device
+  pub proper : IsTellable device
   pub base : Base
   pub is : base_at device handle ≡ Some base
   pub index : base.opened.next ≡ next
   pub same : base.database ≡ database
 
-next_proper : {device : Device} (handle : ℕ) → IsProper device → handle < 2 ^ 8 → IsProper (acted (reading_next handle) device).1
+next_proper : {device : Device} (handle : ℕ) → IsTellable device → handle < 2 ^ 8 → IsTellable (acted (reading_next handle) device).1
 next_proper handle proper byte = search (rules, acted_proper, act_sayable, next_fits)
 
 lent_device : (device : Device) {place : ℕ} (handle : ℕ) {base : Base} {item : Record} → base_at device handle ≡ Some base → on_records base.database ≡ true
@@ -160,7 +160,7 @@ pub record Steps (device : Device) (handle next : ℕ) (database : DatabaseValue
   pub lends : next_seen handle device ≡ lent
   pub after : IsOpenAt (acted (reading_next handle) device).1 handle next database
 
-lent_step : {device : Device} {place : ℕ} (handle : ℕ) {base : Base} {item : Record} → IsProper device → handle < 2 ^ 8 → base_at device handle ≡ Some base
+lent_step : {device : Device} {place : ℕ} (handle : ℕ) {base : Base} {item : Record} → IsTellable device → handle < 2 ^ 8 → base_at device handle ≡ Some base
     → on_records base.database ≡ true → next_changed base.opened.next base.database.records ≡ Some place → slice_get base.database.records place ≡ Some item
     → Steps device handle (place + 1) base.database (slow_seen item ∷ [])
 unfolding at_index
@@ -176,7 +176,7 @@ lent_step {device} {place} handle {base} {item} proper byte is records first the
   };
 }
 
-none_step : {device : Device} (handle : ℕ) {base : Base} → IsProper device → handle < 2 ^ 8 → base_at device handle ≡ Some base
+none_step : {device : Device} (handle : ℕ) {base : Base} → IsTellable device → handle < 2 ^ 8 → base_at device handle ≡ Some base
     → on_records base.database ≡ true → next_changed base.opened.next base.database.records ≡ None → Steps device handle base.opened.next base.database []
 none_step handle proper byte is records none = search (rules, acted_reads, act_sayable, next_fits, none_told, next_proper, none_device)
 
@@ -211,10 +211,10 @@ changed_in base = map slow_seen (filter is_changed (drop base.opened.next base.d
 
 abbrev AreChanged : ℕ → ℕ → Type 0
 AreChanged handle most =
-    (device : Device) (base : Base) → IsProper device → base_at device handle ≡ Some base → on_records base.database ≡ true
+    (device : Device) (base : Base) → IsTellable device → base_at device handle ≡ Some base → on_records base.database ≡ true
     → length (drop base.opened.next base.database.records) < most → Reaches device handle most base.database (changed_in base)
 
-changed_by : {handle : ℕ} (most : ℕ) {device : Device} {base : Base} → handle < 2 ^ 8 → IsProper device → base_at device handle ≡ Some base
+changed_by : {handle : ℕ} (most : ℕ) {device : Device} {base : Base} → handle < 2 ^ 8 → IsTellable device → base_at device handle ≡ Some base
     → on_records base.database ≡ true → length (drop base.opened.next base.database.records) < suc most → AreChanged handle most → (o : Option ℕ)
     → position is_changed (drop base.opened.next base.database.records) ≡ o → Reaches device handle (suc most) base.database (changed_in base)
 changed_by {handle} most {device} {base} byte proper is records within later None at =

@@ -8,12 +8,12 @@ use Rattle.palm_device.specs.Handles.{Base, base_at as opened_base}
 use Rattle.palm_device.specs.Records.{is_changed}
 use Rattle.dlp_commands.specs.Holding.{on_records}
 use Rattle.conduit_rules.specs.ById.{each_below, each_id, id_bound}
-use Rattle.conduit_rules.specs.States.{Based, first}
+use Rattle.conduit_rules.specs.States.{BaseState, first}
 use Rattle.conduit_rules.proofs.ByIdLaws.{each_below-suc, each_below-zero, id_bound-is}
 use Rattle.desktop_session.specs.Acts.{Act, acted}
 use Rattle.desktop_session.specs.Lists.{id_listings, id_parts}
 use Rattle.desktop_session.specs.Requests.{counting, listing_ids, reading_next, reading_of}
-use Rattle.desktop_session.specs.Tellings.{AreSayable, IsProper}
+use Rattle.desktop_session.specs.Tellings.{AreSayable, IsTellable}
 use Rattle.desktop_session.proofs.RequestFits.{count_fits, ids_fit, next_fits, of_fits}
 use Rattle.desktop_session.proofs.TellLaws.{act_sayable}
 use Rattle.fast_mirror.specs.FastReads.{asks_of, fast_asks, fast_reads, other_reads}
@@ -64,7 +64,7 @@ own_free : (handle id : ℕ) → handle < 2 ^ 8 → id < 2 ^ 32 → AreFree (rea
 unfolding AreFree
 own_free handle id byte word device = search (rules, act_sayable, of_fits)
 
-other_free : (handle id : ℕ) (based : Based) → handle < 2 ^ 8 → id < 2 ^ 32 → AreFree (other_reads handle id based)
+other_free : (handle id : ℕ) (based : BaseState) → handle < 2 ^ 8 → id < 2 ^ 32 → AreFree (other_reads handle id based)
 other_free handle id based byte word = search (rules, none_free, own_free)
 
 asks_free : (rows : List Record) (handle i : ℕ) (found : Option Record) → handle < 2 ^ 8 → i < id_bound
@@ -88,7 +88,7 @@ asked_free rows handle records byte few =
     (each_free (λ i. asks_of rows handle (first i records)) id_bound
     (λ i below. asks_free rows handle i (first i records) byte below (λ item found. first_id records found))))
 
-pub fast_sayable : (device : Device) (handle : ℕ) (base : Base) (rows : List Record) → IsProper device → handle < 2 ^ 8
+pub fast_sayable : (device : Device) (handle : ℕ) (base : Base) (rows : List Record) → IsTellable device → handle < 2 ^ 8
     → opened_base device handle ≡ Some base → on_records base.database ≡ true → base.opened.next ≡ 0
     → AreSayable (fast_reads rows handle device) device
 unfolding AreFree

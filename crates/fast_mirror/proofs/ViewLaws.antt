@@ -16,13 +16,13 @@ use Rattle.palm_device.specs.Records.{is_changed, place_of_id}
 use Rattle.palm_device.specs.Soundness.{AreIds, ids_of}
 use Rattle.dlp_commands.specs.Holding.{on_records}
 use Rattle.conduit_rules.specs.ById.{each_id, id_bound}
-use Rattle.conduit_rules.specs.States.{Based, base_at, first}
+use Rattle.conduit_rules.specs.States.{BaseState, base_at, first}
 use Rattle.conduit_rules.specs.Views.{fast_seen, fast_view, slow_seen, unread_where}
 use Rattle.conduit_rules.specs.declared.view.Seen.{Seen}
 use Rattle.conduit_rules.proofs.ByIdLaws.{each_below-same, id_bound-is}
 use Rattle.desktop_session.specs.Acts.{acted}
 use Rattle.desktop_session.specs.Requests.{reading_next, reading_of}
-use Rattle.desktop_session.specs.Tellings.{IsProper, device_after}
+use Rattle.desktop_session.specs.Tellings.{IsTellable, device_after}
 use Rattle.desktop_session.proofs.LentLaws.{ids_are, lent_of}
 use Rattle.slow_mirror.proofs.EntryLaws.{lent_seen}
 use Rattle.slow_mirror.proofs.ShownLaws.{lent_is_seen, records_told, first-mapped}
@@ -69,7 +69,7 @@ first_id {i} (r ∷ records) {item} is = grind (arith, first_id {i = i} records 
 finds : (i : ℕ) (records : List Record) {item : Record} → first i records ≡ Some item → FindsRecord i records item
 finds i records is = search (rules, find-position, first_id)
 
-own_lent : {device : Device} {i : ℕ} (handle : ℕ) {base : Base} {item : Record} → IsProper device → handle < 2 ^ 8 → i < id_bound
+own_lent : {device : Device} {i : ℕ} (handle : ℕ) {base : Base} {item : Record} → IsTellable device → handle < 2 ^ 8 → i < id_bound
     → opened_base device handle ≡ Some base → on_records base.database ≡ true → FindsRecord i base.database.records item
     → seen_of_id handle device i ≡ slow_seen item ∷ []
 own_lent {device} {i} handle {base} {item} proper byte below is records finds =
@@ -95,7 +95,7 @@ fast_of_changed rows item changed = rw (read_first item.deleted item.dirty chang
 fast_of_other : (rows : List Record) (item : Record) → is_changed item ≡ false → fast_seen rows item ≡ unread_where (base_at rows false item.id) item
 fast_of_other rows item same = rw (passed_over item.deleted item.dirty same) refl
 
-other_is : {i : ℕ} (handle : ℕ) (device : Device) (based : Based) (item : Record) → item.id ≡ i → seen_of_id handle device i ≡ slow_seen item ∷ []
+other_is : {i : ℕ} (handle : ℕ) (device : Device) (based : BaseState) (item : Record) → item.id ≡ i → seen_of_id handle device i ≡ slow_seen item ∷ []
     → other_seen handle device i based ≡ unread_where based item ∷ []
 other_is handle device based item id own = search (rules)
 
@@ -106,7 +106,7 @@ shown_by : (rows : List Record) (handle i : ℕ) (device : Device) (found : Opti
 unfolding if_changed
 shown_by rows handle i device found own = grind (arith, fast_of_changed, other_is, fast_of_other)
 
-shown_one : (rows : List Record) (handle i : ℕ) {device : Device} {base : Base} → IsProper device → handle < 2 ^ 8 → i < id_bound
+shown_one : (rows : List Record) (handle i : ℕ) {device : Device} {base : Base} → IsTellable device → handle < 2 ^ 8 → i < id_bound
     → opened_base device handle ≡ Some base → on_records base.database ≡ true → AreIds (ids_of base.database.records)
     → shown_at rows handle device (ids_of base.database.records) (map slow_seen (filter is_changed base.database.records)) i ≡ option_to_list
     (option_map (fast_seen rows) (first i base.database.records))
@@ -118,18 +118,18 @@ ids_count : (records : List Record) → length (ids_of records) ≡ length recor
 ids_count [] = refl
 ids_count (r ∷ records) = cc (ids_count records)
 
-ids_differ : {device : Device} (handle : ℕ) {base : Base} → IsProper device → opened_base device handle ≡ Some base → AreIds (ids_of base.database.records)
+ids_differ : {device : Device} (handle : ℕ) {base : Base} → IsTellable device → opened_base device handle ≡ Some base → AreIds (ids_of base.database.records)
 ids_differ {device} handle {base} proper is =
     AllByRecursion-database_of (λ (d : DatabaseValue). AreIds (ids_of d.records)) base.opened.name device.databases base.database proper.sound.ids
     (leads device handle is).found
 
-pub few_records : {device : Device} (handle : ℕ) {base : Base} → IsProper device → opened_base device handle ≡ Some base → length base.database.records < 2 ^ 16
+pub few_records : {device : Device} (handle : ℕ) {base : Base} → IsTellable device → opened_base device handle ≡ Some base → length base.database.records < 2 ^ 16
 few_records {device} handle {base} proper is =
     let bounded = AllByRecursion-database_of IsBoundedDatabase base.opened.name device.databases base.database proper.bounded.databases
     (leads device handle is).found in
     omega (arith, bounded.whole.few_records)
 
-told_ids : {device : Device} (handle : ℕ) {base : Base} → IsProper device → handle < 2 ^ 8 → opened_base device handle ≡ Some base
+told_ids : {device : Device} (handle : ℕ) {base : Base} → IsTellable device → handle < 2 ^ 8 → opened_base device handle ≡ Some base
     → on_records base.database ≡ true → ids_told handle device ≡ ids_of base.database.records
 told_ids handle proper byte is records = grind (arith, ids_count, records_told, ids_are, few_records)
 
@@ -139,7 +139,7 @@ shown_there : (rows : List Record) {handle next : ℕ} (i : ℕ) {device : Devic
     (option_map (fast_seen rows) (first i database.records))
 shown_there rows i byte below records ids there = grind (arith, shown_one)
 
-pub fast_shown-is : (device : Device) (handle : ℕ) (base : Base) (rows : List Record) → IsProper device → handle < 2 ^ 8
+pub fast_shown-is : (device : Device) (handle : ℕ) (base : Base) (rows : List Record) → IsTellable device → handle < 2 ^ 8
     → opened_base device handle ≡ Some base → on_records base.database ≡ true → base.opened.next ≡ 0
     → fast_shown rows handle device ≡ fast_view rows base.database.records
 unfolding fast_shown
@@ -173,7 +173,7 @@ count_mapped : (records : List Record) → length (map slow_seen records) ≡ le
 count_mapped [] = refl
 count_mapped (r ∷ records) = cc (count_mapped records)
 
-pub fast_reads-are : (device : Device) (handle : ℕ) (base : Base) (rows : List Record) → IsProper device → handle < 2 ^ 8
+pub fast_reads-are : (device : Device) (handle : ℕ) (base : Base) (rows : List Record) → IsTellable device → handle < 2 ^ 8
     → opened_base device handle ≡ Some base → on_records base.database ≡ true → base.opened.next ≡ 0
     → fast_reads rows handle device ≡ fast_asks rows handle base.database.records
 unfolding fast_reads

@@ -8,7 +8,7 @@ use Rattle.palm_device.specs.FreshIds.{is_among}
 use Rattle.palm_device.specs.Records.{is_changed}
 use Rattle.dlp_commands.specs.Talks.{Talk}
 use Rattle.conduit_rules.specs.ById.{each_id}
-use Rattle.conduit_rules.specs.States.{Based, no_base, row, gone, base_at, first}
+use Rattle.conduit_rules.specs.States.{BaseState, no_base, row, gone, base_at, first}
 use Rattle.conduit_rules.specs.Views.{first_seen}
 use Rattle.conduit_rules.specs.declared.view.Seen.{Seen}
 use Rattle.conduit_rules.specs.declared.view.SeenState.TheVariants.{Unread}
@@ -60,13 +60,13 @@ seen_of_id handle device id =
     (seen_in (reply_at 0x20 (acted (reading_of handle id) device).0))
 
 -- a record with a base row is unread, with the content of the row; any other one is read by its id
-abbrev pub other_seen : ℕ → Device → ℕ → Based → List Seen
+abbrev pub other_seen : ℕ → Device → ℕ → BaseState → List Seen
 other_seen handle device id (row content) =
     record { id = id; state = Unread; content = content } ∷ []
 other_seen handle device id no_base = seen_of_id handle device id
 other_seen handle device id (gone content) = seen_of_id handle device id
 
-abbrev pub other_reads : ℕ → ℕ → Based → List Act
+abbrev pub other_reads : ℕ → ℕ → BaseState → List Act
 other_reads handle id (row content) = []
 other_reads handle id no_base = reading_of handle id ∷ []
 other_reads handle id (gone content) = reading_of handle id ∷ []

@@ -5,7 +5,7 @@ ghost use Rattle.conduit_rules.specs.ById.{id_bound};
 ghost use Rattle.desktop_session.specs.Lasts.{IsByLastReply};
 ghost use Rattle.desktop_session.specs.Lists.{HasCause};
 ghost use Rattle.desktop_session.specs.Requests.{reading_next};
-ghost use Rattle.desktop_session.specs.Stops.{Asked};
+ghost use Rattle.desktop_session.specs.Stops.{AsksOne};
 ghost use Rattle.slow_mirror.specs.Asks.{Asks};
 ghost use Rattle.slow_mirror.specs.Entries.{AreBounded, seen_in};
 ghost use Rattle.fast_mirror.specs.FastReads.{changed_reads_of, changed_seen};
@@ -22,7 +22,7 @@ use std::alloc::Global;
 fn read_next<L: Link>(alloc: Global, db: &mut OpenDb<'_, L>) -> Result<Option<Seen>, SessionFault>
     ensures same_reference { db.new.linked.ghost_name ≡ db.old.linked.ghost_name }
     ensures same_handle { db.new.handle ≡ db.old.handle }
-    ensures asked { Asked L.talk L.since L.fault L.downs (reading_next db.old.handle)
+    ensures asked { AsksOne L.talk L.since L.fault L.downs (reading_next db.old.handle)
         db.old.linked.now db.new.linked.now }
     ensures none { OnOk result (L.fault db.new.linked.now.link ≡ None) }
     ensures seen { IfOk result (λ found. seen_in (reply_at 0x1F db.new.linked.now.reply)

@@ -7,7 +7,7 @@ ghost use Rattle.dlp_commands.specs.Holding.{on_records};
 ghost use Rattle.conduit_rules.specs.Choices.{sides_of};
 ghost use Rattle.conduit_rules.specs.Plans.{IsPlan};
 ghost use Rattle.conduit_rules.specs.Views.{IsHonest, fast_view, slow_view};
-ghost use Rattle.desktop_session.specs.Tellings.{AreSayable, IsProper};
+ghost use Rattle.desktop_session.specs.Tellings.{AreSayable, IsTellable};
 ghost use Rattle.fast_mirror.specs.FastReads.{fast_asks, fast_reads, fast_shown};
 
 use conduit_rules::{Action, Plan};
@@ -27,15 +27,15 @@ pub fn fast_readings_are_planned_as_slow_ones()
 /// request fits into a message, so the device takes one step for each, in order.
 pub fn fast_readings_show_the_records()
     ensures view { (device : Device) (handle : ℕ) (base : Base) (rows : List Record)
-        → IsProper device → handle < 2 ^ 8 → base_at device handle ≡ Some base
+        → IsTellable device → handle < 2 ^ 8 → base_at device handle ≡ Some base
         → on_records base.database ≡ true → base.opened.next ≡ 0
         → fast_shown rows handle device ≡ fast_view rows base.database.records }
     ensures asks { (device : Device) (handle : ℕ) (base : Base) (rows : List Record)
-        → IsProper device → handle < 2 ^ 8 → base_at device handle ≡ Some base
+        → IsTellable device → handle < 2 ^ 8 → base_at device handle ≡ Some base
         → on_records base.database ≡ true → base.opened.next ≡ 0
         → fast_reads rows handle device ≡ fast_asks rows handle base.database.records }
     ensures fits { (device : Device) (handle : ℕ) (base : Base) (rows : List Record)
-        → IsProper device → handle < 2 ^ 8 → base_at device handle ≡ Some base
+        → IsTellable device → handle < 2 ^ 8 → base_at device handle ≡ Some base
         → on_records base.database ≡ true → base.opened.next ≡ 0
         → AreSayable (fast_reads rows handle device) device }
 {}

@@ -10,7 +10,7 @@ ghost use Rattle.conduit_rules.specs.declared.view.Seen.{Seen};
 ghost use Rattle.desktop_session.specs.Lasts.{IsByLastReply};
 ghost use Rattle.desktop_session.specs.Lists.{HasCause};
 ghost use Rattle.desktop_session.specs.Requests.{reading_of};
-ghost use Rattle.desktop_session.specs.Stops.{Asked};
+ghost use Rattle.desktop_session.specs.Stops.{AsksOne};
 ghost use Rattle.slow_mirror.specs.Asks.{Asks};
 ghost use Rattle.slow_mirror.specs.Entries.{AreBounded, seen_in};
 ghost use Rattle.fast_mirror.specs.Shells.{Adds, Fills, IsOf, filled_reads, filled_seen, shell};
@@ -69,7 +69,7 @@ fn read_of<L: Link>(
 ) -> Result<Option<Seen>, SessionFault>
     ensures same_reference { db.new.linked.ghost_name ≡ db.old.linked.ghost_name }
     ensures same_handle { db.new.handle ≡ db.old.handle }
-    ensures asked { Asked L.talk L.since L.fault L.downs (reading_of db.old.handle id)
+    ensures asked { AsksOne L.talk L.since L.fault L.downs (reading_of db.old.handle id)
         db.old.linked.now db.new.linked.now }
     ensures none { OnOk result (L.fault db.new.linked.now.link ≡ None) }
     ensures seen { IfOk result (λ found. option_to_list found

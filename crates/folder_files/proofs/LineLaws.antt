@@ -6,7 +6,7 @@ use Rattle.std.proofs.Common.{arith}
 use Rattle.std.specs.Prelude.{position}
 use Rattle.std.proofs.lemmas.Bool.{ltb-true, lt-ltb}
 use Rattle.std.proofs.lemmas.List.{append_assoc, take_at, length-append}
-use Rattle.folder_files.specs.Lines.{Form, Value, Says, Values, AreLines, text_of, lines_text}
+use Rattle.folder_files.specs.Lines.{LineForm, Value, Says, Values, AreLines, text_of, lines_text}
 use Rattle.folder_files.specs.Reading.{◌>>=◌, behind, line_at, lines_at, or_unread, split_at_key, value_in}
 use Rattle.folder_files.specs.declared.unread.Unread.{Unread}
 use Rattle.folder_files.proofs.ValueLaws.{behind_found, behind_only, no_feed_append, on_one_line, value_found, value_only}
@@ -62,7 +62,7 @@ bind_ok r f y e = grind arith
 pub ok_is : {A : Type 0} (x y : A) → (let r : Result A Unread = Ok x in r) ≡ Ok y → x ≡ y
 ok_is x y e = cc
 
-pub line_found : (form : Form) (bytes : List ℕ) (found : Value form.kind × List ℕ) → line_at form bytes ≡ Ok found
+pub line_found : (form : LineForm) (bytes : List ℕ) (found : Value form.kind × List ℕ) → line_at form bytes ≡ Ok found
     → (text : List ℕ) × (bytes ≡ form.key ++ (text ++ 10 ∷ found.1)) × Says form.kind found.0 text
 line_found form bytes found e =
     let parts = bind_some (split_at_key form.key bytes) _ found (unread_not bytes _ found e) in
@@ -70,11 +70,11 @@ line_found form bytes found e =
     subst (λ (f : Value form.kind × List ℕ). (text : List ℕ) × (bytes ≡ form.key ++ (text ++ 10 ∷ f.1)) × Says form.kind f.0 text) value.2
     (parts.0.0, split_found form.key bytes parts.0 parts.1, value_found form.kind value.0 parts.0.0 value.1)
 
-pub line_only : (form : Form) (value : Value form.kind) (text rest : List ℕ) → HasNoFeed form.key → Says form.kind value text
+pub line_only : (form : LineForm) (value : Value form.kind) (text rest : List ℕ) → HasNoFeed form.key → Says form.kind value text
     → line_at form (form.key ++ (text ++ 10 ∷ rest)) ≡ Ok (value, rest)
 line_only form value text rest plain says = grind (arith, nat_tests, common_steps, split_only, on_one_line, value_only)
 
-pub lines_found : (forms : List Form) (bytes : List ℕ) (values : Values forms) → lines_at forms bytes ≡ Ok values → AreLines forms values bytes
+pub lines_found : (forms : List LineForm) (bytes : List ℕ) (values : Values forms) → lines_at forms bytes ≡ Ok values → AreLines forms values bytes
 lines_found [] bytes values e = grind (arith, nat_tests, common_steps)
 lines_found (form ∷ forms) bytes values e =
     let first = bind_ok (line_at form bytes) _ values e in
@@ -84,19 +84,19 @@ lines_found (form ∷ forms) bytes values e =
     (line.0, first.0.1, line.1, line.2, lines_found forms first.0.1 others.0 others.1)
 
 -- no key has a line feed
-abbrev pub ArePlain : List Form → Type 0
+abbrev pub ArePlain : List LineForm → Type 0
 ArePlain [] = Unit {0}
 ArePlain (form ∷ forms) = HasNoFeed form.key × ArePlain forms
 
-pub lines_only : (forms : List Form) (values : Values forms) (bytes : List ℕ) → ArePlain forms → AreLines forms values bytes → lines_at forms bytes ≡ Ok values
+pub lines_only : (forms : List LineForm) (values : Values forms) (bytes : List ℕ) → ArePlain forms → AreLines forms values bytes → lines_at forms bytes ≡ Ok values
 lines_only [] values bytes plain is = ap (lines_at []) is
 lines_only (form ∷ forms) values bytes plain is = grind (arith, nat_tests, common_steps, lines_only forms values.1 is.1, line_only)
 
 -- what is written says each value
-abbrev pub AllSay : (forms : List Form) → Values forms → Type 0
+abbrev pub AllSay : (forms : List LineForm) → Values forms → Type 0
 AllSay [] values = Unit {0}
 AllSay (form ∷ forms) values = Says form.kind values.0 (text_of form.kind values.0) × AllSay forms values.1
 
-pub lines_written : (forms : List Form) (values : Values forms) → AllSay forms values → AreLines forms values (lines_text forms values)
+pub lines_written : (forms : List LineForm) (values : Values forms) → AllSay forms values → AreLines forms values (lines_text forms values)
 lines_written [] values say = refl
 lines_written (form ∷ forms) values say = grind (arith, nat_tests, common_steps, lines_written forms values.1)

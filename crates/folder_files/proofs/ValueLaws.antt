@@ -16,7 +16,7 @@ use Rattle.hex.proofs.HexLemmas.{length-encode_with}
 use Rattle.pdb_values.specs.PalmDates.{read_wire}
 use Rattle.pdb_values.specs.Users.{password_of, user_name_of}
 use Rattle.folder_files.specs.Hexadecimal.{IsWireDate, bytes_in, bytes_text, date_in, few_bytes_in}
-use Rattle.folder_files.specs.Lines.{Kind, Title, Number, Positive, Date, Name, Password, Count, Slot, Value, Says, slot_text}
+use Rattle.folder_files.specs.Lines.{ValueKind, Title, Number, Positive, Date, Name, Password, Count, Slot, Value, Says, slot_text}
 use Rattle.folder_files.specs.Reading.{behind, count_in, field_at, if_positive, number_in, slot_in, value_in}
 use Rattle.folder_files.proofs.HexLaws.{HasNoFeed, bind_some, bytes_is, bytes_same, bytes_in-found, bytes_in-only, bytes_text-no_feed, encode_lower-no_feed}
 use Rattle.folder_files.proofs.HexLaws.{feed_past, few_bytes_in-found, few_bytes_in-only, guard_some, map_some, some_is, test_some}
@@ -182,7 +182,7 @@ slot_only value text is =
 
 -- ---- any text
 
-pub value_found : (kind : Kind) (value : Value kind) (text : List ℕ) → value_in kind text ≡ Some value → Says kind value text
+pub value_found : (kind : ValueKind) (value : Value kind) (text : List ℕ) → value_in kind text ≡ Some value → Says kind value text
 value_found Title value text e = grind (arith, nat_tests, common_steps)
 value_found Number value text e = number_found text value e
 value_found Positive value text e = positive_found text value e
@@ -192,7 +192,7 @@ value_found Password value text e = password_found text value e
 value_found Count value text e = count_found text value e
 value_found Slot value text e = slot_found text value e
 
-pub value_only : (kind : Kind) (value : Value kind) (text : List ℕ) → Says kind value text → value_in kind text ≡ Some value
+pub value_only : (kind : ValueKind) (value : Value kind) (text : List ℕ) → Says kind value text → value_in kind text ≡ Some value
 value_only Title value text is = ap (value_in Title) is
 value_only Number value text is = ap (value_in Number) is.0 ∙ number_only value is.1
 value_only Positive value text is = ap (value_in Positive) is.0 ∙ positive_only value is.1 is.2
@@ -237,7 +237,7 @@ slot-no_feed value text is =
     (no_feed_append (codes "user ") _ refl (no_feed_append is.0 _ user
     (no_feed_append (codes " last ") _ refl (no_feed_append is.1 _ last (no_feed_append (codes " name ") is.2 refl name)))))
 
-pub on_one_line : (kind : Kind) (value : Value kind) (text : List ℕ) → Says kind value text → HasNoFeed text
+pub on_one_line : (kind : ValueKind) (value : Value kind) (text : List ℕ) → Says kind value text → HasNoFeed text
 on_one_line Title value text is = subst HasNoFeed (sym is) refl
 on_one_line Date value text is = subst HasNoFeed (sym is.1) (encode_lower-no_feed is.0 is.2.in_range)
 on_one_line Name value text is = subst HasNoFeed (sym is.0) (bytes_text-no_feed value is.1)

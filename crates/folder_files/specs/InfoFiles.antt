@@ -4,7 +4,7 @@ use Rattle.std.specs.Fmt.{decimal}
 use Rattle.std.specs.List.{AllByRecursion, starts_with}
 use Rattle.pdb_values.specs.declared.user.UserInfo.{UserInfo}
 use Rattle.pdb_values.specs.declared.user.Marks.{Marks}
-use Rattle.folder_files.specs.Lines.{AreLines, Count, Date, Form, Name, Number, Password, Positive, SaysDate, SaysName, SaysNumber, Slot, Title, Value, Values}
+use Rattle.folder_files.specs.Lines.{AreLines, Count, Date, LineForm, Name, Number, Password, Positive, SaysDate, SaysName, SaysNumber, Slot, Title, Value, Values}
 use Rattle.folder_files.specs.Lines.{lines_text, text_of}
 use Rattle.folder_files.specs.Reading.{◌>>=◌, line_at, lines_at}
 use Rattle.folder_files.specs.Slots.{AreSlots, may_follow, pc_of}
@@ -12,7 +12,7 @@ use Rattle.folder_files.specs.declared.unread.Unread.{Unread}
 use Rattle.folder_files.specs.declared.bad_line.BadLine.{BadLine}
 
 -- the lines of a handheld's file
-abbrev pub device_forms : List Form
+abbrev pub device_forms : List LineForm
 device_forms =
     record { key = codes "hotsync-device 1"; kind = Title }
     ∷ record { key = codes "user "; kind = Number }
@@ -42,7 +42,7 @@ device_of v =
     }
 
 -- the lines of a desktop's file of version 1, which has one user
-abbrev pub one_user_forms : List Form
+abbrev pub one_user_forms : List LineForm
 one_user_forms =
     record { key = codes "hotsync-desktop 1"; kind = Title }
     ∷ record { key = codes "pc "; kind = Positive }
@@ -60,21 +60,21 @@ abbrev pub one_slot_of : Values one_user_forms → List Marks
 one_slot_of v = record { pc = v.1.0; user = v.1.1.0; last = v.1.1.1.0; name = v.1.1.1.1.0 } ∷ []
 
 -- the first lines of a desktop's file of version 2
-abbrev pub title_form : Form
+abbrev pub title_form : LineForm
 title_form = record { key = codes "hotsync-desktop 2"; kind = Title }
 
-abbrev pub pc_form : Form
+abbrev pub pc_form : LineForm
 pc_form = record { key = codes "pc "; kind = Positive }
 
-abbrev pub count_form : Form
+abbrev pub count_form : LineForm
 count_form = record { key = codes "slots "; kind = Count }
 
 -- the line of a slot
-abbrev pub slot_form : ℕ → Form
+abbrev pub slot_form : ℕ → LineForm
 slot_form number = record { key = codes "slot " ++ (decimal number ++ codes " "); kind = Slot }
 
 -- the lines of these slots, from this number on
-abbrev pub slot_forms : ℕ → List Marks → List Form
+abbrev pub slot_forms : ℕ → List Marks → List LineForm
 slot_forms number [] = []
 slot_forms number (marks ∷ slots) = slot_form number ∷ slot_forms (suc number) slots
 
@@ -103,7 +103,7 @@ abbrev pub slot_line : ℕ → Marks → List ℕ
 slot_line number marks = (slot_form number).key ++ (text_of Slot (said_of marks) ++ 10 ∷ [])
 
 -- the lines of a desktop's file of version 2, and what they say
-abbrev pub desktop_forms : List Marks → List Form
+abbrev pub desktop_forms : List Marks → List LineForm
 desktop_forms slots = title_form ∷ pc_form ∷ count_form ∷ slot_forms 0 slots
 
 abbrev pub desktop_values : (slots : List Marks) → Values (desktop_forms slots)

@@ -10,23 +10,23 @@ use Rattle.folder_files.specs.Hexadecimal.{IsWireDate, bytes_text}
 -- What stands behind a key: nothing; a number of 32 bits; one above 0; a date; the name of a user;
 -- a password; how many slots a desktop has; what it
 -- knows of the user of one.
-pub data Kind : Type 0 where
-  Title : Kind
-  Number : Kind
-  Positive : Kind
-  Date : Kind
-  Name : Kind
-  Password : Kind
-  Count : Kind
-  Slot : Kind
+pub data ValueKind : Type 0 where
+  Title : ValueKind
+  Number : ValueKind
+  Positive : ValueKind
+  Date : ValueKind
+  Name : ValueKind
+  Password : ValueKind
+  Count : ValueKind
+  Slot : ValueKind
 
 -- the form of a line
-pub record Form : Type 0 where
+pub record LineForm : Type 0 where
   pub key : List ℕ
-  pub kind : Kind
+  pub kind : ValueKind
 
 -- what is said there; a date in seconds
-abbrev pub Value : Kind → Type 0
+abbrev pub Value : ValueKind → Type 0
 Value Title = Unit {0}
 Value Number = ℕ
 Value Positive = ℕ
@@ -52,7 +52,7 @@ slot_text user last name =
     codes "user " ++ (user ++ (codes " last " ++ (last ++ (codes " name " ++ name))))
 
 -- the text says this
-abbrev pub Says : (kind : Kind) → Value kind → List ℕ → Type 0
+abbrev pub Says : (kind : ValueKind) → Value kind → List ℕ → Type 0
 Says Title value text = text ≡ []
 Says Number number text = SaysNumber number text
 Says Positive number text =
@@ -67,7 +67,7 @@ Says Slot value text =
     × SaysDate value.1 last × SaysName value.2 name
 
 -- the text that is written; of the two texts of a date of 0 seconds it is that of zeros
-abbrev pub text_of : (kind : Kind) → Value kind → List ℕ
+abbrev pub text_of : (kind : ValueKind) → Value kind → List ℕ
 text_of Title value = []
 text_of Number number = encode_lower (to_be_bytes w32 number)
 text_of Positive number = encode_lower (to_be_bytes w32 number)
@@ -80,19 +80,19 @@ text_of Slot value =
     (bytes_text value.2)
 
 -- what lines of these forms say
-abbrev pub Values : List Form → Type 0
+abbrev pub Values : List LineForm → Type 0
 Values [] = Unit {0}
 Values (form ∷ forms) = Value form.kind × Values forms
 
 -- the bytes are lines of these forms that say this
-abbrev pub AreLines : (forms : List Form) → Values forms → List ℕ → Type 0
+abbrev pub AreLines : (forms : List LineForm) → Values forms → List ℕ → Type 0
 AreLines [] values bytes = bytes ≡ []
 AreLines (form ∷ forms) values bytes =
     (text rest : List ℕ) × (bytes ≡ form.key ++ (text ++ 10 ∷ rest)) × Says form.kind values.0 text
     × AreLines forms values.1 rest
 
 -- the lines that are written
-abbrev pub lines_text : (forms : List Form) → Values forms → List ℕ
+abbrev pub lines_text : (forms : List LineForm) → Values forms → List ℕ
 lines_text [] values = []
 lines_text (form ∷ forms) values =
     form.key ++ (text_of form.kind values.0 ++ 10 ∷ lines_text forms values.1)

@@ -7,7 +7,7 @@ use Rattle.std.specs.Option.{option_map}
 use Rattle.pdb_values.specs.Users.{password_of, user_name_of}
 use Rattle.folder_files.specs.declared.unread.Unread.{Unread}
 use Rattle.folder_files.specs.Hexadecimal.{bytes_in, date_in, few_bytes_in}
-use Rattle.folder_files.specs.Lines.{Kind, Title, Number, Positive, Date, Name, Password, Count, Slot, Form, Value, Values}
+use Rattle.folder_files.specs.Lines.{ValueKind, Title, Number, Positive, Date, Name, Password, Count, Slot, LineForm, Value, Values}
 
 -- a step and then the next one, where both find something
 infixl 10 ◌>>=◌
@@ -53,7 +53,7 @@ slot_in text =
     (field_at (codes "user ") 8 text)
 
 -- what a text says
-abbrev pub value_in : (kind : Kind) → List ℕ → Option (Value kind)
+abbrev pub value_in : (kind : ValueKind) → List ℕ → Option (Value kind)
 value_in Title text = if length text == 0 then Some tt else None
 value_in Number text = number_in text
 value_in Positive text = option_and_then if_positive (number_in text)
@@ -77,7 +77,7 @@ or_unread bytes (Some found) = Ok found
 
 -- what the line at the front says in this form, and what stands behind it; else the bytes from its
 -- first one on are left unread
-abbrev pub line_at : (form : Form) → List ℕ → Result (Value form.kind × List ℕ) Unread
+abbrev pub line_at : (form : LineForm) → List ℕ → Result (Value form.kind × List ℕ) Unread
 line_at form bytes =
     or_unread bytes
     (option_and_then (λ parts. option_map (λ value. (value, parts.1)) (value_in form.kind parts.0))
@@ -85,7 +85,7 @@ line_at form bytes =
 
 -- what all of the lines say, and nothing stands behind them; else the bytes from the first bad line
 -- on are left unread
-abbrev pub lines_at : (forms : List Form) → List ℕ → Result (Values forms) Unread
+abbrev pub lines_at : (forms : List LineForm) → List ℕ → Result (Values forms) Unread
 lines_at [] bytes = if length bytes == 0 then Ok tt else Err (record { 0 = length bytes })
 lines_at (form ∷ forms) bytes =
     line_at form bytes >>= λ first. lines_at forms first.1 >>= λ others. Ok (first.0, others)

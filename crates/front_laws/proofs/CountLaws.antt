@@ -6,7 +6,7 @@ use Rattle.pdb_values.specs.Contents.{ContentValue}
 use Rattle.pdb_values.specs.declared.record.Record.{Record}
 use Rattle.conduit_rules.specs.ById.{each_below, each_id}
 use Rattle.conduit_rules.specs.Plans.{replaced_rows}
-use Rattle.conduit_rules.specs.States.{Held, first}
+use Rattle.conduit_rules.specs.States.{SideState, first}
 use Rattle.conduit_rules.proofs.ByIdLaws.{each_below-zero, each_below-suc}
 use Rattle.record_merge.specs.Merging.{ShowsNoOther, new_under}
 use Rattle.record_merge.proofs.AfterLaws.{unheld}
@@ -23,6 +23,6 @@ filter-below p f (suc n) =
     ∙ ap (λ ys. ys ++ filter p (f n)) (filter-below p f n) ∙ sym (each_below-suc (λ i. filter p (f i)) n)
 
 -- as many as are kept under ids that no record has
-pub appended-count : (keep : ℕ → Option ContentValue) (h : ℕ → Held) (rs : List Record) → ShowsNoOther h rs
+pub appended-count : (keep : ℕ → Option ContentValue) (h : ℕ → SideState) (rs : List Record) → ShowsNoOther h rs
     → length (appended rs (replaced_rows keep h)) ≡ length (each_id (λ i. new_under i (first i rs) (keep i)))
 appended-count keep h rs shown = grind (arith, appended-filter rs (replaced_rows keep h), filter-below (unheld rs), unheld rs, filter (unheld rs))

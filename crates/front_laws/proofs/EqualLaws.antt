@@ -24,7 +24,7 @@ use Rattle.record_merge.proofs.HeldLaws.{sides-equal}
 use Rattle.record_merge.proofs.PutLaws.{differ-ids}
 use Rattle.session_plan.specs.Tasks.{Meeting, task_of}
 use Rattle.repeat_laws.specs.Meetings.{IsActive, action_at, found_of, holding_after, ids_at}
-use Rattle.repeat_laws.specs.Repeats.{Found, GotAllIds, GotIds, IsRead, chosen, ended, shown}
+use Rattle.repeat_laws.specs.Repeats.{Finding, GotAllIds, GotIds, IsRead, chosen, ended, shown}
 use Rattle.repeat_laws.proofs.CommitLaws.{no_zero}
 use Rattle.repeat_laws.proofs.MeetingLaws.{reading-shows}
 use Rattle.repeat_laws.proofs.NewsLaws.{whole-is}
@@ -62,7 +62,7 @@ all-settled : (es : List (ℕ × ContentValue)) → AllByRecursion IsUnmarked (m
 all-settled [] = tt
 all-settled (e ∷ es) = ((refl, refl), all-settled es)
 
-rows-unmarked : (a : Action) {x : Found} (given : List ℕ) → IsRead x → GotIds a x given → AreUnmarked (merged_rows (chosen a x) given)
+rows-unmarked : (a : Action) {x : Finding} (given : List ℕ) → IsRead x → GotIds a x given → AreUnmarked (merged_rows (chosen a x) given)
 rows-unmarked a {x} given read got =
     let es = each_id (λ i. with_id i (row_at (chosen a x) given i)) in
     let none : at 0 es ≡ None = at-each_below (row_at (chosen a x) given) id_bound 0 ∙ no_zero a given read got in
@@ -78,14 +78,14 @@ unmarked-clean [] = tt
 unmarked-clean (r ∷ records) = grind (arith, common_steps, unmarked-clean records)
 
 -- behind all of its writes they are live and clean
-unmarked-after : (ws : List Write) (a : Action) (x : Found) → RowsDiffer (after ws x.records)
+unmarked-after : (ws : List Write) (a : Action) (x : Finding) → RowsDiffer (after ws x.records)
     → AllByRecursion IsUnmarked (after (ws ++ clearing (chosen a x) (shown x)) x.records)
 unmarked-after ws a x differ =
     subst (AllByRecursion IsUnmarked)
     (sym (after-append ws (clearing (chosen a x) (shown x)) x.records ∙ after-clearing (chosen a x) (shown x) (after ws x.records) differ))
     (unmarked-clean (filter (λ r. not (has r.id (purged_ids (chosen a x).keep (shown x)))) (after ws x.records)))
 
-records-unmarked : (a : Action) {x : Found} (given : List ℕ) → IsRead x → GotIds a x given
+records-unmarked : (a : Action) {x : Finding} (given : List ℕ) → IsRead x → GotIds a x given
     → AreUnmarked (merged_records (chosen a x) (shown x) given x.records)
 records-unmarked a {x} given read got =
     let ws = giving (chosen a x) (shown x) given in
@@ -100,7 +100,7 @@ records-unmarked a {x} given read got =
 
 -- ---- both sides
 
-ended-equal : (a : Action) {x : Found} (given : List ℕ) → IsRead x → GotIds a x given → HasEqualSides (ended a x given)
+ended-equal : (a : Action) {x : Finding} (given : List ℕ) → IsRead x → GotIds a x given → HasEqualSides (ended a x given)
 ended-equal a {x} given read got =
     let differ = differ-ids x.records read.ids in
     record {

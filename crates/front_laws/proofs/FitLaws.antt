@@ -15,7 +15,7 @@ use Rattle.palm_device.specs.Records.{is_changed}
 use Rattle.dlp_requests.specs.RequestTexts.{IsRequest}
 use Rattle.conduit_rules.specs.ById.{id_bound}
 use Rattle.conduit_rules.specs.Plans.{is_purged, purged_at, purged_ids}
-use Rattle.conduit_rules.specs.States.{Held, first, has_row}
+use Rattle.conduit_rules.specs.States.{SideState, first, has_row}
 use Rattle.desktop_session.specs.Acts.{Act}
 use Rattle.desktop_session.specs.Lists.{id_listings, id_parts, listings}
 use Rattle.desktop_session.specs.Requests.{cleaning, closing, ending, listing, listing_ids, reading_at, reading_next, reading_of, removing, resetting}
@@ -180,7 +180,7 @@ fit-removes : (ids : List ℕ) → AllByRecursion (λ (i : ℕ). i ≤ 16777215)
 fit-removes [] all = tt
 fit-removes (i ∷ ids) all = (remove_fits 1 i one (let l = all.0 in omega (arith, l)), fit-removes ids all.1)
 
-purged_bounded : (keep : ℕ → Option ContentValue) (h : ℕ → Held) → AllByRecursion (λ (i : ℕ). i ≤ 16777215) (purged_ids keep h)
+purged_bounded : (keep : ℕ → Option ContentValue) (h : ℕ → SideState) → AllByRecursion (λ (i : ℕ). i ≤ 16777215) (purged_ids keep h)
 purged_bounded keep h =
     all-below (λ (i : ℕ). i ≤ 16777215) (λ i. purged_at (keep i) (h i) i) id_bound (λ i l. by i (is_purged (keep i) (h i)) (below_bound i l))
   where

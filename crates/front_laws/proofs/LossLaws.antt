@@ -19,7 +19,7 @@ use Rattle.session_plan.specs.Skips.{active, head_of, reason_by, skip_of}
 use Rattle.session_plan.specs.Tasks.{Meeting, Task, action_of_word, names, records_of, slot_of, task_of}
 use Rattle.repeat_laws.specs.Losses.{loses_rows}
 use Rattle.repeat_laws.specs.Meetings.{AsksTheSame, IsActive, LeftMerged, action_at, found_of, ids_at}
-use Rattle.repeat_laws.specs.Repeats.{Found, GotIds, IsRead, MayStop, Place, among_news, at_end, before_mark, behind_commit, chosen, left}
+use Rattle.repeat_laws.specs.Repeats.{Finding, GotIds, IsRead, MayStop, Place, among_news, at_end, before_mark, behind_commit, chosen, left}
 use Rattle.repeat_laws.specs.Repeats.{left_at_end, left_behind_commit}
 use Rattle.repeat_laws.proofs.LossLaws.{commit-loses, end-loses, news-loses}
 use Rattle.repeat_laws.proofs.MeetingLaws.{at-the_end, behind-the_commit, reading-shows}
@@ -147,7 +147,7 @@ among-new m next given stands slot = elim stands.begun [
   | inr (user, databases) ↦ λ k. is_new_to (user k) (slot k).marks
 ]
 
-place-loses : (x : Found) (place : Place) → IsRead x → MayStop Sync x place → loses_rows x ≡ false → loses_rows (left Sync x place) ≡ false
+place-loses : (x : Finding) (place : Place) → IsRead x → MayStop Sync x place → loses_rows x ≡ false → loses_rows (left Sync x place) ≡ false
 place-loses x before_mark read may keeps = keeps
 place-loses x (among_news given n) read may keeps = news-loses x given n may keeps
 place-loses x (behind_commit given n) read may keeps = commit-loses x given n read may.got

@@ -20,8 +20,8 @@ use Rattle.session_plan.specs.Limits.{first_over}
 use Rattle.session_plan.specs.Tasks.{Meeting, task_of}
 use Rattle.repeat_laws.specs.Meetings.{AllFollow, Follows, IsActive, action_at, found_of, holding_after, ids_at, last_of, places_of}
 use Rattle.repeat_laws.specs.Renaming.{AreUnknown, SameEnds}
-use Rattle.repeat_laws.specs.Repeats.{AreStops, Found, GotAllIds, GotIds, IsRead, MayStop, NoneUnderGone, Place, all_ids, among_news, at_end, before_mark}
-use Rattle.repeat_laws.specs.Repeats.{EndAlike, Ended, behind_commit, chosen, ended, given_by, ids_given, ids_with, left, left_by, news_done, shown, sides}
+use Rattle.repeat_laws.specs.Repeats.{AreStops, Finding, GotAllIds, GotIds, IsRead, MayStop, NoneUnderGone, Place, all_ids, among_news, at_end, before_mark}
+use Rattle.repeat_laws.specs.Repeats.{EndAlike, Ending, behind_commit, chosen, ended, given_by, ids_given, ids_with, left, left_by, news_done, shown, sides}
 use Rattle.repeat_laws.proofs.CommitLaws.{end-adds, no_contents}
 use Rattle.repeat_laws.proofs.DesktopLaws.{chosen-again}
 use Rattle.repeat_laws.proofs.MeetingLaws.{all-follow, reading-shows}
@@ -39,11 +39,11 @@ use Rattle.front_laws.proofs.UnknownLaws.{IsNewIn, all-new, news-back, unknown-b
 -- ---- what a stop leaves
 
 -- one that goes by the handheld adds nothing
-got_none : (y : Found) (given : List ℕ) → GotIds Handheld y given
+got_none : (y : Finding) (given : List ℕ) → GotIds Handheld y given
 got_none y given = grind (arith, handheld-is (sides y), no_contents given)
 
 -- what is left can be read
-read-left : (a : Action) (y : Found) (place : Place) → IsRead y → MayStop a y place → IsRead (left a y place)
+read-left : (a : Action) (y : Finding) (place : Place) → IsRead y → MayStop a y place → IsRead (left a y place)
 read-left a y before_mark read may = read
 read-left Sync y (among_news given n) read may = read-news Sync y given n read may.got
 read-left Handheld y (among_news given n) read may = read-news Handheld y given n read (got_none y given)
@@ -52,7 +52,7 @@ read-left a y (behind_commit given n) read may = read-commit a y given n read ma
 read-left a y (at_end given view g) read may = may.1
 
 -- where both sides are merged, no record has the id of a gone row
-merged-gone : (a : Action) (y : Found) (given : List ℕ) (g : Bool) → IsRead y → GotIds a y given
+merged-gone : (a : Action) (y : Finding) (given : List ℕ) (g : Bool) → IsRead y → GotIds a y given
     → NoneUnderGone g (ended a y given).base (ended a y given).records
 merged-gone a y given true read got = tt
 merged-gone a y given false read got =
@@ -64,7 +64,7 @@ merged-gone a y given false read got =
       based-merged (chosen a y) (shown y) given true,
     )
 
-gone-left : (a : Action) {y : Found} (place : Place) → IsRead y → MayStop a y place → NoneUnderGone y.gone_counts y.base y.records
+gone-left : (a : Action) {y : Finding} (place : Place) → IsRead y → MayStop a y place → NoneUnderGone y.gone_counts y.base y.records
     → NoneUnderGone (left a y place).gone_counts (left a y place).base (left a y place).records
 gone-left a before_mark read may gone = gone
 gone-left a (among_news given n) read may gone = tt
@@ -78,7 +78,7 @@ no_ids : (ids : List ℕ) → length ids ≡ 0 → ids ≡ []
 no_ids ids few = grind (arith, common_steps)
 
 -- what adds nothing adds nothing later
-adds-left : (a : Action) (y : Found) (place : Place) → IsRead y → MayStop a y place → (chosen a y).adds ≡ [] → (chosen a (left a y place)).adds ≡ []
+adds-left : (a : Action) (y : Finding) (place : Place) → IsRead y → MayStop a y place → (chosen a y).adds ≡ [] → (chosen a (left a y place)).adds ≡ []
 adds-left a y before_mark read may none = none
 adds-left Sync y (among_news given n) read may none =
     no_items (chosen Sync (left Sync y (among_news given n))).adds (length given)
@@ -91,15 +91,15 @@ adds-left a y (at_end given view g) read may none = end-adds a y given view g re
 -- ---- behind some sessions that stopped
 
 -- none came to its commit: the base is the first one, and what no record has none had
-record IsKept (x y : Found) : Type 0 where
+record IsKept (x y : Finding) : Type 0 where
   base : y.base ≡ x.base
   back : (ids : List ℕ) → AllByRecursion (IsNewIn y.records) ids → AllByRecursion (IsNewIn x.records) ids
 
 -- so it is, or nothing is added any more
-abbrev Since : Action → Found → Found → Type 0
+abbrev Since : Action → Finding → Finding → Type 0
 Since a x y = IsKept x y ⊎ ((chosen a y).adds ≡ [])
 
-since-left : (a : Action) (x y : Found) (place : Place) → IsRead y → MayStop a y place → Since a x y → Since a x (left a y place)
+since-left : (a : Action) (x y : Finding) (place : Place) → IsRead y → MayStop a y place → Since a x y → Since a x (left a y place)
 since-left a x y place read may (inr none) = inr (adds-left a y place read may none)
 since-left a x y before_mark read may (inl kept) = inl kept
 since-left a x y (among_news given n) read may (inl kept) = grind (arith, news-back a y given n)
@@ -107,12 +107,12 @@ since-left a x y (behind_commit given n) read may (inl kept) = inr (adds-behind 
 since-left a x y (at_end given view g) read may (inl kept) = inr (end-adds a y given view g read may.0.got may.1)
 
 -- a database as a session finds it behind them
-record IsReady (a : Action) (x y : Found) : Type 0 where
+record IsReady (a : Action) (x y : Finding) : Type 0 where
   read : IsRead y
   gone : NoneUnderGone y.gone_counts y.base y.records
   since : Since a x y
 
-ready-left : {a : Action} (x : Found) {y : Found} (place : Place) → MayStop a y place → IsReady a x y → IsReady a x (left a y place)
+ready-left : {a : Action} (x : Finding) {y : Finding} (place : Place) → MayStop a y place → IsReady a x y → IsReady a x (left a y place)
 ready-left {a} x {y} place may ready =
     grind (arith, read-left a y place ready.read may, gone-left a place ready.read may ready.gone, since-left a x y place ready.read may ready.since)
 
@@ -124,11 +124,11 @@ no_given (suc n) [] = refl
 no_given (suc n) (r ∷ rows) = no_given n rows
 
 -- where nothing is added no id is given
-ids-none : (a : Action) (y : Found) (ids : List ℕ) (n : ℕ) → (chosen a y).adds ≡ [] → given_by (news_done a y ids n) ≡ ids → ids ≡ []
+ids-none : (a : Action) (y : Finding) (ids : List ℕ) (n : ℕ) → (chosen a y).adds ≡ [] → given_by (news_done a y ids n) ≡ ids → ids ≡ []
 ids-none a y ids n none all = grind (arith, no_contents ids, no_given n (replaced_rows (chosen a y).keep (shown y)))
 
 -- where one more stopped, as the next one finds it
-record IsTaken (x : Found) (meeting next : Meeting) (name ids : List ℕ) : Type 0 where
+record IsTaken (x : Finding) (meeting next : Meeting) (name ids : List ℕ) : Type 0 where
   place : Place
   follows : Follows meeting next name place
   may : MayStop (action_at meeting name) (found_of meeting name) place
@@ -137,7 +137,7 @@ record IsTaken (x : Found) (meeting next : Meeting) (name ids : List ℕ) : Type
   ready : IsReady (action_at meeting name) x (found_of next name)
   stay : (later : List ℕ) → AreUnknown x later → AreUnknown x (ids_with (action_at meeting name) place later)
 
-taken : (x : Found) {meeting next : Meeting} {name ids : List ℕ} → IsReady (action_at meeting name) x (found_of meeting name)
+taken : (x : Finding) {meeting next : Meeting} {name ids : List ℕ} → IsReady (action_at meeting name) x (found_of meeting name)
     → NoBase (base_at x.base true) ids → ((chosen (action_at meeting name) (found_of meeting name)).adds ≡ [] → ids ≡ []) → IsStep meeting next name ids
     → IsTaken x meeting next name ids
 taken x {meeting} {name} {ids} ready fresh none_ids step =
@@ -155,7 +155,7 @@ taken x {meeting} {name} {ids} ready fresh none_ids step =
       stay = λ later un. step.stay x later (unknown-both x ids later (unknown-of x ids own fresh) un);
     }
 
-take-step : (x : Found) {meeting next : Meeting} {writes : ℕ} {given : List ℕ} (name : List ℕ) → IsSoundMeeting meeting → first_over meeting ≡ None
+take-step : (x : Finding) {meeting next : Meeting} {writes : ℕ} {given : List ℕ} (name : List ℕ) → IsSoundMeeting meeting → first_over meeting ≡ None
     → RunsAgain meeting next writes given → IsActive meeting name → IsReady (action_at meeting name) x (found_of meeting name)
     → NoBase (base_at x.base true) (ids_at meeting given name) → IsTaken x meeting next name (ids_at meeting given name)
 take-step x {meeting} {next} {writes} {given} name sound none runs is ready fresh =
@@ -179,7 +179,7 @@ take-step x {meeting} {next} {writes} {given} name sound none runs is ready fres
 
 -- ---- all of them
 
-record IsChain (x : Found) (a : Action) (meeting : Meeting) (es : List Later) (later name : List ℕ) : Type 0 where
+record IsChain (x : Finding) (a : Action) (meeting : Meeting) (es : List Later) (later name : List ℕ) : Type 0 where
   steps : List (Meeting × Place)
   last : last_of meeting steps ≡ last_run meeting es
   follows : AllFollow meeting name steps
@@ -196,7 +196,7 @@ ids-other Sync place later other = refl
 ids-other Handheld place later other = refl
 ids-other Desktop place later other = absurd (other refl)
 
-chain : (x : Found) (a : Action) {meeting : Meeting} (es : List Later) (later : List ℕ) {name : List ℕ} → action_at meeting name ≡ a
+chain : (x : Finding) (a : Action) {meeting : Meeting} (es : List Later) (later : List ℕ) {name : List ℕ} → action_at meeting name ≡ a
     → AllRunAgain meeting es → IsActive meeting name → IsReady a x (found_of meeting name) → AreFresh (base_at x.base true) meeting es later name
     → IsChain x a meeting es later name
 chain x a [] later same runs is ready fresh = record {
@@ -220,7 +220,7 @@ chain x a {meeting} (e ∷ es) later {name} same runs is ready fresh =
       follows = (t.follows, rest.follows);
       stops = (
         subst (λ b. MayStop b (found_of meeting name) t.place) same t.may,
-        subst (λ (y : Found). AreStops a y (places_of rest.steps)) (t.follows.finds ∙ ap (λ b. left b (found_of meeting name) t.place) same) rest.stops,
+        subst (λ (y : Finding). AreStops a y (places_of rest.steps)) (t.follows.finds ∙ ap (λ b. left b (found_of meeting name) t.place) same) rest.stops,
       );
       active = rest.active;
       ready = rest.ready;
@@ -291,7 +291,7 @@ all-merged meeting es later name sound runs is fresh got =
     let follow = all-follow meeting name c.steps c.follows in
     let action : action_at last name ≡ a = ap (λ (m : Meeting). action_at m name) (sym c.last) ∙ follow.0 in
     let finds : found_of last name ≡ left_by a x places = ap (λ (m : Meeting). found_of m name) (sym c.last) ∙ follow.1 in
-    let both = both_repeat a places ids up.read c.stops (subst (λ (y : Found). GotIds a y ids) finds got.got) in
+    let both = both_repeat a places ids up.read c.stops (subst (λ (y : Finding). GotIds a y ids) finds got.got) in
     let holds : holding_after last later name ≡ ended a (left_by a x places) ids =
     holds-end last later name c.active ∙ (λ k. ended (action k) (finds k) ids) in
     record {
@@ -299,5 +299,5 @@ all-merged meeting es later name sound runs is fresh got =
       all = c.given;
       got = both.0;
       unknown = up.unknown;
-      ends = subst (λ (e : Ended). EndAlike e (ended a x (all_ids a places ids))) (sym holds) both.1;
+      ends = subst (λ (e : Ending). EndAlike e (ended a x (all_ids a places ids))) (sym holds) both.1;
     }

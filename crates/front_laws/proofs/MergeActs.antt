@@ -6,7 +6,7 @@ use Rattle.pdb_values.specs.Databases.{DatabaseValue}
 use Rattle.pdb_values.specs.declared.user.UserInfo.{UserInfo}
 use Rattle.palm_device.specs.Devices.{Device}
 use Rattle.dlp_commands.specs.DeviceSteps.{tried}
-use Rattle.conduit_rules.specs.States.{Held}
+use Rattle.conduit_rules.specs.States.{SideState}
 use Rattle.conduit_rules.specs.Views.{fast_view, slow_view, view_held}
 use Rattle.record_merge.specs.Merging.{merged_records}
 use Rattle.record_merge.specs.Writes.{GotFreeIds, after, whole}
@@ -116,7 +116,7 @@ make_one : (m : Meeting) (t : Task) {ids : List ℕ} → AreSound (records_of t.
 unfolding view sides
 make_one m t {ids} own given = by (is_fast m t) given.free
   where
-    shown : Bool → ℕ → Held
+    shown : Bool → ℕ → SideState
     shown fast = view_held (if fast then fast_view (base_rows t) (records_of t.handheld) else slow_view (records_of t.handheld))
 
     by : (fast : Bool) → GotFreeIds (choice m t) (shown fast) ids (records_of t.handheld)

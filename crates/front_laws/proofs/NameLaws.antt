@@ -13,7 +13,7 @@ use Rattle.pdb_values.proofs.NamedLaws.{bytes_eq-is, bytes_eq-own}
 use Rattle.palm_device.specs.Devices.{Device}
 use Rattle.palm_device.specs.Records.{with_records}
 use Rattle.conduit_rules.specs.Choices.{Choice}
-use Rattle.conduit_rules.specs.States.{Held}
+use Rattle.conduit_rules.specs.States.{SideState}
 use Rattle.record_merge.specs.Writes.{GotFreeIds, Write, after, clearing, giving}
 use Rattle.record_merge.proofs.AfterLaws.{after-append}
 use Rattle.session_plan.specs.Choosing.{action_or_sync, choice, seen_held, add_count}
@@ -76,12 +76,12 @@ has_share : (m : Meeting) (t : Task) (is : IsReady m t) (s : Share) {o : Option 
 has_share m t is s {o} share =
     let writes = take s.count (giving (choice m t) (seen_held m t) s.used) in
     let same : writes ≡ news_done (action_or_sync t.action) (found m t) s.used s.count =
-    ap {A = Choice × (ℕ → Held)} (λ p. take s.count (giving p.0 p.1 s.used)) (λ k. (chosen-is m t k, shown-is m t k)) in
+    ap {A = Choice × (ℕ → SideState)} (λ p. take s.count (giving p.0 p.1 s.used)) (λ k. (chosen-is m t k, shown-is m t k)) in
     record {
       stands = subst (λ (ws : List Write). StandsWith t ws o) same (stands share.stands);
       all = ap given_by (sym same) ∙ share.has.own;
       free = subst (λ (rs : List Record). GotFreeIds (chosen (action_or_sync t.action) (found m t)) (shown (found m t)) s.used rs) (before_records is)
-          (subst (λ (p : Choice × (ℕ → Held)). GotFreeIds p.0 p.1 s.used is.b.records) (λ k. (chosen-is m t k, shown-is m t k)) share.has.free);
+          (subst (λ (p : Choice × (ℕ → SideState)). GotFreeIds p.0 p.1 s.used is.b.records) (λ k. (chosen-is m t k, shown-is m t k)) share.has.free);
     }
   where
     stands : (o ≡ Some (with_some m t s.count s.used is.b)) ⊎ ((o ≡ t.handheld) × (s.count ≡ 0))
@@ -197,7 +197,7 @@ has_cleared m t is given count there free =
     let ids = take (add_count m t) given in
     let x = found m t in
     let a = action_or_sync t.action in
-    let pair : ◌≡◌ {A = Choice × (ℕ → Held)} (choice m t, seen_held m t) (chosen a x, shown x) = λ k. (chosen-is m t k, shown-is m t k) in
+    let pair : ◌≡◌ {A = Choice × (ℕ → SideState)} (choice m t, seen_held m t) (chosen a x, shown x) = λ k. (chosen-is m t k, shown-is m t k) in
     let few = length-take (add_count m t) given in
     record {
       stands = record {
@@ -209,7 +209,7 @@ has_cleared m t is given count there free =
             ∙ ap (λ p. after (giving p.0 p.1 ids ++ take count (clearing p.0 p.1)) is.b.records) pair);
       };
       free = record {
-        got = subst (λ (p : Choice × (ℕ → Held)). GotFreeIds p.0 p.1 ids (records_of t.handheld)) pair free.free;
+        got = subst (λ (p : Choice × (ℕ → SideState)). GotFreeIds p.0 p.1 ids (records_of t.handheld)) pair free.free;
         each = (let most = free.each in omega (arith, few, most)) ∙ ap (λ (c : Choice). length c.adds) (chosen-is m t);
       };
     }

@@ -18,7 +18,7 @@ use Rattle.palm_device.specs.Records.{place_of_id, put_record}
 use Rattle.palm_device.specs.Soundness.{ids_of}
 use Rattle.handheld_files.proofs.SettledLaws.{least_free, least_low}
 use Rattle.conduit_rules.specs.Choices.{Choice}
-use Rattle.conduit_rules.specs.States.{Held, first}
+use Rattle.conduit_rules.specs.States.{SideState, first}
 use Rattle.record_merge.specs.Writes.{AreFree, GotFreeIds, after, numbered, replaces}
 use Rattle.record_merge.proofs.PutLaws.{first-put}
 use Rattle.session_plan.specs.Choosing.{action_or_sync, base_rows, base_rows_by, choice, seen_held, add_count}
@@ -29,7 +29,7 @@ use Rattle.session_plan.specs.Skips.{active}
 use Rattle.session_plan.specs.Tasks.{Meeting, Task, records_of, slot_of, task_of}
 use Rattle.repeat_laws.specs.Meetings.{IsActive, action_at, found, found_of, ids_at, ids_dealt}
 use Rattle.repeat_laws.specs.Renaming.{AreUnknown, is_known}
-use Rattle.repeat_laws.specs.Repeats.{Found, GotAllIds}
+use Rattle.repeat_laws.specs.Repeats.{Finding, GotAllIds}
 use Rattle.repeat_laws.proofs.MergedLaws.{IsTask}
 use Rattle.repeat_laws.proofs.TaskLaws.{is-active}
 use Rattle.repeat_laws.proofs.WholeLaws.{chosen-is, shown-is}
@@ -94,7 +94,7 @@ fresh-free (suc n) taken (c ∷ cs) records few none =
           let parts = both_false (g == h) (is_among h taken) apart in first-then g h c records parts.0 (none h parts.1)),
     )
 
-are-unknown : (x : Found) (ids : List ℕ) → AllByRecursion (λ (g : ℕ). is_known x g ≡ false) ids → AreUnknown x ids
+are-unknown : (x : Finding) (ids : List ℕ) → AllByRecursion (λ (g : ℕ). is_known x g ≡ false) ids → AreUnknown x ids
 are-unknown x [] all = tt
 are-unknown x (g ∷ ids) all = (all.0, are-unknown x ids all.1)
 
@@ -156,7 +156,7 @@ givable m sound t kept room =
     (λ g apart. first-apart g (records_then m t) (among-append g (ids_of (records_then m t)) (ids_of rs ++ ids_of (base_rows t)) apart).0) in
     record {
       got = record {
-        got = subst (λ (p : Choice × (ℕ → Held)). GotFreeIds p.0 p.1 (ids_for m t) rs) (λ k. (chosen-is m t k, shown-is m t k)) free;
+        got = subst (λ (p : Choice × (ℕ → SideState)). GotFreeIds p.0 p.1 (ids_for m t) rs) (λ k. (chosen-is m t k, shown-is m t k)) free;
         each = ids-count m t ∙ ap (λ (c : Choice). length c.adds) (chosen-is m t);
       };
       unknown = are-unknown (found m t) (ids_for m t) (fresh-each (λ g. is_known (found m t) g ≡ false) (add_count m t) (taken_for m t) (λ g apart.

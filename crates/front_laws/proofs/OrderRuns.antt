@@ -6,7 +6,7 @@ use Rattle.palm_device.specs.Devices.{Device}
 use Rattle.dlp_commands.specs.DeviceRuns.{DeviceRun, exchanged}
 use Rattle.desktop_session.specs.Acts.{Act, text}
 use Rattle.desktop_session.specs.Orders.{AreAnswered, AreInOrder}
-use Rattle.desktop_session.specs.Tellings.{AreSayable, IsProper, IsSayable, exchanges, told}
+use Rattle.desktop_session.specs.Tellings.{AreSayable, IsTellable, IsSayable, exchanges, told}
 use Rattle.desktop_session.proofs.ActLaws.{read_back}
 use Rattle.desktop_session.proofs.OrderLaws.{order_answered}
 use Rattle.desktop_session.proofs.TellLaws.{acted_proper, acted_reads}
@@ -27,7 +27,7 @@ use Rattle.front_laws.proofs.RunLaws.{answers, asks, exchanges-are, given_to, id
 
 -- ---- exchanges
 
-told_exchanges : (acts : List Act) {device : Device} → Fit acts → IsProper device → GetFreeIds acts device → AreAnswered acts device
+told_exchanges : (acts : List Act) {device : Device} → Fit acts → IsTellable device → GetFreeIds acts device → AreAnswered acts device
     → AllByRecursion IsAnsweredExchange (exchanges acts device)
 unfolding text
 told_exchanges [] fit proper free answered = tt
@@ -66,7 +66,7 @@ relabel-fit ids (act ∷ acts) fit = by (asks act) (λ is. relabel-fit is acts f
 -- ---- a run
 
 -- by acts that keep their order, whichever ids they give
-run_answered : (bare : List Act) {old : Device} (new : Device) (replies : List (List ℕ)) → Fit bare → IsProper old
+run_answered : (bare : List Act) {old : Device} (new : Device) (replies : List (List ℕ)) → Fit bare → IsTellable old
     → ((ids : List ℕ) → GetFreeIds (relabel ids bare) old → AreInOrder (relabel ids bare) old) → DeviceRun old (map text bare) replies new
     → AllByRecursion IsAnsweredExchange (exchanged (map text bare) replies)
 run_answered bare {old} new replies fit proper order run =
@@ -82,7 +82,7 @@ abbrev IsRunAnswered : Device → Device → List (List ℕ) → List (List ℕ)
 IsRunAnswered old new replies asked = DeviceRun old asked replies new → AllByRecursion IsAnsweredExchange (exchanged asked replies)
 
 -- by acts that keep their order, fit into messages, and ask for no ids
-pub plain-answered : (acts : List Act) (count : ℕ) {old : Device} (replies : List (List ℕ)) (reached : Device) → Fit acts → NoAsk acts → IsProper old
+pub plain-answered : (acts : List Act) (count : ℕ) {old : Device} (replies : List (List ℕ)) (reached : Device) → Fit acts → NoAsk acts → IsTellable old
     → AreInOrder (take count acts) old → DeviceRun old (take count (map text acts)) replies reached
     → AllByRecursion IsAnsweredExchange (exchanged (take count (map text acts)) replies)
 plain-answered acts count {old} replies reached fit none proper order =

@@ -19,7 +19,7 @@ use Rattle.dlp_commands.specs.Changes.{asks_by, given_in}
 use Rattle.dlp_commands.specs.DeviceRuns.{Exchange, Ran, exchanged}
 use Rattle.dlp_commands.specs.DeviceSteps.{DeviceStep, FormMayGive, MayGive, MayGiveTo}
 use Rattle.desktop_session.specs.Acts.{Act, acted, text}
-use Rattle.desktop_session.specs.Tellings.{AreSayable, IsProper, device_after, exchanges, told}
+use Rattle.desktop_session.specs.Tellings.{AreSayable, IsTellable, device_after, exchanges, told}
 use Rattle.desktop_session.proofs.ActLaws.{read_back, step_tried, tried_fixed}
 use Rattle.desktop_session.proofs.TellLaws.{acted_proper, acted_reads}
 use Rattle.front_laws.specs.Given.{GetFreeIds, id_in, ids_in}
@@ -159,7 +159,7 @@ runs-by (act ∷ acts) old new (r ∷ replies) fit count ran =
 form_writes : (f : Form) (fields : Fields (kinds_of f)) → asks_by f fields ≡ true → number_of_form f ≡ 0x21
 form_writes f fields is = grind (arith, common_steps)
 
-given_one : (b : Bool) (act : Act) {device : Device} → asks act ≡ b → IsRequest act.asks → IsProper device → MayAct act device
+given_one : (b : Bool) (act : Act) {device : Device} → asks act ≡ b → IsRequest act.asks → IsTellable device → MayAct act device
     → (asks act ≡ true → told act device ≡ reply.WriteRecord act.given) → given_in (text act) (acted act device).0 ≡ id_in act
 unfolding given_in text
 given_one false act is fits proper may tells = grind (arith, [], read_back act.asks fits)
@@ -172,7 +172,7 @@ given_one true act {device} is fits proper may tells =
       read_back act.asks fits,
     )
 
-pub given-all : (acts : List Act) {device : Device} → Fit acts → IsProper device → GetFreeIds acts device → TellIds acts device
+pub given-all : (acts : List Act) {device : Device} → Fit acts → IsTellable device → GetFreeIds acts device → TellIds acts device
     → flat_map (λ (e : Exchange). given_in e.request e.reply) (exchanges acts device) ≡ ids_in acts
 given-all [] fit proper free tells = refl
 given-all (act ∷ acts) {device} fit proper free tells =

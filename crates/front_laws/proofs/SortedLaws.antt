@@ -12,7 +12,7 @@ use Rattle.conduit_rules.specs.Contents.{count_of}
 use Rattle.conduit_rules.specs.Fates.{fate_under}
 use Rattle.conduit_rules.specs.News.{less_one, live_contents, loose, unpaired}
 use Rattle.conduit_rules.specs.Plans.{replaced_rows, replacement}
-use Rattle.conduit_rules.specs.States.{Held, nothing, live, archived, Based, no_base, row, gone, base_at, based_under, based_where, first, has_row}
+use Rattle.conduit_rules.specs.States.{SideState, nothing, live, archived, BaseState, no_base, row, gone, base_at, based_under, based_where, first, has_row}
 use Rattle.conduit_rules.specs.Views.{fast_seen, fast_view, slow_seen, slow_view, unread_where}
 use Rattle.conduit_rules.specs.declared.action.Action.{Action}
 use Rattle.conduit_rules.specs.declared.view.Seen.{Seen}
@@ -23,12 +23,12 @@ use Rattle.front_laws.proofs.WriteActs.{IsSorted}
 abbrev pub HasSorted : Record → Type 0
 HasSorted r = IsSorted r.content
 
-abbrev IfHeld : Held → Type 0
+abbrev IfHeld : SideState → Type 0
 IfHeld nothing = Unit {0}
 IfHeld (live c) = IsSorted c
 IfHeld (archived c) = IsSorted c
 
-abbrev IfBased : Based → Type 0
+abbrev IfBased : BaseState → Type 0
 IfBased no_base = Unit {0}
 IfBased (row c) = IsSorted c
 IfBased (gone c) = IsSorted c
@@ -57,14 +57,14 @@ listed P o is = grind (arith, common_steps)
 
 -- ---- what becomes of an id
 
-fate_keep : (a : Action) (b : Based) (h d : Held) → IfBased b → IfHeld h → IfHeld d → IfSome (fate_under a b h d).keep IsSorted
+fate_keep : (a : Action) (b : BaseState) (h d : SideState) → IfBased b → IfHeld h → IfHeld d → IfSome (fate_under a b h d).keep IsSorted
 fate_keep a b h d of_b of_h of_d = grind (arith, common_steps)
 
-fate_news : (a : Action) (b : Based) (h d : Held) → IfHeld d → IfSome (fate_under a b h d).news IsSorted
+fate_news : (a : Action) (b : BaseState) (h d : SideState) → IfHeld d → IfSome (fate_under a b h d).news IsSorted
 fate_news a b h d of_d = grind (arith, common_steps)
 
 -- nothing is kept under the id 0
-none_kept : (a : Action) (d : Held) → (fate_under a no_base nothing d).keep ≡ None
+none_kept : (a : Action) (d : SideState) → (fate_under a no_base nothing d).keep ≡ None
 none_kept a d = grind (arith, common_steps)
 
 -- ---- the sides
@@ -93,7 +93,7 @@ view_sorted : (f : Record → Seen) (records : List Record) → ((r : Record) �
     → AllByRecursion SeenSorted (each_id (λ i. option_to_list (option_map f (first i records))))
 view_sorted f records each all = grind (arith, all-below SeenSorted, found HasSorted)
 
-unread_sorted : (b : Based) (r : Record) → IfBased b → HasSorted r → SeenSorted (unread_where b r)
+unread_sorted : (b : BaseState) (r : Record) → IfBased b → HasSorted r → SeenSorted (unread_where b r)
 unread_sorted b r of_b is = grind (arith, common_steps)
 
 fast_sorted : (base : List Record) (r : Record) → AllByRecursion HasSorted base → HasSorted r → SeenSorted (fast_seen base r)
@@ -148,7 +148,7 @@ pub below_bound : (i : ℕ) → i < id_bound → i ≤ 16777215
 unfolding id_bound
 below_bound i l = omega (arith, l)
 
-replaced_one : (i : ℕ) (k : Option ContentValue) (h : Held) → (i ≡ 0 → k ≡ None) → i ≤ 16777215 → IfSome k IsSorted
+replaced_one : (i : ℕ) (k : Option ContentValue) (h : SideState) → (i ≡ 0 → k ≡ None) → i ≤ 16777215 → IfSome k IsSorted
     → AllByRecursion IsReplacement (with_id i (replacement k h))
 replaced_one i k h zero_none bounded is = grind (arith, common_steps)
 

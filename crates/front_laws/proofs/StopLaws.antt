@@ -34,7 +34,7 @@ use Rattle.session_plan.specs.Users.{begun_user}
 use Rattle.repeat_laws.specs.Meetings.{AsksTheSame, Follows, IsActive, IsLikeFirst, LeftAmongNews, LeftAtEnd, LeftBehindCommit, LeftMerged, StandsLike}
 use Rattle.repeat_laws.specs.Meetings.{action_at, found_of, holding_after, ids_at}
 use Rattle.repeat_laws.specs.Renaming.{AreUnknown, SameEnds}
-use Rattle.repeat_laws.specs.Repeats.{Found, GotAllIds, GotIds, IsRead, MayStop, NoneUnderGone, Place, among_news, at_end, before_mark, behind_commit, chosen}
+use Rattle.repeat_laws.specs.Repeats.{Finding, GotAllIds, GotIds, IsRead, MayStop, NoneUnderGone, Place, among_news, at_end, before_mark, behind_commit, chosen}
 use Rattle.repeat_laws.specs.Repeats.{given_by, ids_given, ids_with, left_behind_commit, news_done, shown, sides}
 use Rattle.repeat_laws.proofs.CommitLaws.{commit-adds, end-adds}
 use Rattle.repeat_laws.proofs.MeetingLaws.{among-news, at-the_end, behind-the_commit, reading-shows}
@@ -72,21 +72,21 @@ left-behind {meeting} next {given} stands name is asks begun slot number =
 
 -- ---- where a session may stop
 
-unknown-back : (x : Found) (xs ys : List ℕ) → AreUnknown x (xs ++ ys) → AreUnknown x ys
+unknown-back : (x : Finding) (xs ys : List ℕ) → AreUnknown x (xs ++ ys) → AreUnknown x ys
 unknown-back x [] ys un = un
 unknown-back x (g ∷ xs) ys un = unknown-back x xs ys un.1
 
 take_nothing : (n : ℕ) {ws : List Write} → ws ≡ [] → take n ws ≡ []
 take_nothing n is = grind (arith, common_steps)
 
-may-among : (a : Action) {x : Found} {given : List ℕ} (n : ℕ) → IsRead x → given_by (news_done a x given n) ≡ given → GotIds a x given
+may-among : (a : Action) {x : Finding} {given : List ℕ} (n : ℕ) → IsRead x → given_by (news_done a x given n) ≡ given → GotIds a x given
     → NoBase (base_at x.base true) given → NoneUnderGone x.gone_counts x.base x.records → MayStop a x (among_news given n)
 may-among Sync n read all free fresh gone = record { read = read; all = all; got = free; fresh = fresh; gone = gone }
 may-among Handheld {x} {given} n read all free fresh gone = grind (arith, take_nothing n (handheld-given (sides x) given))
 may-among Desktop n read all free fresh gone = free
 
 -- ids that stand in the end are among those that were given
-module _ (x : Found) (given later : List ℕ) (un : AreUnknown x (given ++ later)) where
+module _ (x : Finding) (given later : List ℕ) (un : AreUnknown x (given ++ later)) where
   ids-among : (a : Action) (n : ℕ) → AreUnknown x (ids_with a (among_news given n) later)
   ids-among Sync n = un
   ids-among Handheld n = un
@@ -186,14 +186,14 @@ pub record IsStep (meeting next : Meeting) (name ids : List ℕ) : Type 0 where
   pub back : (later : List ℕ) → GotAllIds (action_at meeting name) (found_of next name) later
       → AllByRecursion (IsNewIn (found_of meeting name).records) later
   pub gives : ids_given place ≡ ids
-  pub stay : (x : Found) (later : List ℕ) → AreUnknown x (ids ++ later) → AreUnknown x (ids_with (action_at meeting name) place later)
+  pub stay : (x : Finding) (later : List ℕ) → AreUnknown x (ids ++ later) → AreUnknown x (ids_with (action_at meeting name) place later)
   pub active : IsActive next name
 
 same-action : {meeting next : Meeting} (name : List ℕ) → AsksTheSame meeting next → action_at next name ≡ action_at meeting name
 same-action name asks = ap (λ items. action_or_sync (action_of_word (action_for name items))) asks.actions
 
 -- what a meeting finds of a database depends on no more than this
-abbrev found_from : UserInfo → List DatabaseValue → SlotValue → Bool → List NamedAction → List ℕ → Found
+abbrev found_from : UserInfo → List DatabaseValue → SlotValue → Bool → List NamedAction → List ℕ → Finding
 found_from user databases slot slow items name =
     let handheld = database_of name databases in
     let rows = database_of name slot.shelves.rows in
@@ -240,7 +240,7 @@ step-among {meeting} {next} {given} {name} stands is asks slot number read fresh
             may = may-among a count read (stands.all name) (stands.free name) fresh gone;
             own = own;
             back = λ later got. news-back a x ids count later (subst (λ (rs : List Record). AllByRecursion (IsNewIn rs) later)
-                (ap (λ (y : Found). y.records) follows.finds) (all-new got));
+                (ap (λ (y : Finding). y.records) follows.finds) (all-new got));
             gives = refl;
             stay = λ z later un. ids-among z ids later un a count;
             active = active;
@@ -252,7 +252,7 @@ step-among {meeting} {next} {given} {name} stands is asks slot number read fresh
             follows = record { action = same-action name asks; finds = finds };
             may = tt;
             own = own;
-            back = λ later got. subst (λ (y : Found). AllByRecursion (IsNewIn y.records) later) finds (all-new got);
+            back = λ later got. subst (λ (y : Finding). AllByRecursion (IsNewIn y.records) later) finds (all-new got);
             gives = unwritten-ids a x (task_of meeting name) ids count refl
                 (subst (λ (now : Option DatabaseValue). StandsWith (task_of meeting name) (news_at meeting name ids count) now)
                 (ap (λ (ds : List DatabaseValue). database_of name ds) databases) (stands.each name)) (stands.free name) (stands.all name);
@@ -283,13 +283,13 @@ honest-then {meeting} next given name read got left =
     )
 
 -- behind the commit there are no more adds
-pub adds-behind : (a : Action) (x : Found) (given : List ℕ) (n : ℕ) → IsRead x → GotIds a x given
+pub adds-behind : (a : Action) (x : Finding) (given : List ℕ) (n : ℕ) → IsRead x → GotIds a x given
     → (chosen a (left_behind_commit a x given n)).adds ≡ []
 adds-behind Sync x given n read got = commit-adds Sync x given n tt read got (read-commit Sync x given n read got)
 adds-behind Handheld x given n read got = grind (arith, handheld-is (sides (left_behind_commit Handheld x given n)))
 adds-behind Desktop x given n read got = commit-adds Desktop x given n tt read got (read-commit Desktop x given n read got)
 
-pub none-later : {a : Action} {y : Found} {later : List ℕ} (records : List Record) → (chosen a y).adds ≡ [] → GotAllIds a y later
+pub none-later : {a : Action} {y : Finding} {later : List ℕ} (records : List Record) → (chosen a y).adds ≡ [] → GotAllIds a y later
     → AllByRecursion (IsNewIn records) later
 none-later records none got = grind (arith, common_steps)
 
@@ -311,7 +311,7 @@ step-behind {meeting} {next} {given} {name} stands is asks slot number read =
             may = free;
             own = all-new free;
             back = λ later got. none-later x.records
-                (ap (λ (y : Found). (chosen a y).adds) follows.finds ∙ adds-behind a x ids (stands.count name) read free.got) got;
+                (ap (λ (y : Finding). (chosen a y).adds) follows.finds ∙ adds-behind a x ids (stands.count name) read free.got) got;
             gives = refl;
             stay = λ z later un. ids-behind z ids later un a (stands.count name);
             active = active-behind meeting next given stands name is asks slot;
@@ -328,7 +328,7 @@ step-behind {meeting} {next} {given} {name} stands is asks slot number read =
             may = (free, then_read);
             own = all-new free;
             back = λ later got. none-later x.records
-                (ap (λ (y : Found). (chosen a y).adds) follows.finds ∙ end-adds a x ids seen (not (agrees next)) read free.got then_read) got;
+                (ap (λ (y : Finding). (chosen a y).adds) follows.finds ∙ end-adds a x ids seen (not (agrees next)) read free.got then_read) got;
             gives = refl;
             stay = λ z later un. ids-end z ids later un a seen (not (agrees next));
             active = active-again meeting next given name merged is;

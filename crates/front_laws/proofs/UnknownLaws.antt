@@ -7,13 +7,13 @@ use Rattle.pdb_values.specs.Contents.{ContentValue}
 use Rattle.pdb_values.specs.declared.record.Record.{Record}
 use Rattle.palm_device.specs.Records.{put_record}
 use Rattle.conduit_rules.specs.Plans.{replaced_rows}
-use Rattle.conduit_rules.specs.States.{Based, base_at, based_under, first, no_base}
+use Rattle.conduit_rules.specs.States.{BaseState, base_at, based_under, first, no_base}
 use Rattle.conduit_rules.specs.declared.action.Action.{Action}
 use Rattle.record_merge.specs.Stops.{NoBase}
 use Rattle.record_merge.specs.Writes.{AreFree, adding, after, numbered, replaces}
 use Rattle.record_merge.proofs.AfterLaws.{after-replaces, free_before, free_before_all, place-first}
 use Rattle.repeat_laws.specs.Renaming.{AreUnknown}
-use Rattle.repeat_laws.specs.Repeats.{Found, GotAllIds, GotIds, chosen, given_by, news_done, shown}
+use Rattle.repeat_laws.specs.Repeats.{Finding, GotAllIds, GotIds, chosen, given_by, news_done, shown}
 use Rattle.front_laws.proofs.ReadyLaws.{all-map}
 
 -- no record has the id
@@ -29,7 +29,7 @@ free-new [] now records back free = tt
 free-new (e ∷ es) now records back free =
     grind (arith, place-first e.0 now free.0.none, free-new es (put_record e.0 e.1 now) records, free_before e.0 e.1 now)
 
-got-new : (a : Action) (x : Found) (ids : List ℕ) → GotIds a x ids
+got-new : (a : Action) (x : Finding) (ids : List ℕ) → GotIds a x ids
     → AllByRecursion (λ (e : ℕ × ContentValue). IsNewIn x.records e.0) (numbered ids (chosen a x).adds)
 got-new a x ids got =
     let es = replaced_rows (chosen a x).keep (shown x) in
@@ -49,7 +49,7 @@ given-new Q zero (r ∷ rows) es all = tt
 given-new Q (suc n) (r ∷ rows) es all = given-new Q n rows es all
 
 -- those of a session that stopped among its news
-pub news-new : (a : Action) (x : Found) (ids : List ℕ) (n : ℕ) → GotIds a x ids → given_by (news_done a x ids n) ≡ ids
+pub news-new : (a : Action) (x : Finding) (ids : List ℕ) (n : ℕ) → GotIds a x ids → given_by (news_done a x ids n) ≡ ids
     → AllByRecursion (IsNewIn x.records) ids
 news-new a x ids n got all =
     grind (arith, given-new (IsNewIn x.records) n (replaced_rows (chosen a x).keep (shown x)) (numbered ids (chosen a x).adds) (got-new a x ids got))
@@ -64,7 +64,7 @@ numbered-new Q (i ∷ ids) (c ∷ cs) same all = (all.0, numbered-new Q ids cs (
     pred_same m n is = omega (arith, is)
 
 -- those of one that got all
-pub all-new : {a : Action} {x : Found} {ids : List ℕ} → GotAllIds a x ids → AllByRecursion (IsNewIn x.records) ids
+pub all-new : {a : Action} {x : Finding} {ids : List ℕ} → GotAllIds a x ids → AllByRecursion (IsNewIn x.records) ids
 all-new {a} {x} {ids} got = numbered-new (IsNewIn x.records) ids (chosen a x).adds got.each (got-new a x ids got.got)
 
 -- ---- what wasn't there before the news
@@ -81,7 +81,7 @@ back-given n [] es records g none = back-added n es records g none
 back-given zero (r ∷ rows) es records g none = none
 back-given (suc n) (r ∷ rows) es records g none = free_before r.0 r.1 records g (back-given n rows es (put_record r.0 r.1 records) g none)
 
-pub news-back : (a : Action) (x : Found) (ids : List ℕ) (n : ℕ) (later : List ℕ)
+pub news-back : (a : Action) (x : Finding) (ids : List ℕ) (n : ℕ) (later : List ℕ)
     → AllByRecursion (IsNewIn (after (news_done a x ids n) x.records)) later → AllByRecursion (IsNewIn x.records) later
 news-back a x ids n later all =
     grind (
@@ -98,21 +98,21 @@ base_none g o some is = grind (arith, common_steps)
 neither : {a b : Bool} → a ≡ false → b ≡ false → (a || b) ≡ false
 neither {b} no_a no_b = ap (λ x. x || b) no_a ∙ no_b
 
-pub unknown-of : (x : Found) (ids : List ℕ) → AllByRecursion (IsNewIn x.records) ids → NoBase (base_at x.base true) ids → AreUnknown x ids
+pub unknown-of : (x : Finding) (ids : List ℕ) → AllByRecursion (IsNewIn x.records) ids → NoBase (base_at x.base true) ids → AreUnknown x ids
 unknown-of x [] new none = tt
 unknown-of x (g ∷ ids) new none = (
   neither (ap is_some new.0.none) (base_none g (first g x.base) new.0.some none.0),
   unknown-of x ids new.1 none.1,
 )
 
-pub none-front : (base : ℕ → Based) (xs ys : List ℕ) → NoBase base (xs ++ ys) → NoBase base xs
+pub none-front : (base : ℕ → BaseState) (xs ys : List ℕ) → NoBase base (xs ++ ys) → NoBase base xs
 none-front base [] ys none = tt
 none-front base (g ∷ xs) ys none = (none.0, none-front base xs ys none.1)
 
-pub none-back : (base : ℕ → Based) (xs ys : List ℕ) → NoBase base (xs ++ ys) → NoBase base ys
+pub none-back : (base : ℕ → BaseState) (xs ys : List ℕ) → NoBase base (xs ++ ys) → NoBase base ys
 none-back base [] ys none = none
 none-back base (g ∷ xs) ys none = none-back base xs ys none.1
 
-pub unknown-both : (x : Found) (xs ys : List ℕ) → AreUnknown x xs → AreUnknown x ys → AreUnknown x (xs ++ ys)
+pub unknown-both : (x : Finding) (xs ys : List ℕ) → AreUnknown x xs → AreUnknown x ys → AreUnknown x (xs ++ ys)
 unknown-both x [] ys first second = second
 unknown-both x (g ∷ xs) ys first second = (first.0, unknown-both x xs ys first.1 second)

@@ -14,7 +14,7 @@ use Rattle.record_merge.specs.Writes.{Write, adding, after, numbered, replaces}
 use Rattle.record_merge.proofs.PutLaws.{first-put}
 use Rattle.session_plan.specs.Merges.{handheld_before}
 use Rattle.session_plan.specs.Tasks.{Task, records_of}
-use Rattle.repeat_laws.specs.Repeats.{Found, GotIds, chosen, given_by, news_done, shown}
+use Rattle.repeat_laws.specs.Repeats.{Finding, GotIds, chosen, given_by, news_done, shown}
 use Rattle.front_laws.specs.Stops.{IsWritten, StandsWith}
 use Rattle.front_laws.proofs.UnknownLaws.{news-new}
 
@@ -57,7 +57,7 @@ given-there (suc n) (r ∷ rows) es records g ids is = given-there n rows es (pu
 
 -- ---- so nothing was added
 
-none-given : (a : Action) (x : Found) (ids : List ℕ) (n : ℕ) → GotIds a x ids → given_by (news_done a x ids n) ≡ ids
+none-given : (a : Action) (x : Finding) (ids : List ℕ) (n : ℕ) → GotIds a x ids → given_by (news_done a x ids n) ≡ ids
     → after (news_done a x ids n) x.records ≡ x.records → ids ≡ []
 none-given a x [] n got all same = refl
 none-given a x (g ∷ ids) n got all same =
@@ -66,7 +66,7 @@ none-given a x (g ∷ ids) n got all same =
     let no : false ≡ true = sym (ap is_some new.0.none) ∙ ap (λ (rs : List Record). is_some (first g rs)) (sym same) ∙ there in
     absurd (cc)
 
-pub unwritten-ids : (a : Action) (x : Found) (t : Task) (ids : List ℕ) (n : ℕ) → x.records ≡ records_of t.handheld
+pub unwritten-ids : (a : Action) (x : Finding) (t : Task) (ids : List ℕ) (n : ℕ) → x.records ≡ records_of t.handheld
     → StandsWith t (news_done a x ids n) t.handheld → GotIds a x ids → given_by (news_done a x ids n) ≡ ids → [] ≡ ids
 unwritten-ids a x t ids n own stands got all = elim stands [
   | inl none ↦ sym (ap given_by none.1) ∙ all

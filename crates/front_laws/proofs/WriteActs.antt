@@ -22,7 +22,7 @@ use Rattle.palm_device.proofs.RecordLaws.{without_record_none}
 use Rattle.dlp_commands.specs.DeviceSteps.{outcome, tried}
 use Rattle.dlp_commands.specs.Errors.{not_found}
 use Rattle.dlp_commands.specs.Holding.{on_records}
-use Rattle.dlp_commands.specs.Reached.{Tried, writes}
+use Rattle.dlp_commands.specs.Reached.{Trial, writes}
 use Rattle.dlp_commands.specs.Writings as writing
 use Rattle.dlp_commands.specs.Writings.{WritingValue, written_in}
 use Rattle.desktop_session.specs.Acts.{acted}
@@ -154,7 +154,7 @@ module _ {o : Opened} {d : DatabaseValue} {databases : List DatabaseValue} (user
           write_done may user rs (without_record id rs) 0 0x22 (writing.DeleteRecord 0 id) reply.DeleteRecord
           (removed_written id rs d may.records found)
       by None none =
-          ap (λ (r : Tried). (outcome (holding o d databases user rs) 0x22 r).1)
+          ap (λ (r : Trial). (outcome (holding o d databases user rs) 0x22 r).1)
           (refused (holding o d databases user rs) (writing.DeleteRecord 0 id) (holding_base may user rs)
           (base_writable may rs) (none_written id rs d may.records none))
           ∙ ap (holding o d databases user) (sym (without_record_none id rs none))

@@ -2,7 +2,7 @@
 use Rattle.std.specs.Prelude.{◌≡◌, ◌≤◌, ◌<◌, ◌++◌, ◌⊎◌, ℕ, true, List, [], ◌∷◌, None}
 use Rattle.pdb_values.specs.NamedDatabases.{database_of}
 use Rattle.palm_device.specs.Devices.{Device}
-use Rattle.conduit_rules.specs.States.{Based, base_at}
+use Rattle.conduit_rules.specs.States.{BaseState, base_at}
 use Rattle.conduit_rules.specs.Views.{IsHonest}
 use Rattle.conduit_rules.specs.declared.action.Action.TheVariants.{Desktop}
 use Rattle.record_merge.specs.Stops.{NoBase}
@@ -65,7 +65,7 @@ last_run meeting [] = meeting
 last_run meeting (e ∷ es) = last_run e.next es
 
 -- no id that one of them gave was that of such a base row
-abbrev pub AreFresh : (ℕ → Based) → Meeting → List Later → List ℕ → List ℕ → Type 0
+abbrev pub AreFresh : (ℕ → BaseState) → Meeting → List Later → List ℕ → List ℕ → Type 0
 AreFresh base meeting [] later name = NoBase base (ids_at meeting later name)
 AreFresh base meeting (e ∷ es) later name =
     NoBase base (ids_at meeting e.given name) × AreFresh base e.next es later name

@@ -8,7 +8,7 @@ use Rattle.conduit_rules.specs.States.{held}
 use Rattle.conduit_rules.specs.Views.{IsHonest}
 use Rattle.session_plan.specs.Choosing.{base_rows, is_fast}
 use Rattle.session_plan.specs.Tasks.{Meeting, records_of, task_of}
-use Rattle.repeat_laws.specs.Repeats.{Ended}
+use Rattle.repeat_laws.specs.Repeats.{Ending}
 
 -- a record that is live and not marked as changed
 abbrev pub IsUnmarked : Record → Type 0
@@ -21,7 +21,7 @@ pub record AreUnmarked (records : List Record) : Type 0 where
 
 -- The handheld's records and the desktop's rows are the same: under each id both have a record of
 -- the same content, or neither has one.
-pub record HasEqualSides (end : Ended) : Type 0 where
+pub record HasEqualSides (end : Ending) : Type 0 where
   pub handheld : AreUnmarked end.records
   pub desktop : AreUnmarked end.rows
   pub same : (id : ℕ) → held end.records id ≡ held end.rows id

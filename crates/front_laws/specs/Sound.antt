@@ -3,7 +3,7 @@ use Rattle.std.specs.Prelude.{◌≡◌, ◌<◌, ◌≤◌, ◌^◌, ◌==◌, 
 use Rattle.std.specs.List.{AllByRecursion, list_any}
 use Rattle.palm_device.specs.Bounds.{IsBoundedDatabase}
 use Rattle.palm_device.specs.Handles.{no_handles}
-use Rattle.desktop_session.specs.Tellings.{IsProper}
+use Rattle.desktop_session.specs.Tellings.{IsTellable}
 use Rattle.desk_store.specs.Shelves.{SlotValue}
 use Rattle.session_plan.specs.Tasks.{Meeting, slot_of}
 
@@ -20,7 +20,7 @@ pub record IsSoundSlot (slot : SlotValue) : Type 0 where
 -- a handheld with nothing open and a desktop's picked slot, whose values keep the bounds of their
 -- types, and a date of 32 bits
 pub record IsSoundMeeting (meeting : Meeting) : Type 0 where
-  pub device : IsProper meeting.device
+  pub device : IsTellable meeting.device
   pub closed : meeting.device.handles ≡ no_handles
   pub slot : IsSoundSlot (slot_of meeting)
   pub date : meeting.wishes.date < 2 ^ 32

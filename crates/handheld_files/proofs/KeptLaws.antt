@@ -19,7 +19,7 @@ use Rattle.pdb_values.proofs.NamedLaws.{AllByRecursion-with_new, NamesRise-with_
 use Rattle.folder_files.specs.InfoFiles.{IsDeviceFile}
 use Rattle.handheld_files.specs.Adding.{AddsDatabase}
 use Rattle.handheld_files.specs.Handhelds.{StandFor, is_database_file, no_user}
-use Rattle.handheld_files.specs.Openings.{HoldsAll, IsFirstBad, Shows, among, database_count}
+use Rattle.handheld_files.specs.Openings.{HoldsAll, IsFirstBad, ShowsOpenFault, among, database_count}
 use Rattle.handheld_files.specs.Reading.{IsPassedOver, ReadsOn, RefusesFile, RefusesOne}
 use Rattle.handheld_files.specs.Settled.{are_settled, as_opened}
 use Rattle.handheld_files.specs.declared.fault.OpenFault.{OpenFault}
@@ -145,7 +145,7 @@ holds_all (Some held) names (Ok handheld) listed few stands =
     record { few = few_are_held held names listed few; stands = stand_all held names handheld.databases.items handheld.user listed stands }
 
 shows_one : (told : Option FileMap) (names : List (List ℕ)) (fault : OpenFault) → IfSome told (λ held. names ≡ finmap.keys held)
-    → count_by is_database_file names ≤ 200 → IfSome told (RefusesOne names fault) → IfSome told (Shows fault)
+    → count_by is_database_file names ≤ 200 → IfSome told (RefusesOne names fault) → IfSome told (ShowsOpenFault fault)
 shows_one (Some held) names TooMany listed few refuses = absurd refuses
 shows_one (Some held) names (BadFile file kind place) listed few refuses =
     (few_are_held held names listed few, subst (λ ns. IsFirstBad ns held (string_bytes {Z = Global} file) kind place) listed refuses)
@@ -154,7 +154,7 @@ shows_one told names fault listed few refuses = tt
 -- why one of all files was refused is why the folder was
 pub shows_all : (told : Option FileMap) (names : List (List ℕ)) (answer : Result Handheld OpenFault) → IfSome told (λ held. names ≡ finmap.keys held)
     → count_by is_database_file names ≤ 200
-    → IfErr answer (λ fault. IfSome told (RefusesOne names fault)) → IfErr answer (λ fault. IfSome told (Shows fault))
+    → IfErr answer (λ fault. IfSome told (RefusesOne names fault)) → IfErr answer (λ fault. IfSome told (ShowsOpenFault fault))
 shows_all told names answer listed few refuses = search (rules, shows_one)
 
 -- ---- readings

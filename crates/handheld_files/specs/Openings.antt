@@ -50,13 +50,13 @@ pub record IsFirstBad (names : List (List ℕ)) (held : FileMap) (name : List �
   pub fails : FirstFails databases name bytes kind place
 
 -- what a folder shows of the cause of each refusal to open it
-abbrev pub Shows : OpenFault → FileMap → Type 0
-Shows Keeper held = ⊤
-Shows TooMany held = most_databases < database_count held
-Shows (BadFile name kind place) held =
+abbrev pub ShowsOpenFault : OpenFault → FileMap → Type 0
+ShowsOpenFault Keeper held = ⊤
+ShowsOpenFault TooMany held = most_databases < database_count held
+ShowsOpenFault (BadFile name kind place) held =
     (database_count held ≤ most_databases)
     × IsFirstBad (finmap.keys held) held (string_bytes {Z = Global} name) kind place
-Shows NoMemory held = ⊤
+ShowsOpenFault NoMemory held = ⊤
 
 -- what a folder holds that was opened
 pub record HoldsAll (held : FileMap) (databases : List DatabaseValue)

@@ -3,7 +3,7 @@ ghost use Rattle.std.specs.Prelude.{◌≡◌, ◌≢◌, ◌+◌, ◌≤◌, �
 ghost use Rattle.hs_folders.specs.Causes.{HasCause};
 ghost use Rattle.hs_folders.specs.Moments.{OnlyRead};
 ghost use Rattle.handheld_files.specs.Handhelds.{StandFor, is_database_file as is_name_of_database};
-ghost use Rattle.handheld_files.specs.Openings.{AreKept, HoldsAll, Shows, among, opened_device};
+ghost use Rattle.handheld_files.specs.Openings.{AreKept, HoldsAll, ShowsOpenFault, among, opened_device};
 ghost use Rattle.handheld_files.specs.Reading.{ReadsFile, RefusesOne};
 ghost use Rattle.palm_device.specs.Bounds.{IsBounded};
 
@@ -25,7 +25,7 @@ pub fn read_folder<F: Folder>(alloc: Global, folder: &mut F) -> Result<Handheld,
     ensures kept { IfOk result (λ handheld. AreKept handheld.databases.items) }
     ensures bounded { IfOk result (λ handheld. IsBounded (opened_device handheld.databases.items
         handheld.user)) }
-    ensures shown { IfErr result (λ fault. IfSome (F.contents folder.old) (Shows fault)) }
+    ensures shown { IfErr result (λ fault. IfSome (F.contents folder.old) (ShowsOpenFault fault)) }
     ensures cause { HasCause (F.faults folder.old) (F.faults folder.new)
         (IsErrOf result OpenFault.Keeper) }
     ensures only_read { OnlyRead F.contents F.moments F.paths F.faults folder.old folder.new }

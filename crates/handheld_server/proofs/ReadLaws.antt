@@ -13,7 +13,7 @@ use Rattle.dlp_commands.specs.Errors.{not_found, not_supported, ◌>>=◌, check
 use Rattle.dlp_commands.specs.Holding.{fits}
 use Rattle.dlp_commands.specs.Readings.{read_in, record_part}
 use Rattle.dlp_commands.specs.declared.holds.Holds.TheVariants as holds
-use Rattle.dlp_commands.specs.Reached.{Tried, reads}
+use Rattle.dlp_commands.specs.Reached.{Trial, reads}
 use Rattle.dlp_commands.specs.declared.reading.Reading.{Reading}
 use Rattle.dlp_commands.specs.declared.reading.Reading.TheVariants as reading
 use Rattle.dlp_commands.proofs.ReachedLaws.{base_at-nowhere, base_at-there}
@@ -68,7 +68,7 @@ pub placed_none : (device : Device) (handle id offset count : ℕ) (opened : Ope
 placed_none device handle id offset count opened is few none = led device handle 65535 id offset count opened
     (database_of opened.name device.databases) is refl (none_by id offset count (database_of opened.name device.databases) few none)
 
-abbrev told : Device → ReplyValue → Tried
+abbrev told : Device → ReplyValue → Trial
 told device answer = Ok (device, answer)
 
 -- what is read of the same database is the same

@@ -16,7 +16,7 @@ use Rattle.dlp_commands.specs.Changes.{changes, is_change}
 use Rattle.dlp_commands.specs.Commands.{Acts, change_number, command_number, quiet_number}
 use Rattle.dlp_commands.specs.DeviceSteps.{first_byte, function_number, outcome}
 use Rattle.dlp_commands.specs.Errors.{◌>>=◌, check, need}
-use Rattle.dlp_commands.specs.Reached.{Tried}
+use Rattle.dlp_commands.specs.Reached.{Trial}
 use Rattle.dlp_commands.specs.Readings.{read_number}
 use Rattle.dlp_commands.specs.UserFunctions.{marked, name_length, name_or_empty, write_user_info}
 use Rattle.dlp_commands.specs.Writings as value
@@ -90,7 +90,7 @@ marked_only user viewer pc date bits name_len name old =
 user_by : (old new : Device) (known : Result UserInfo ℕ) (answer : List ℕ)
     → OnlyParameter known → outcome old 0x11 (known >>= λ user. Ok (record old { user = user }, reply.WriteUserInfo)) ≡ (answer, new)
     → bytes_eq answer (reply_text reply.WriteUserInfo)
-    ≡ is_ok (known >>= λ user. let done : Tried = Ok (record old { user = user }, reply.WriteUserInfo) in done)
+    ≡ is_ok (known >>= λ user. let done : Trial = Ok (record old { user = user }, reply.WriteUserInfo) in done)
 unfolding reply_byte
 user_by old new (Ok user) answer only is =
     let same : reply_text reply.WriteUserInfo ≡ answer = ap (λ (p : List ℕ × Device). p.0) is in

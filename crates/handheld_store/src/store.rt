@@ -11,7 +11,7 @@ ghost use Rattle.palm_device.specs.Bounds.{IsBounded};
 ghost use Rattle.palm_device.specs.Records.{place_of_id};
 ghost use Rattle.folder_files.specs.FileNames as file_names;
 ghost use Rattle.folder_files.specs.InfoFiles.{device_text};
-ghost use Rattle.handheld_files.specs.Openings.{AreKept, HoldsAll, Shows, Stands, opened_device};
+ghost use Rattle.handheld_files.specs.Openings.{AreKept, HoldsAll, ShowsOpenFault, Stands, opened_device};
 ghost use Rattle.handheld_files.specs.Settled.{are_settled};
 ghost use Rattle.handheld_store.specs.Files.{FollowsName};
 ghost use Rattle.handheld_store.specs.Refusals.{create_fault, delete_fault, refusal_of, stops};
@@ -72,7 +72,7 @@ impl<F: Folder> Store<F> {
         ensures sound { IfOk result (λ store. store.sound ≡ true) }
 
         // Why it is refused.
-        ensures shown { IfErr result (λ refused. IfSome (F.contents folder) (Shows refused.0)) }
+        ensures shown { IfErr result (λ refused. IfSome (F.contents folder) (ShowsOpenFault refused.0)) }
         ensures cause { IfErr result (λ refused. HasCause (F.faults folder) (F.faults refused.1)
             (refused.0 ≡ OpenFault.Keeper)) }
         ensures no_fault { IfOk result (λ store. F.faults store.folder ≡ F.faults folder) }

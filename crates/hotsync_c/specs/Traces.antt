@@ -51,7 +51,7 @@ pub record IsProperText (bytes : List ℕ) (requests replies : ℕ) (answer : �
   pub answer_is : answer ≡ pos 0
 
 -- the bytes are the text of a trace, and the answer is the letter of the first rule that it breaks
-pub record BreaksRule (bytes : List ℕ) (requests replies : ℕ) (answer : ℤ) : Type 0 where
+pub record BreaksTraceRule (bytes : List ℕ) (requests replies : ℕ) (answer : ℤ) : Type 0 where
   pub rule : Rule
   pub found : IsFound bytes (Not rule)
   pub answer_is : answer ≡ pos (rule_letter rule)
@@ -70,4 +70,4 @@ pub record IsRefused (bytes : List ℕ) (requests replies : ℕ) (answer : ℤ) 
 abbrev pub IsJudged : List ℕ → ℕ → ℕ → ℤ → Type 0
 IsJudged bytes requests replies answer =
     IsProperText bytes requests replies answer
-    ⊎ (BreaksRule bytes requests replies answer ⊎ IsRefused bytes requests replies answer)
+    ⊎ (BreaksTraceRule bytes requests replies answer ⊎ IsRefused bytes requests replies answer)

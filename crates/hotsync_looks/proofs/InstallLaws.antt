@@ -6,7 +6,8 @@ use Rattle.pdb_files.specs.Faults.{Refuses as FaultRefuses, file_fault}
 use Rattle.pdb_files.specs.declared.bad_kind.BadKind.{BadKind}
 use Rattle.pdb_files.specs.declared.fault.FileFault.{FileFault}
 use Rattle.pdb_files.specs.declared.fault.FileFault.TheVariants.{NoMemory as NoMemoryFault}
-use Rattle.hotsync_looks.specs.BadFiles.{BreaksRule, StandsFor}
+use Rattle.hotsync_looks.specs.BadFiles.{StandsFor}
+use Rattle.handheld_files.specs.BadFiles.{BreaksRule}
 use Rattle.hotsync_looks.specs.InstallFiles.{FileShows, IsFileRefusal}
 use Rattle.hotsync_looks.specs.LookTexts.{source_limit}
 use Rattle.hotsync_looks.specs.declared.status.FileSide.TheVariants.{Source}

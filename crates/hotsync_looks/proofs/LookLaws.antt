@@ -23,12 +23,13 @@ use Rattle.pdb_files.specs.BadKinds.{bad_file}
 use Rattle.pdb_files.specs.Faults.{Refuses as FileRefuses, file_fault}
 use Rattle.pdb_files.specs.declared.fault.FileFault.{FileFault}
 use Rattle.pdb_files.specs.declared.fault.FileFault.TheVariants.{NoMemory as NoMemoryFault}
-use Rattle.hotsync_looks.specs.BadFiles.{BreaksRule, StandsFor}
+use Rattle.hotsync_looks.specs.BadFiles.{StandsFor}
+use Rattle.handheld_files.specs.BadFiles.{BreaksRule}
 use Rattle.hotsync_looks.specs.declared.status.FileSide.TheVariants.{Source}
 use Rattle.hotsync_looks.specs.LookTexts.{BadItem, Cause, Broken, HasBadRecord, Misfit, Unfit, Untraced, Improper, IsCauseOf, IsDatabaseCause, IsDatabaseText, IsImportCause, IsImported, IsUnfit}
-use Rattle.hotsync_looks.specs.LookTexts.{IsPageText, IsProperText, IsReadingCause, IsTextOf, IsTraceCause, NoTextSays, Refuses, RefusesDatabase, RefusesImport, RefusesReading, RefusesTrace, Says, look_text, source_limit}
+use Rattle.hotsync_looks.specs.LookTexts.{IsPageText, IsProperText, IsReadingCause, IsTextOf, IsTraceCause, NoTextSays, Refuses, RefusesDatabase, RefusesImport, RefusesReading, RefusesTrace, SaysOfFile, look_text, source_limit}
 use Rattle.hotsync_looks.specs.ExportTexts.{NoText, Absent, OutOfForm}
-use Rattle.hotsync_looks.specs.Looks.{IsLook, IsLookRefusal, IsReadable, IsTextIn, SourceShows}
+use Rattle.hotsync_looks.specs.Looks.{IsLook, IsLookRefusal, IsShowable, IsTextIn, SourceShows}
 use Rattle.hotsync_looks.specs.Opening.{Opens, OpensAtMost}
 use Rattle.hotsync_looks.specs.Printed.{IsPrinted}
 use Rattle.hotsync_looks.specs.Told.{SinkTold, SourceTold}
@@ -185,17 +186,17 @@ module _ (look : Look) (file bytes : List ℕ) where
   look_too_long status Failed shows failed long none = let short = shows.short in absurd (omega arith)
 
   look_refuses : (status : Status) (Failed : Type 0) → SourceShows look file status bytes → (status ≡ SourceRead → Failed)
-      → (cause : Cause) → length bytes ≤ source_limit → IsCauseOf look bytes cause → ¬ Failed → Says look file cause status ⊎ (status ≡ NoMemory)
+      → (cause : Cause) → length bytes ≤ source_limit → IsCauseOf look bytes cause → ¬ Failed → SaysOfFile look file cause status ⊎ (status ≡ NoMemory)
   look_refuses Done Failed shows failed cause few is none = absurd (text_not_refused look bytes shows.text cause shows.is is)
   look_refuses OutWrite Failed shows failed cause few is none = absurd (text_not_refused look bytes shows.text cause shows.is is)
   look_refuses TooLong Failed shows failed cause few is none = absurd (omega (arith, shows, few))
   look_refuses SourceRead Failed shows failed cause few is none = absurd (none (failed refl))
   look_refuses NoMemory Failed shows failed cause few is none = inr refl
   look_refuses status Failed shows failed cause few is none =
-      inl (subst (λ c. Says look file c status) (one_cause look bytes shows.cause cause shows.is is) shows.says)
+      inl (subst (λ c. SaysOfFile look file c status) (one_cause look bytes shows.cause cause shows.is is) shows.says)
 
   look_complete : (status : Status) (Failed Out : Type 0) → SourceShows look file status bytes → (status ≡ SourceRead → Failed)
-      → (status ≡ OutWrite → Out) → IsReadable look bytes → ¬ Failed → ¬ Out → (status ≡ Done) ⊎ (status ≡ NoMemory)
+      → (status ≡ OutWrite → Out) → IsShowable look bytes → ¬ Failed → ¬ Out → (status ≡ Done) ⊎ (status ≡ NoMemory)
   look_complete Done Failed Out shows failed out readable none free = inl refl
   look_complete OutWrite Failed Out shows failed out readable none free = absurd (free (out refl))
   look_complete TooLong Failed Out shows failed out readable none free = let short = readable.short in absurd (omega arith)
@@ -208,15 +209,15 @@ module _ (look : Look) (file bytes : List ℕ) where
   refusal_shows NoMemory few is = tt
   refusal_shows Done few (inl is) = absurd (silent is.0 is.2)
     where
-      silent : (cause : Cause) → Says look file cause Done → ⊥
+      silent : (cause : Cause) → SaysOfFile look file cause Done → ⊥
       silent cause says = grind (arith, common_steps)
   refusal_shows OutWrite few (inl is) = absurd (silent is.0 is.2)
     where
-      silent : (cause : Cause) → Says look file cause OutWrite → ⊥
+      silent : (cause : Cause) → SaysOfFile look file cause OutWrite → ⊥
       silent cause says = grind (arith, common_steps)
   refusal_shows TooLong few (inl is) = absurd (silent is.0 is.2)
     where
-      silent : (cause : Cause) → Says look file cause TooLong → ⊥
+      silent : (cause : Cause) → SaysOfFile look file cause TooLong → ⊥
       silent cause says = grind (arith, common_steps)
   refusal_shows SourceRead few is = tt
   refusal_shows status few (inl is) = record { short = few; cause = is.0; is = is.1; says = is.2 }
@@ -226,15 +227,15 @@ module _ (look : Look) (file bytes : List ℕ) where
   pub refusal_known : (status : Status) → Refuses look file bytes status → IsLookRefusal status
   refusal_known status (inl is) = known is.0 status is.2
     where
-      known : (cause : Cause) (status : Status) → Says look file cause status → IsLookRefusal status
+      known : (cause : Cause) (status : Status) → SaysOfFile look file cause status → IsLookRefusal status
       known cause status says = grind (arith, common_steps)
   refusal_known status (inr is) = subst IsLookRefusal (sym is) tt
 
   -- and does not blame the source
   pub refusal_blames : (status : Status) (P : Type 0) → Refuses look file bytes status → status ≡ SourceRead → P
-  refusal_blames status P (inl is) e = absurd (silent is.0 (subst (λ s. Says look file is.0 s) e is.2))
+  refusal_blames status P (inl is) e = absurd (silent is.0 (subst (λ s. SaysOfFile look file is.0 s) e is.2))
     where
-      silent : (cause : Cause) → Says look file cause SourceRead → ⊥
+      silent : (cause : Cause) → SaysOfFile look file cause SourceRead → ⊥
       silent cause says = grind (arith, common_steps)
   refusal_blames status P (inr is) e = cc
 
@@ -270,12 +271,12 @@ import_result (Err status) look form file bytes is refuses = subst (λ l. Refuse
 
 -- what is refused as a trace is refused by the look that takes it as one
 reading_refuses : (file bytes : List ℕ) (status : Status) → RefusesReading bytes status → Refuses Picture file bytes status
-reading_refuses file bytes status (inl is) = inl (Untraced is.0, is.1, subst (λ s. Says Picture file (Untraced is.0) s) (sym is.2) refl)
+reading_refuses file bytes status (inl is) = inl (Untraced is.0, is.1, subst (λ s. SaysOfFile Picture file (Untraced is.0) s) (sym is.2) refl)
 reading_refuses file bytes status (inr is) = inr is
 
 trace_refuses : (file bytes : List ℕ) (status : Status) → RefusesTrace bytes status → Refuses Verify file bytes status
-trace_refuses file bytes status (inl is) = inl (Improper is.0, is.1, subst (λ s. Says Verify file (Improper is.0) s) (sym is.2) refl)
-trace_refuses file bytes status (inr (inl is)) = inl (Untraced is.0, is.1, subst (λ s. Says Verify file (Untraced is.0) s) (sym is.2) refl)
+trace_refuses file bytes status (inl is) = inl (Improper is.0, is.1, subst (λ s. SaysOfFile Verify file (Improper is.0) s) (sym is.2) refl)
+trace_refuses file bytes status (inr (inl is)) = inl (Untraced is.0, is.1, subst (λ s. SaysOfFile Verify file (Untraced is.0) s) (sym is.2) refl)
 trace_refuses file bytes status (inr (inr is)) = inr is
 
 pub reading_result : {T : Type 0} (result : Result T Status) (look : Look) (file bytes : List ℕ) → look ≡ Picture
@@ -337,13 +338,13 @@ look_is {look} file source source_after {out} {out_after} {status} ended shown f
   too_long = λ bytes is long. look_too_long look file bytes status (Rose source.faults source_after.faults) (rw is at shown) failed long;
 }
 
-readable_by : {look : Look} {text : List ℕ} (left : Option (List ℕ)) → IsTextIn look left text → IfSome left (IsReadable look)
+readable_by : {look : Look} {text : List ℕ} (left : Option (List ℕ)) → IsTextIn look left text → IfSome left (IsShowable look)
 readable_by None is = tt
 readable_by {look} {text} (Some told) is =
-    subst (IsReadable look) (sym is.told) (record { short = is.short; text = text; is = is.is })
+    subst (IsShowable look) (sym is.told) (record { short = is.short; text = text; is = is.is })
 
 readable_shows : {look : Look} (file : List ℕ) {status : Status} → (status ≡ Done) ⊎ (status ≡ OutWrite) ⊎ (status ≡ NoMemory) → (bytes : List ℕ)
-    → IsReadable look bytes → SourceShows look file status bytes
+    → IsShowable look bytes → SourceShows look file status bytes
 readable_shows file e bytes readable = grind (arith, common_steps)
 
 some_weaken : (P Q : List ℕ → Type 0) (left : Option (List ℕ)) → ((bytes : List ℕ) → P bytes → Q bytes) → IfSome left P → IfSome left Q
@@ -363,7 +364,7 @@ pub look_done : {look : Look} {text : List ℕ} (file : List ℕ) (source source
     → IsLook look file source source_after out out_after status
 look_done {look} file source source_after {status} ended text path opened printed =
     look_is file source source_after (done_ended ended)
-    (some_weaken (IsReadable look) (SourceShows look file status) source.left (readable_shows file ended) (readable_by source.left text))
+    (some_weaken (IsShowable look) (SourceShows look file status) source.left (readable_shows file ended) (readable_by source.left text))
     (done_not_failed (Rose source.faults source_after.faults) ended) path (λ done. opened) printed
 
 refused_is : (P : Status → Type 0) {refusal status : Status} → P refusal → P NoMemory → (status ≡ refusal) ⊎ (status ≡ NoMemory) → P status

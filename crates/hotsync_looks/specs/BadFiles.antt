@@ -2,18 +2,11 @@
 use Rattle.std.specs.Prelude.{◌≡◌, ⊤, ℕ, List, Some, string_bytes}
 use Rattle.std.specs.declared.alloc.Global.{Global}
 use Rattle.pdb_files.specs.BadKinds.{bad_file}
-use Rattle.pdb_files.specs.Faults.{file_fault}
 use Rattle.pdb_files.specs.declared.bad_kind.BadKind.{BadKind}
 use Rattle.pdb_files.specs.declared.fault.FileFault.{FileFault}
 use Rattle.hotsync_looks.specs.declared.status.FileSide.{FileSide}
 use Rattle.hotsync_looks.specs.declared.status.Status.{Status}
 use Rattle.hotsync_looks.specs.declared.status.Status.TheVariants.{BadFile, NoMemory}
-
--- the bytes break a rule of the format
-pub record BreaksRule (bytes : List ℕ) (kind : BadKind) (place : ℕ) : Type 0 where
-  pub rule : FileFault
-  pub first : file_fault bytes ≡ Some rule
-  pub is : bad_file rule ≡ Some (kind, place)
 
 -- the status of a bad file, unless memory ran out
 abbrev pub IsBadStatus : FileSide → List ℕ → BadKind → ℕ → Status → Type 0

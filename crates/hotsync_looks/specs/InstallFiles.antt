@@ -4,7 +4,7 @@ use Rattle.std.specs.declared.alloc.Global.{Global}
 use Rattle.pdb_values.specs.Databases.{DatabaseValue}
 use Rattle.pdb_values.specs.Heads.{is_read_only}
 use Rattle.pdb_files.specs.Files.{IsFileText}
-use Rattle.hotsync_looks.specs.BadFiles.{BreaksRule}
+use Rattle.handheld_files.specs.BadFiles.{BreaksRule}
 use Rattle.hotsync_looks.specs.LookTexts.{source_limit}
 use Rattle.hotsync_looks.specs.declared.status.FileSide.TheVariants.{Source}
 use Rattle.hotsync_looks.specs.declared.status.Status.{Status}

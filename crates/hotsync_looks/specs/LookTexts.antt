@@ -21,7 +21,7 @@ use Rattle.trace_check.specs.declared.rule.Verdict.TheVariants.{Proper, Not}
 use Rattle.run_words.specs.declared.look.Look.{Look}
 use Rattle.run_words.specs.declared.look.Look.TheVariants.{Check, Show, Records, Export as Exported, Import, Verify, Picture}
 use Rattle.run_words.specs.declared.look.ExportForm.{ExportForm}
-use Rattle.hotsync_looks.specs.BadFiles.{BreaksRule}
+use Rattle.handheld_files.specs.BadFiles.{BreaksRule}
 use Rattle.hotsync_looks.specs.ExportTexts.{NoText, Absent, OutOfForm, form_export}
 use Rattle.hotsync_looks.specs.Lines.{line_feed}
 use Rattle.hotsync_looks.specs.declared.status.FileSide.TheVariants.{Source}
@@ -191,26 +191,26 @@ SaysMisfit imports.TooManyRecords (Overfull what) = what ≡ TooManyOf
 SaysMisfit _ _ = ⊥
 
 -- a status that says so, where the file bears this name
-abbrev pub Says : Look → List ℕ → Cause → Status → Type 0
-Says look file (Broken kind place) (BadFile side name found at) =
+abbrev pub SaysOfFile : Look → List ℕ → Cause → Status → Type 0
+SaysOfFile look file (Broken kind place) (BadFile side name found at) =
     (side ≡ Source) × (string_bytes {Z = Global} name ≡ file) × (found ≡ kind) × (at ≡ place)
-Says look file (Unfit name) (CannotExport found form) = HasForm form look × (found ≡ name)
-Says look file (BadItem index place) (BadRecord found at) = (found ≡ index) × (at ≡ place)
-Says look file (Misfit fault) status = SaysMisfit fault status
-Says look file (Untraced line) (BadTrace found) = found ≡ line
-Says look file (Improper rule) (NotProper found) = found ≡ rule
-Says look file _ _ = ⊥
+SaysOfFile look file (Unfit name) (CannotExport found form) = HasForm form look × (found ≡ name)
+SaysOfFile look file (BadItem index place) (BadRecord found at) = (found ≡ index) × (at ≡ place)
+SaysOfFile look file (Misfit fault) status = SaysMisfit fault status
+SaysOfFile look file (Untraced line) (BadTrace found) = found ≡ line
+SaysOfFile look file (Improper rule) (NotProper found) = found ≡ rule
+SaysOfFile look file _ _ = ⊥
 
 -- a status of bytes of which a look prints nothing: it says why, or memory ran out
 abbrev pub Refuses : Look → List ℕ → List ℕ → Status → Type 0
 Refuses look file bytes status =
-    ((cause : Cause) × IsCauseOf look bytes cause × Says look file cause status)
+    ((cause : Cause) × IsCauseOf look bytes cause × SaysOfFile look file cause status)
     ⊎ (status ≡ NoMemory)
 
 -- the same where the bytes are looked at as a database
 abbrev pub RefusesDatabase : Look → List ℕ → List ℕ → Status → Type 0
 RefusesDatabase look file bytes status =
-    ((cause : Cause) × IsDatabaseCause look bytes cause × Says look file cause status)
+    ((cause : Cause) × IsDatabaseCause look bytes cause × SaysOfFile look file cause status)
     ⊎ (status ≡ NoMemory)
 
 -- the same where they are read as a text of memos

@@ -3,7 +3,7 @@
 use Rattle.std.specs.Prelude.{◌≡◌, ◌⊎◌, ⊤, ◌<◌, ◌≤◌, ℕ, List, length, Option, Some, IfSome}
 use Rattle.hs_folders.specs.Causes.{Rose}
 use Rattle.run_words.specs.declared.look.Look.{Look}
-use Rattle.hotsync_looks.specs.LookTexts.{Cause, IsCauseOf, IsTextOf, Says, source_limit}
+use Rattle.hotsync_looks.specs.LookTexts.{Cause, IsCauseOf, IsTextOf, SaysOfFile, source_limit}
 use Rattle.hotsync_looks.specs.Opening.{Opens, OpensAtMost}
 use Rattle.hotsync_looks.specs.Printed.{IsPrinted}
 use Rattle.hotsync_looks.specs.Told.{SinkTold, SourceTold}
@@ -18,26 +18,26 @@ pub record IsTextIn (look : Look) (left : Option (List ℕ)) (text : List ℕ) :
   pub is : IsTextOf look bytes text
 
 -- bytes that are not too many, and of which the look prints something
-pub record IsReadable (look : Look) (bytes : List ℕ) : Type 0 where
+pub record IsShowable (look : Look) (bytes : List ℕ) : Type 0 where
   pub short : length bytes ≤ source_limit
   pub text : List ℕ
   pub is : IsTextOf look bytes text
 
 -- bytes that are not too many, and why the look prints nothing of them, as the status says
-pub record IsRefused (look : Look) (file : List ℕ) (status : Status) (bytes : List ℕ) : Type 0 where
+pub record RefusesLook (look : Look) (file : List ℕ) (status : Status) (bytes : List ℕ) : Type 0 where
   pub short : length bytes ≤ source_limit
   pub cause : Cause
   pub is : IsCauseOf look bytes cause
-  pub says : Says look file cause status
+  pub says : SaysOfFile look file cause status
 
 -- what the source's bytes show of the cause of each status
 abbrev pub SourceShows : Look → List ℕ → Status → List ℕ → Type 0
-SourceShows look file Done bytes = IsReadable look bytes
-SourceShows look file OutWrite bytes = IsReadable look bytes
+SourceShows look file Done bytes = IsShowable look bytes
+SourceShows look file OutWrite bytes = IsShowable look bytes
 SourceShows look file TooLong bytes = source_limit < length bytes
 SourceShows look file SourceRead bytes = ⊤
 SourceShows look file NoMemory bytes = ⊤
-SourceShows look file status bytes = IsRefused look file status bytes
+SourceShows look file status bytes = RefusesLook look file status bytes
 
 -- one of those that a look gives cause for
 abbrev pub IsLookRefusal : Status → Type 0
@@ -74,12 +74,12 @@ pub record IsLook (look : Look) (file : List ℕ) (source source_after : SourceT
   pub printed : IsPrinted (IsTextIn look source.left) out out_after status
   -- Where no object fails, the bytes decide: of them a look prints something, or they are refused,
   -- unless memory runs out.
-  pub complete : (bytes : List ℕ) → source.left ≡ Some bytes → IsReadable look bytes
+  pub complete : (bytes : List ℕ) → source.left ≡ Some bytes → IsShowable look bytes
       → ¬ Rose source.faults source_after.faults → ¬ Rose out.faults out_after.faults
       → (status ≡ Done) ⊎ (status ≡ NoMemory)
   pub refused : (bytes : List ℕ) (cause : Cause) → source.left ≡ Some bytes
       → length bytes ≤ source_limit → IsCauseOf look bytes cause
-      → ¬ Rose source.faults source_after.faults → Says look file cause status ⊎ (status ≡ NoMemory)
+      → ¬ Rose source.faults source_after.faults → SaysOfFile look file cause status ⊎ (status ≡ NoMemory)
   pub too_long : (bytes : List ℕ) → source.left ≡ Some bytes → source_limit < length bytes
       → ¬ Rose source.faults source_after.faults
       → (status ≡ TooLong) ⊎ (status ≡ NoMemory)

@@ -20,7 +20,7 @@ use Rattle.hotsync_run.specs.Makes.{IsMake, MadeNothing, MadeRan}
 use Rattle.hotsync_run.specs.Reports.{IsNotStarted}
 use Rattle.hotsync_run.specs.Runs.{IsRun, SessionRan, run_command}
 use Rattle.hotsync_run.specs.SessionCalls.{SentNothing}
-use Rattle.hotsync_run.specs.Talks.{Talked}
+use Rattle.hotsync_run.specs.Talks.{BegunSession}
 use Rattle.hotsync_looks.specs.Told.{SinkTold}
 use Rattle.hotsync_run.specs.Told.{CallTold, FolderTold, SidesTold}
 use Rattle.hotsync_run.specs.declared.report.Report.{Report}
@@ -51,7 +51,7 @@ module _ {rules : List RuleValue} {before after : FolderTold} {report : Report} 
           run_by line (left.over (subst IsSome (sym over) refl)) (λ count replies last run. read-answered meeting count replies last left.sound run)
 
 talked_answered : {rules : List RuleValue} {meeting : Meeting} {before after : SidesTold} {status : Status} {report : Report}
-    → Talked rules meeting before after status report → AreAnswered report
+    → BegunSession rules meeting before after status report → AreAnswered report
 talked_answered talked = session_answered talked.spoke.line talked.left
 
 not_started : {report : Report} → IsNotStarted report → AreAnswered report

@@ -2,7 +2,7 @@
 use Rattle.std.proofs.Common.{◌≡◌, subst}
 use Rattle.std.specs.Prelude.{Option, Some}
 use Rattle.run_words.specs.Betweens.{Between}
-use Rattle.run_words.specs.Commands.{Backup, Task}
+use Rattle.run_words.specs.Commands.{Backup, WordTask}
 use Rattle.hotsync_run.specs.Backups.{BackupLeft, BackupRan, IsBackup, backup_command}
 use Rattle.hotsync_run.specs.Calls.{Call, IsAnsweredCall, IsCall}
 use Rattle.hotsync_run.specs.Causes.{ByEnd, HasBegun}
@@ -20,7 +20,7 @@ module _ (call : Call) (words : Between) (is : IsAnsweredCall call) (task : call
   Session = BackupRan words call.before call.after call.status call.report
 
   answered : IsBackup words call.before call.after call.out call.out_after call.status call.report
-  answered = subst (λ (task : Option Task). IsCall task call.before call.after call.out call.out_after call.status call.report) task is
+  answered = subst (λ (task : Option WordTask). IsCall task call.before call.after call.out call.out_after call.status call.report) task is
 
   pub backup_refused : call.report.end ≡ NotStarted → Silent
   backup_refused none = subst (λ (e : SessionEnd). ByEnd e Silent Session) none answered.ran.shown

@@ -2,7 +2,7 @@
 use Rattle.std.proofs.lemmas.Grind.{common_steps}
 use Rattle.std.proofs.Common.{arith, ◌≡◌, ◌⊎◌, inl, inr, refl, subst, sym}
 use Rattle.std.specs.Prelude.{None, Option, Some, length}
-use Rattle.run_words.specs.Commands.{Backup, DryRun, Emulate, Categories, Help, Install, LookAt, Make, Restore, Scan, Sync, Task}
+use Rattle.run_words.specs.Commands.{Backup, DryRun, Emulate, Categories, Help, Install, LookAt, Make, Restore, Scan, Sync, WordTask}
 use Rattle.hotsync_run.specs.Calls.{IsCall}
 use Rattle.hotsync_run.specs.Causes.{ByEnd, HasBegun}
 use Rattle.hotsync_looks.proofs.PrintedLaws.{printed_weaken}
@@ -71,7 +71,7 @@ unread_session command before {report = report} kept is printed =
     }
 
 -- what is known of a call that stops before its words are read
-pub unread_call : (task : Option Task) (before : CallTold) {out out_after : SinkTold} {report : Report} → IsNotStarted report
+pub unread_call : (task : Option WordTask) (before : CallTold) {out out_after : SinkTold} {report : Report} → IsNotStarted report
     → IsPrinted (λ text. ⊥) out out_after NoMemory → IsCall task before before out out_after NoMemory report
 unread_call (Some (Sync run)) before is printed =
     unread_session (run_command run) before (record { stands = stands_same refl; unread = λ unread. stays_same refl }) is printed

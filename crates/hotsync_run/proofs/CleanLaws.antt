@@ -6,13 +6,13 @@ use Rattle.trace_text.specs.declared.frame.End.{End}
 use Rattle.trace_text.specs.Fates.{FateValue, Untouched}
 use Rattle.trace_text.specs.Faults.{RepeatsHaveFaults, faulted, is_faulty, newest}
 use Rattle.trace_text.specs.Frames.{add_frame, course_of, fragment_in, is_abort, past_behind, past_of, sent_in}
-use Rattle.trace_text.specs.Past.{Sent, is_repeat}
+use Rattle.trace_text.specs.Past.{PastFrame, is_repeat}
 use Rattle.trace_text.specs.Proper.{AreNumbered}
 use Rattle.trace_text.specs.Tallies.{IsFairUpTo, faults_from}
 use Rattle.trace_text.specs.TraceLines.{FrameValue}
 use Rattle.line_script.specs.Lines.{lines_of}
 use Rattle.line_script.specs.Rules.{RuleValue}
-use Rattle.line_script.specs.Scripts.{AreLines, fate_by}
+use Rattle.line_script.specs.Scripts.{AreRuleLines, fate_by}
 use Rattle.line_steps.specs.declared.harm.Stop.{Stop}
 use Rattle.line_world.specs.Causes.{BearsOut}
 use Rattle.line_world.specs.Stops.{EndsBy}
@@ -41,10 +41,10 @@ go_through : (number : ℕ) (frames : List FrameValue) → AreNumbered number (f
 go_through number [] are = tt
 go_through number (frame ∷ later) are = (are.1, go_through (number + 1) later are.3)
 
-abbrev IsWell : Sent → Type 0
+abbrev IsWell : PastFrame → Type 0
 IsWell frame = faulted frame ≡ false
 
-past_is_well : (past : List Sent) (frames : List FrameValue) → AllByRecursion IsWell past
+past_is_well : (past : List PastFrame) (frames : List FrameValue) → AllByRecursion IsWell past
     → AllByRecursion (λ (frame : FrameValue). frame.fate ≡ Untouched) frames → AllByRecursion IsWell (past_behind past frames)
 past_is_well past [] well through = well
 past_is_well past (frame ∷ later) well through = past_is_well (add_frame frame past) later (by (is_abort (fragment_in frame).kind)) through.1
@@ -53,11 +53,11 @@ past_is_well past (frame ∷ later) well through = past_is_well (add_frame frame
     by true = well
     by false = (ap (λ (f : FateValue). is_faulty (course_of f)) through.0, well)
 
-none_faulted : (past : List Sent) → AllByRecursion IsWell past → newest faulted past ≡ 0
+none_faulted : (past : List PastFrame) → AllByRecursion IsWell past → newest faulted past ≡ 0
 none_faulted [] well = refl
 none_faulted (frame ∷ past) well = grind (arith, length past, none_faulted past well.1)
 
-said_once : (past : List Sent) → AllByRecursion IsWell past → RepeatsHaveFaults past → AreSaidOnce past
+said_once : (past : List PastFrame) → AllByRecursion IsWell past → RepeatsHaveFaults past → AreSaidOnce past
 said_once [] well repeats = tt
 said_once (frame ∷ past) well repeats = (λ X. by X (is_repeat X frame past) refl, said_once past well.1 repeats.1)
   where
@@ -89,7 +89,7 @@ stands _ numbers frames up caused are = λ is. is
 
 -- ---- a script of no lines
 
-no_rule : (rules : List RuleValue) (lines : List (List ℕ)) → AreLines 0 [] lines → AreLines 0 rules lines → rules ≡ []
+no_rule : (rules : List RuleValue) (lines : List (List ℕ)) → AreRuleLines 0 [] lines → AreRuleLines 0 rules lines → rules ≡ []
 no_rule [] lines none are = refl
 no_rule (rule ∷ rules) [] none are = absurd are
 no_rule (rule ∷ rules) (line ∷ later) none are = absurd none

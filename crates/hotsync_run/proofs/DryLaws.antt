@@ -16,7 +16,7 @@ use Rattle.folder_copies.specs.declared.copied_folder.CopiedFolder.{CopiedFolder
 use Rattle.hotsync_looks.specs.Opening.{Opens, OpensAtMost}
 use Rattle.hotsync_looks.specs.Printed.{IsPrintedStatus}
 use Rattle.hotsync_looks.specs.Told.{SinkTold}
-use Rattle.run_words.specs.Commands.{DryRun, Task}
+use Rattle.run_words.specs.Commands.{DryRun, WordTask}
 use Rattle.run_words.specs.Runs.{Run}
 use Rattle.hotsync_run.specs.Calls.{Call, IsAnsweredCall, IsCall}
 use Rattle.hotsync_run.specs.Causes.{HasBegun}
@@ -175,7 +175,7 @@ copy_told copy = folder_told contents_of (λ copied. None) paths_of faults_of co
 pub dry_asked : (call : Call) (run : Run) → IsAnsweredCall call → call.task ≡ Some (DryRun run)
     → IsDryRun run call.before call.after call.out call.out_after call.status call.report
 dry_asked call run is asked =
-    subst (λ (task : Option Task). IsCall task call.before call.after call.out call.out_after call.status call.report) asked is
+    subst (λ (task : Option WordTask). IsCall task call.before call.after call.out call.out_after call.status call.report) asked is
 
 holds_same : (told copied : Option FileMap) (before now : ℕ) → IsCopy told before now copied → ¬ (Rose before now)
     → IfSome told (λ held. copied ≡ Some held)

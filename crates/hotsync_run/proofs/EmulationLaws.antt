@@ -27,7 +27,7 @@ use Rattle.hotsync_looks.specs.Printed.{IsPrinted, IsPrintedStatus}
 use Rattle.hotsync_looks.specs.Told.{SinkTold}
 use Rattle.hotsync_looks.specs.declared.status.Status.{Status}
 use Rattle.hotsync_looks.specs.declared.status.Status.TheVariants.{Done, HandheldFolder, DesktopFolder, InUse, SourceRead, TraceWrite, OutWrite, NoMemory}
-use Rattle.hotsync_run.specs.Emulations.{Emulated, HadTalk, IsCalmEmulation, IsHeardOut, IsSourceFailure, MayEmulate}
+use Rattle.hotsync_run.specs.Emulations.{CaptureRan, HadTalk, IsCalmEmulation, IsHeardOut, IsSourceFailure, MayEmulate}
 use Rattle.hotsync_run.specs.Emulations.{SaidNothing, SaysAll, TellsHand, WentWith, talk_status}
 use Rattle.hotsync_run.specs.Refusals.{HandheldRefuses, HasHandheld, IsTraceRefusal}
 use Rattle.hotsync_run.specs.Reports.{IsNotStarted}
@@ -341,8 +341,8 @@ module _ {capture : Capture} {before after : CallTold} {status : Status} {report
   nothing_printed printed (inr (inl memory)) nothing = subst (λ (s : Status). SaidNothing capture before after s report) (sym memory) (nothing_memory nothing)
   nothing_printed printed (inr (inr unsaid)) nothing = absurd (nothing_not_done nothing unsaid.0)
 
-  emulated_printed : (printed : Status) → IsPrintedStatus status printed → Emulated capture before after status report
-      → Emulated capture before after printed report
+  emulated_printed : (printed : Status) → IsPrintedStatus status printed → CaptureRan capture before after status report
+      → CaptureRan capture before after printed report
   emulated_printed printed is emulated = record {
     device = emulated.device;
     handheld = emulated.handheld;

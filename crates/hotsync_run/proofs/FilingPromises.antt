@@ -2,7 +2,7 @@
 use Rattle.std.proofs.Common.{◌≡◌, subst, sym}
 use Rattle.std.specs.Prelude.{Option, Some}
 use Rattle.run_words.specs.Betweens.{Between}
-use Rattle.run_words.specs.Commands.{Categories, Task}
+use Rattle.run_words.specs.Commands.{Categories, WordTask}
 use Rattle.category_mirror.specs.Sides.{filing_of}
 use Rattle.hotsync_run.specs.Calls.{Call, IsAnsweredCall, IsCall}
 use Rattle.hotsync_run.specs.Causes.{ByEnd, HasBegun}
@@ -20,7 +20,7 @@ module _ (call : Call) (words : Between) (is : IsAnsweredCall call) (task : call
   Session = CategoriesRan words call.before call.after call.status call.report
 
   answered : IsCategories words call.before call.after call.out call.out_after call.status call.report
-  answered = subst (λ (task : Option Task). IsCall task call.before call.after call.out call.out_after call.status call.report) task is
+  answered = subst (λ (task : Option WordTask). IsCall task call.before call.after call.out call.out_after call.status call.report) task is
 
   pub filing_refused : call.report.end ≡ NotStarted → Silent
   filing_refused none = subst (λ (e : SessionEnd). ByEnd e Silent Session) none answered.ran.shown

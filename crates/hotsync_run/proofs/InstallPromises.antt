@@ -3,7 +3,7 @@ use Rattle.std.proofs.Common.{◌≡◌, subst, sym, [], ◌∷◌}
 use Rattle.std.specs.Prelude.{Option, Some}
 use Rattle.hs_folders.specs.Moments.{EachMomentSince}
 use Rattle.run_words.specs.Betweens.{Between}
-use Rattle.run_words.specs.Commands.{Install, Task}
+use Rattle.run_words.specs.Commands.{Install, WordTask}
 use Rattle.hotsync_run.specs.Besides.{StandsBeside}
 use Rattle.hotsync_run.specs.Calls.{Call, IsAnsweredCall, IsCall}
 use Rattle.hotsync_run.specs.Causes.{ByEnd, HasBegun}
@@ -23,7 +23,7 @@ module _ (call : Call) (words : Between) (is : IsAnsweredCall call) (task : call
   Session = InstallRan words call.before call.after call.status call.report
 
   answered : IsInstall words call.before call.after call.out call.out_after call.status call.report
-  answered = subst (λ (task : Option Task). IsCall task call.before call.after call.out call.out_after call.status call.report) task is
+  answered = subst (λ (task : Option WordTask). IsCall task call.before call.after call.out call.out_after call.status call.report) task is
 
   pub install_refused : call.report.end ≡ NotStarted → Silent
   install_refused none = subst (λ (e : SessionEnd). ByEnd e Silent Session) none answered.ran.shown

@@ -6,7 +6,7 @@ use Rattle.trace_text.specs.declared.frame.End.{End}
 use Rattle.trace_text.specs.declared.frame.End.TheVariants as line_end
 use Rattle.hotsync_looks.specs.InstallFiles.{FileRefuses, IsFileRefusal}
 use Rattle.hotsync_looks.specs.Opening.{OpensAtMost, OpensGivenAtMost}
-use Rattle.hotsync_run.specs.Installs.{HasFile, HasInstalled, install_command}
+use Rattle.hotsync_run.specs.Installs.{HasInstallFile, HasInstalled, install_command}
 use Rattle.hotsync_run.specs.Refusals.{HandheldRefuses, HasHandheld, TraceRefuses}
 use Rattle.hotsync_run.specs.Reports.{IsNotStarted}
 use Rattle.hotsync_run.specs.SessionCalls.{StaysAsItWas}
@@ -56,7 +56,7 @@ module _ (words : Between) (before after : CallTold) {report : Report} (is : IsN
       })
 
   -- one whose handheld refuses it
-  pub by_handheld : {refusal : Status} → HasFile before.source.left → HandheldRefuses before.palm.contents refusal
+  pub by_handheld : {refusal : Status} → HasInstallFile before.source.left → HandheldRefuses before.palm.contents refusal
       → (refusal ≡ HandheldFolder → Rose before.palm.faults after.palm.faults)
       → (refusal ≡ InUse line_end.Handheld → Rose before.palm.faults after.palm.faults) → OpensAtMost words.other before.source.paths after.source.paths
       → StaysAsItWas before.palm after.palm → OpensAtMost words.handheld before.palm.paths after.palm.paths → after.desk ≡ before.desk
@@ -83,7 +83,7 @@ module _ (words : Between) (before after : CallTold) {report : Report} (is : IsN
       })
 
   -- one whose trace was not opened
-  pub by_trace : {refusal : Status} → HasFile before.source.left → HasHandheld before.palm.contents → TraceRefuses words.trace refusal
+  pub by_trace : {refusal : Status} → HasInstallFile before.source.left → HasHandheld before.palm.contents → TraceRefuses words.trace refusal
       → (refusal ≡ TraceWrite → Rose before.trace.faults after.trace.faults) → OpensAtMost words.other before.source.paths after.source.paths
       → StaysAsItWas before.palm after.palm → OpensAtMost words.handheld before.palm.paths after.palm.paths → after.desk ≡ before.desk
       → OpensGivenAtMost words.trace before.trace.paths after.trace.paths → after.trace.taken ≡ before.trace.taken

@@ -26,7 +26,7 @@ use Rattle.line_world.specs.Folders.{FilesRan, stored}
 use Rattle.session_plan.specs.Skips.{skip_of}
 use Rattle.session_plan.specs.Tasks.{Meeting, names, task_of}
 use Rattle.repeat_laws.specs.Meetings.{IsActive}
-use Rattle.hotsync_run.specs.Kept.{IsFileOf, IsLeftAlone, KeepsBytes, bytes_under}
+use Rattle.hotsync_run.specs.Kept.{IsFileOfName, IsLeftAlone, KeepsBytes, bytes_under}
 
 -- ---- one file
 
@@ -50,12 +50,12 @@ in_told : (change : FileMap → FileMap) (told : Option FileMap) (file : List �
 in_told change None file same = refl
 in_told change (Some held) file same = ap (λ (f : Option (List ℕ)). Some f) (same held)
 
-file-by : (b : Bool) (name : List ℕ) → IsFileOf name (if b then resources_file name else rows_file name)
+file-by : (b : Bool) (name : List ℕ) → IsFileOfName name (if b then resources_file name else rows_file name)
 file-by true name = inr refl
 file-by false name = inl refl
 
 -- the file of a database is one of its name
-file-is : (head : DbHead) → IsFileOf head.name (database_file head)
+file-is : (head : DbHead) → IsFileOfName head.name (database_file head)
 file-is head = file-by (holds_resources head.attributes) head.name
 
 -- ---- one step
@@ -63,7 +63,7 @@ file-is head = file-by (holds_resources head.attributes) head.name
 other-file : (meeting : Meeting) (file name : List ℕ) (head : DbHead) → IsLeftAlone meeting file → IsActive meeting name → head.name ≡ name
     → file ≡ database_file head → ⊥
 other-file meeting file name head alone active named is =
-    alone.of_none name active (subst (λ (n : List ℕ). IsFileOf n file) named (subst (IsFileOf head.name) (sym is) (file-is head)))
+    alone.of_none name active (subst (λ (n : List ℕ). IsFileOfName n file) named (subst (IsFileOfName head.name) (sym is) (file-is head)))
 
 after-apart : (meeting : Meeting) (file name : List ℕ) (old new : Option DatabaseValue) → IsLeftAlone meeting file → IsActive meeting name
     → ((d : DatabaseValue) → old ≡ Some d → d.head.name ≡ name) → ((d : DatabaseValue) → new ≡ Some d → d.head.name ≡ name)

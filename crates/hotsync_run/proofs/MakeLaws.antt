@@ -33,7 +33,7 @@ use Rattle.hotsync_run.specs.LineRuns.{frames_in}
 use Rattle.hotsync_run.specs.Makes.{HasMade, MadeNothing, MadeRan, files_told, made_run, made_script, made_told}
 use Rattle.hotsync_looks.specs.Printed.{IsPrintedStatus}
 use Rattle.hotsync_run.specs.Sessions.{KeptSilent}
-use Rattle.hotsync_run.specs.Talks.{IsRunTalk, Talked, TalkedFor}
+use Rattle.hotsync_run.specs.Talks.{IsRunTalk, BegunSession, TalkedFor}
 use Rattle.hotsync_run.specs.Told.{FolderTold, SidesTold}
 use Rattle.hotsync_run.specs.declared.report.Report.{Report}
 use Rattle.hotsync_looks.specs.declared.status.Status.{Status}
@@ -199,7 +199,7 @@ module _ {items : List Item} (after : SidesTold) (report : Report) (are : AreIte
 
 module _ (items : List Item) (status : Status) (report : Report) where
   ran_as : {other : Status} (ran : MadeRan items status report)
-      → Talked made_script (meeting_of ran.device ran.slots ran.talked.wishes) (made_told items) ran.after other report → MadeRan items other report
+      → BegunSession made_script (meeting_of ran.device ran.slots ran.talked.wishes) (made_told items) ran.after other report → MadeRan items other report
   ran_as ran talked = record {
     device = ran.device;
     handheld = ran.handheld;

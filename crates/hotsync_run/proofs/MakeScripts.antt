@@ -8,7 +8,7 @@ use Rattle.std.proofs.lemmas.Fmt.{decimal-digits_of}
 use Rattle.trace_text.specs.Fates.{Lost}
 use Rattle.line_script.specs.Lines.{lines_of}
 use Rattle.line_script.specs.Rules.{RuleValue, rule_text}
-use Rattle.line_script.specs.Scripts.{AreLines, IsReading}
+use Rattle.line_script.specs.Scripts.{AreRuleLines, IsReading}
 use Rattle.line_script.proofs.ScriptLaws.{one_reading}
 use Rattle.hotsync_run.specs.Makes.{losses, made_script, script_text}
 
@@ -66,7 +66,7 @@ lines-losses number (suc count) some fits =
     )
 
 are-lines : (before number count : ℕ) → before < number → number + 20 * count < 2 ^ 32
-    → AreLines before (losses number count) (map rule_text (losses number count))
+    → AreRuleLines before (losses number count) (map rule_text (losses number count))
 are-lines before number zero above fits = grind (arith, map rule_text, losses-zero number)
 are-lines before number (suc count) above fits =
     grind (arith, lost_line number, map rule_text, losses-suc number count, are-lines number (number + 20) count (omega arith) (omega arith))

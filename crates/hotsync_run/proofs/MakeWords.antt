@@ -2,7 +2,7 @@
 use Rattle.std.proofs.lemmas.Grind.{common_steps}
 use Rattle.std.proofs.Common.{◌≡◌, ◌≤◌, ℕ, Bool, true, false, List, [], ◌∷◌, subst, arith}
 use Rattle.std.specs.Prelude.{Option, None, Some, codes, bytes_eq, cond, if◌then◌else◌, is_some, option_and_then, option_map}
-use Rattle.run_words.specs.Commands.{Task, Sync, DryRun, LookAt, Scan, Make, Install, Backup, Restore, Emulate, Categories, Help, deed_of, export_form, export_of, export_task_in, file_of, import_form, import_of, import_task_in, install_between, install_of, make_form, make_in, make_of, packet_of, show_form, show_look, show_of, sync_by, task_behind, task_of}
+use Rattle.run_words.specs.Commands.{WordTask, Sync, DryRun, LookAt, Scan, Make, Install, Backup, Restore, Emulate, Categories, Help, deed_of, export_form, export_of, export_task_in, file_of, import_form, import_of, import_task_in, install_between, install_of, make_form, make_in, make_of, packet_of, show_form, show_look, show_of, sync_by, task_behind, task_of}
 use Rattle.run_words.specs.Helps.{help_of}
 use Rattle.std.specs.Option.{option_or}
 use Rattle.run_words.specs.Betweens.{Between, between_of}
@@ -15,7 +15,7 @@ use Rattle.run_words.specs.declared.look.Look.{Look}
 use Rattle.run_words.specs.declared.look.Look.TheVariants as looks
 
 -- what words ask for makes of a count at most 5,000 items
-abbrev IsFew : Option Task → Type 0
+abbrev IsFew : Option WordTask → Type 0
 IsFew None = Unit {0}
 IsFew (Some (Sync run)) = Unit {0}
 IsFew (Some (DryRun run)) = Unit {0}
@@ -29,14 +29,14 @@ IsFew (Some (Emulate capture)) = Unit {0}
 IsFew (Some (Categories between)) = Unit {0}
 IsFew (Some (Help topic)) = Unit {0}
 
-few_or : (one other : Option Task) → IsFew one → IsFew other → IsFew (option_or one other)
+few_or : (one other : Option WordTask) → IsFew one → IsFew other → IsFew (option_or one other)
 few_or None other a b = b
 few_or (Some task) other a b = a
 
-few_if : (test : Bool) (one other : Option Task) → IsFew one → IsFew other → IsFew (cond test one other)
+few_if : (test : Bool) (one other : Option WordTask) → IsFew one → IsFew other → IsFew (cond test one other)
 few_if test one other a b = grind (arith, common_steps)
 
-few_map : {A : Type 0} (make : A → Task) (o : Option A) → ((a : A) → IsFew (Some (make a))) → IsFew (option_map make o)
+few_map : {A : Type 0} (make : A → WordTask) (o : Option A) → ((a : A) → IsFew (Some (make a))) → IsFew (option_map make o)
 few_map make o few = grind (arith, common_steps)
 
 few_counted : (seed : Option ℕ) (count : Option ℕ) → IsFew (option_and_then (λ number. option_map (Make number) (option_and_then as_count count)) seed)

@@ -26,7 +26,7 @@ use Rattle.desktop_session.specs.Lists.{Refuses}
 use Rattle.desktop_session.specs.Orders.{AreAnswered, AreInOrder, IsAnswered}
 use Rattle.desktop_session.specs.Requests.{making}
 use Rattle.desktop_session.specs.Says.{IsPrefix}
-use Rattle.desktop_session.specs.Tellings.{AreSayable, IsProper, device_after, exchanges, told}
+use Rattle.desktop_session.specs.Tellings.{AreSayable, IsTellable, device_after, exchanges, told}
 use Rattle.desktop_session.proofs.ActLaws.{read_back}
 use Rattle.desktop_session.proofs.OrderLaws.{order_answered}
 use Rattle.desktop_session.proofs.TellLaws.{acted_proper, acted_reads}
@@ -264,7 +264,7 @@ full_last [] last device answered makes full = (inr (makes, full), tt)
 full_last (act ∷ front) last device answered makes full =
     (inl answered.0, full_last front last (acted act device).1 answered.1 makes full)
 
-told_full : (acts : List Act) {device : Device} → AreSayable acts device → IsProper device → AreAnsweredOrFull acts device
+told_full : (acts : List Act) {device : Device} → AreSayable acts device → IsTellable device → AreAnsweredOrFull acts device
     → AllByRecursion IsAnsweredOrFull (exchanges acts device)
 unfolding text
 told_full [] sayable proper all = tt
@@ -293,7 +293,7 @@ RunSays P old new replies asked = DeviceRun old asked replies new → AllByRecur
 
 -- each but the last is answered, and that one is the making of a database for which there is no room
 pub refused-last : (acts : List Act) (count : ℕ) {old : Device} (replies : List (List ℕ)) (reached : Device) → AllByRecursion IsPlain acts
-    → IsProper old → IsRefusedLast acts old → DeviceRun old (take count (map text acts)) replies reached
+    → IsTellable old → IsRefusedLast acts old → DeviceRun old (take count (map text acts)) replies reached
     → AllByRecursion IsAnsweredOrFull (exchanged (take count (map text acts)) replies)
 refused-last acts count {old} replies reached plain proper last =
     let part = take count acts in
@@ -309,7 +309,7 @@ refused-last acts count {old} replies reached plain proper last =
 
 -- each is answered
 pub all-answered : (acts : List Act) (count : ℕ) {old : Device} (replies : List (List ℕ)) (reached : Device) → AllByRecursion IsPlain acts
-    → IsProper old → AreInOrder (take count acts) old → DeviceRun old (take count (map text acts)) replies reached
+    → IsTellable old → AreInOrder (take count acts) old → DeviceRun old (take count (map text acts)) replies reached
     → AllByRecursion IsAnsweredExchange (exchanged (take count (map text acts)) replies)
 all-answered acts count replies reached plain proper order run =
     plain-answered acts count replies reached (fit_of acts plain) (none_of acts plain) proper order run

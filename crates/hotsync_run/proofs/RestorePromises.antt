@@ -3,7 +3,7 @@ use Rattle.std.proofs.Common.{◌≡◌, subst, sym}
 use Rattle.std.specs.Prelude.{Option, Some}
 use Rattle.hs_folders.specs.Moments.{EachMomentSince}
 use Rattle.run_words.specs.Betweens.{Between}
-use Rattle.run_words.specs.Commands.{Restore, Task}
+use Rattle.run_words.specs.Commands.{Restore, WordTask}
 use Rattle.hotsync_run.specs.Besides.{StandsBeside}
 use Rattle.hotsync_run.specs.Calls.{Call, IsAnsweredCall, IsCall}
 use Rattle.hotsync_run.specs.Causes.{ByEnd, HasBegun}
@@ -21,7 +21,7 @@ module _ (call : Call) (words : Between) (is : IsAnsweredCall call) (task : call
   Session = RestoreRan words call.before call.after call.status call.report
 
   answered : IsRestore words call.before call.after call.out call.out_after call.status call.report
-  answered = subst (λ (task : Option Task). IsCall task call.before call.after call.out call.out_after call.status call.report) task is
+  answered = subst (λ (task : Option WordTask). IsCall task call.before call.after call.out call.out_after call.status call.report) task is
 
   pub restore_refused : call.report.end ≡ NotStarted → Silent
   restore_refused none = subst (λ (e : SessionEnd). ByEnd e Silent Session) none answered.ran.shown

@@ -7,7 +7,7 @@ use Rattle.hs_folders.specs.FileMaps.{FileMap}
 use Rattle.pdb_values.specs.Databases.{DatabaseValue}
 use Rattle.pdb_files.specs.declared.bad_kind.BadKind.{BadKind}
 use Rattle.palm_device.specs.Devices.{Device, most_databases}
-use Rattle.backup_files.specs.BackupFolders.{IsFirstBroken, IsFirstSame, Shows, backup_count}
+use Rattle.backup_files.specs.BackupFolders.{IsFirstBadFile, IsFirstSame, ShowsBackupFault, backup_count}
 use Rattle.backup_files.specs.declared.fault.BackupFault.{BackupFault}
 use Rattle.backup_files.specs.declared.fault.BackupFault.TheVariants.{BadFile, Failed, NoMemory as NoMemoryFault, SameDatabase, TooMany}
 use Rattle.run_words.specs.Betweens.{Between}
@@ -35,8 +35,8 @@ use Rattle.hotsync_looks.specs.declared.status.Status.TheVariants.{OtherUser, To
 
 -- good backups show no cause of a refusal
 unshown_backups : (held : FileMap) (fault : BackupFault) → backup_count held ≤ most_databases
-    → ((name : List ℕ) (kind : BadKind) (place : ℕ) → ¬ (IsFirstBroken (finmap.keys held) held name kind place))
-    → ((first second : List ℕ) → ¬ (IsFirstSame (finmap.keys held) held first second)) → Shows fault held → (fault ≡ Failed) ⊎ (fault ≡ NoMemoryFault)
+    → ((name : List ℕ) (kind : BadKind) (place : ℕ) → ¬ (IsFirstBadFile (finmap.keys held) held name kind place))
+    → ((first second : List ℕ) → ¬ (IsFirstSame (finmap.keys held) held first second)) → ShowsBackupFault fault held → (fault ≡ Failed) ⊎ (fault ≡ NoMemoryFault)
 unshown_backups held Failed few whole apart shown = inl refl
 unshown_backups held NoMemoryFault few whole apart shown = inr refl
 unshown_backups held TooMany few whole apart shown = absurd (omega (arith, few, shown))
@@ -47,7 +47,7 @@ unshown_backups held (SameDatabase first second) few whole apart shown =
 judged_backups : {told : Option FileMap} {status : Status} → IsGoodBackups told → BackupsShow told status → (status ≡ DesktopFolder) ⊎ (status ≡ NoMemory)
 judged_backups {told} {status} good shows =
     elim (unshown_backups good.held shows.fault good.few good.whole good.apart
-    (subst (λ (t : Option FileMap). IfSome t (Shows shows.fault)) good.is shows.shown)) [
+    (subst (λ (t : Option FileMap). IfSome t (ShowsBackupFault shows.fault)) good.is shows.shown)) [
       | inl failed ↦ inl (shows.is ∙ ap backup_status failed)
       | inr memory ↦ inr (shows.is ∙ ap backup_status memory)
     ]

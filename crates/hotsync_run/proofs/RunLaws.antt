@@ -14,7 +14,7 @@ use Rattle.hotsync_run.specs.Runs.{HasRun, SessionRan, run_command}
 use Rattle.hotsync_run.specs.Scripts.{IsScriptRefusal}
 use Rattle.hotsync_looks.specs.Told.{SinkTold}
 use Rattle.hotsync_run.specs.Told.{CallTold}
-use Rattle.hotsync_run.specs.Traces.{IsTraced}
+use Rattle.hotsync_run.specs.Traces.{TakesTrace}
 use Rattle.hotsync_run.proofs.CallPrinted.{IsPrintable, call_printed}
 use Rattle.hotsync_run.proofs.RetoldLaws.{IsRetold, StaysShown}
 use Rattle.hotsync_run.proofs.TraceLaws.{talked_retold}
@@ -23,8 +23,8 @@ use Rattle.hotsync_looks.specs.declared.status.Status.{Status}
 use Rattle.hotsync_looks.specs.declared.status.Status.TheVariants.{Done, NoMemory}
 
 pub traced_as : {path : Option (List ℕ)} {text : List ℕ} {before after : SinkTold} {status : Status} (other : Status)
-    → (other ≡ Done → status ≡ Done) → (other ≢ NoMemory → status ≢ NoMemory) → IsTraced path text before after status
-    → IsTraced path text before after other
+    → (other ≡ Done → status ≡ Done) → (other ≢ NoMemory → status ≢ NoMemory) → TakesTrace path text before after status
+    → TakesTrace path text before after other
 traced_as other was_done served traced = record {
   part = traced.part;
   done = λ named done. traced.done named (was_done done);

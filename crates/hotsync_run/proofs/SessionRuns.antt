@@ -28,10 +28,10 @@ use Rattle.hotsync_run.specs.Runs.{HasRun, SessionRan, StandsAsItDid, run_comman
 use Rattle.hotsync_run.specs.SessionCalls.{SentNothing, StaysAsItWas}
 use Rattle.hotsync_run.specs.Sessions.{Agenda, KeptSilent, Spoke, StandsAtFront}
 use Rattle.hotsync_run.specs.Scripts.{IsScripted}
-use Rattle.hotsync_run.specs.Talks.{DesktopRan, IsRunTalk, Talked, TalkedFor}
+use Rattle.hotsync_run.specs.Talks.{DesktopRan, IsRunTalk, BegunSession, TalkedFor}
 use Rattle.hotsync_looks.specs.Told.{SinkTold, SourceTold}
 use Rattle.hotsync_run.specs.Told.{CallTold, FolderTold, SidesTold, sides_of}
-use Rattle.hotsync_run.specs.Traces.{IsTraced, TracesReport}
+use Rattle.hotsync_run.specs.Traces.{TakesTrace, TracesReport}
 use Rattle.hotsync_run.proofs.RetoldLaws.{by_end_then}
 use Rattle.hotsync_run.proofs.TraceLaws.{talk_not_in_use, talk_not_source}
 use Rattle.hotsync_run.specs.declared.report.Report.{Report}
@@ -100,8 +100,8 @@ left_from {meeting} {first} {before} {after} stood left =
     }
 
 talked_from : {rules : List RuleValue} {meeting : Meeting} {first : SidesTold} (before : SidesTold) {after : SidesTold} {status : Status}
-    {report : Report} → StaysAsItWas first.palm before.palm → StandsAsItDid first.desk before.desk → Talked rules meeting before after status report
-    → Talked rules meeting first after status report
+    {report : Report} → StaysAsItWas first.palm before.palm → StandsAsItDid first.desk before.desk → BegunSession rules meeting before after status report
+    → BegunSession rules meeting first after status report
 talked_from {rules} {meeting} {first} before {after} {report} stays stood talked = record {
   spoke = spoke_from stays talked.spoke;
   left = left_from stood talked.left;
@@ -109,7 +109,7 @@ talked_from {rules} {meeting} {first} before {after} {report} stays stood talked
 }
 
 pub traced_from : {path : Option (List ℕ)} {text : List ℕ} (first : SinkTold) {before after : SinkTold} {status : Status} → before.taken ≡ first.taken
-    → first.faults ≤ before.faults → IsTraced path text before after status → IsTraced path text first after status
+    → first.faults ≤ before.faults → TakesTrace path text before after status → TakesTrace path text first after status
 traced_from {text} first {before} {after} same later traced =
     let whole : option_map (λ taken. taken ++ text) before.taken ≡ option_map (λ taken. taken ++ text) first.taken =
     ap (λ (told : Option (List ℕ)). option_map (λ taken. taken ++ text) told) same in

@@ -25,7 +25,7 @@ use Rattle.front_laws.specs.Sound.{IsSoundMeeting}
 use Rattle.hotsync_run.specs.Closings.{Closes, left_end, left_in}
 use Rattle.hotsync_run.specs.Ends.{SessionLeft}
 use Rattle.hotsync_run.specs.Sessions.{KeptSilent}
-use Rattle.hotsync_run.specs.Talks.{DesktopRan, IsRunTalk, Talked, TalkedFor}
+use Rattle.hotsync_run.specs.Talks.{DesktopRan, IsRunTalk, BegunSession, TalkedFor}
 use Rattle.hotsync_run.specs.Told.{FolderTold, SidesTold, folder_told}
 use Rattle.hotsync_run.specs.Wishes.{AsksFor}
 use Rattle.hotsync_run.proofs.LeftLaws.{EndsOver, Tells, session_left}
@@ -97,7 +97,7 @@ run_spoke {contents} {moments} {paths} {faults} {desk_contents} {desk_moments} {
     let of = meeting_said fault meeting old new (tellings desk_contents desk_moments folder outcome.folder) outcome.end new.cause closes.left.status begins
     ends.cause ends.ended in
     let never = meeting_never fault new (all-talked IsAnsweredExchange new tells (session_answered line session)) meeting old outcome.end ends.cause in
-    let talked : Talked old.script meeting before after status report = record {
+    let talked : BegunSession old.script meeting before after status report = record {
       spoke = spoke (requests meeting) stands silent since never closes of;
       left = session;
       shows = record {

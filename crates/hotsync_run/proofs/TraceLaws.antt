@@ -19,7 +19,7 @@ use Rattle.hotsync_run.specs.Causes.{EndsAs, IsCutShort, IsUnsaid}
 use Rattle.hotsync_run.specs.Ends.{IsToldRefusal, ShowsMeeting, status_refused}
 use Rattle.hotsync_run.specs.Refusals.{BlamesHandheld, BlamesSource}
 use Rattle.hotsync_run.specs.Sessions.{IsTalk, KeptSilent}
-use Rattle.hotsync_run.specs.Talks.{Talked, TalkedFor}
+use Rattle.hotsync_run.specs.Talks.{BegunSession, TalkedFor}
 use Rattle.hotsync_looks.specs.Told.{SinkTold}
 use Rattle.hotsync_run.specs.Told.{SidesTold}
 use Rattle.hotsync_run.specs.Traces.{TracesText}
@@ -59,7 +59,7 @@ shows_retold meeting status other report (inr (inr (done, inr unsaid))) shows =
 
 -- what is known of the session
 pub talked_retold : {rules : List RuleValue} {meeting : Meeting} {before after : SidesTold} {status : Status} (other : Status) {report : Report}
-    → IsRetold status other → Talked rules meeting before after status report → Talked rules meeting before after other report
+    → IsRetold status other → BegunSession rules meeting before after status report → BegunSession rules meeting before after other report
 talked_retold {meeting = meeting} other is talked = had_retold other (shows_retold meeting) is talked
 
 pub talked_for_retold : (run : Run) (rules : List RuleValue) (device : Device) (slots : List SlotValue) (before after : SidesTold)

@@ -72,13 +72,13 @@ judged_script (Some name) None good refuses = absurd (none_holds (List ℕ) (goo
 judged_script (Some name) (Some bytes) {refusal} good refuses = unshown_script refusal good.scripted refuses.is refuses.shown
 
 -- good files of a handheld show no fault of theirs
-unshown_handheld : {told : Option FileMap} (fault : OpenFault) → IsGoodHandheld told → IfSome told (handheld.Shows fault)
+unshown_handheld : {told : Option FileMap} (fault : OpenFault) → IsGoodHandheld told → IfSome told (handheld.ShowsOpenFault fault)
     → (handheld_status fault ≡ HandheldFolder) ⊎ (handheld_status fault ≡ NoMemory)
 unshown_handheld opening.Keeper good shown = inl refl
 unshown_handheld opening.NoMemory good shown = inr refl
 unshown_handheld opening.TooMany good shown = grind arith
 unshown_handheld (opening.BadFile name kind place) good shown =
-    let bad = subst (λ (t : Option FileMap). IfSome t (handheld.Shows (opening.BadFile name kind place))) good.is shown in
+    let bad = subst (λ (t : Option FileMap). IfSome t (handheld.ShowsOpenFault (opening.BadFile name kind place))) good.is shown in
     absurd (good.good (string_bytes {Z = Global} name) kind place bad.1)
 
 right_handheld : {told : Option FileMap} → IsGoodHandheld told → IfSome told (λ files. is_desktop files ≡ true) → ⊥
@@ -94,7 +94,7 @@ judged_handheld good (inr (inr refuses)) = elim (unshown_handheld refuses.fault 
 ]
 
 -- nor do those of a desktop
-unshown_desktop : {told : Option FileMap} (fault : DeskOpenFault) → IsGoodDesktop told → IfSome told (λ files. desktop.Shows (finished files) fault)
+unshown_desktop : {told : Option FileMap} (fault : DeskOpenFault) → IsGoodDesktop told → IfSome told (λ files. desktop.ShowsDeskFault (finished files) fault)
     → (desktop_status fault ≡ DesktopFolder) ⊎ (desktop_status fault ≡ NoMemory)
 unshown_desktop fault good shown = grind (arith, common_steps)
 

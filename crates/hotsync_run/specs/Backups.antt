@@ -34,7 +34,7 @@ use Rattle.hotsync_run.specs.Scripts.{HasScript, IsScripted, ScriptRefuses}
 use Rattle.hotsync_run.specs.SessionCalls.{IsSessionCall, MayHaveSession, Paths, SessionCommand, StaysAsItWas}
 use Rattle.hotsync_run.specs.Sessions.{Agenda, HadSession, IsTalk}
 use Rattle.hotsync_run.specs.Told.{CallTold, FolderTold, SidesTold, sides_of}
-use Rattle.hotsync_run.specs.Traces.{IsTraced}
+use Rattle.hotsync_run.specs.Traces.{TakesTrace}
 use Rattle.hotsync_run.specs.Undisturbed.{IsGoodHandheld, IsGoodScript, IsKindScript, NoneFailed}
 use Rattle.hotsync_run.specs.declared.report.Report.{Report}
 use Rattle.hotsync_run.specs.declared.report.SessionEnd.TheVariants.{Ended}
@@ -159,7 +159,7 @@ pub record BackupRan (words : Between) (before after : CallTold) (status : Statu
   pub closed : device.handles ≡ no_handles
   pub apart : StandsApart before.desk.contents
   pub had : HadBackup rules device (sides_of before) (sides_of after) status report
-  pub traced : IsTraced words.trace (trace_text (frames_in report)) before.trace after.trace status
+  pub traced : TakesTrace words.trace (trace_text (frames_in report)) before.trace after.trace status
 
 -- ---- every backup
 

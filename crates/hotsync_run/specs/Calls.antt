@@ -4,7 +4,7 @@ use Rattle.std.specs.declared.alloc.Global.{Global}
 use Rattle.hs_folders.specs.declared.folder.Folder.{Ghosts as FolderMembers}
 use Rattle.hs_folders.specs.declared.sink.Sink.{Ghosts as SinkMembers}
 use Rattle.hs_folders.specs.declared.source.Source.{Ghosts as SourceMembers}
-use Rattle.run_words.specs.Commands.{Task, Sync, DryRun, LookAt, Scan, Make, Install, Backup, Restore, Emulate, Categories, Help, task_of}
+use Rattle.run_words.specs.Commands.{WordTask, Sync, DryRun, LookAt, Scan, Make, Install, Backup, Restore, Emulate, Categories, Help, task_of}
 use Rattle.run_words.specs.Faults.{Fault, fault_of}
 use Rattle.hotsync_looks.specs.Helped.{IsHelped}
 use Rattle.hotsync_looks.specs.Looks.{IsLook}
@@ -28,7 +28,7 @@ use Rattle.hotsync_looks.specs.declared.status.Status.{Status}
 use Rattle.hotsync_looks.specs.declared.status.Status.TheVariants.{NoMemory}
 
 -- what words ask for, where the seconds of the date now are these, if it can be told
-abbrev pub task_in : Option ℕ → List (String Global) → Option Task
+abbrev pub task_in : Option ℕ → List (String Global) → Option WordTask
 task_in now words = task_of now (map string_bytes words)
 
 -- the word at fault in words that ask for nothing, where it can be named
@@ -44,7 +44,7 @@ pub record IsNothing (out out_after : SinkTold) (status : Status) : Type 0 where
 -- What is known of a call: words out of the form give the usage line. Only a run sends anything, a
 -- dry one in memory, a session between made folders, an install, a backup, a restore and categories
 -- that are brought together; a handheld over captured bytes says what it would have sent.
-abbrev pub IsCall : Option Task → CallTold → CallTold → SinkTold → SinkTold → Status
+abbrev pub IsCall : Option WordTask → CallTold → CallTold → SinkTold → SinkTold → Status
     → Report → Type 0
 IsCall None before after out out_after status report = IsNothing out out_after status
 IsCall (Some (Sync run)) before after out out_after status report =
@@ -72,7 +72,7 @@ IsCall (Some (Help topic)) before after out out_after status report =
 
 -- a call: what its words ask for, its objects before and after it, and what it answered
 pub record Call : Type 0 where
-  pub task : Option Task
+  pub task : Option WordTask
   pub before : CallTold
   pub after : CallTold
   pub out : SinkTold
@@ -98,7 +98,7 @@ OfCall Fact palms desks sources traces outs palm desk source trace out answer re
 
 -- the words ask for a session: for a run, a dry one too, for one between made folders, for an
 -- install, a backup, a restore or categories; or for a handheld's end of one, over captured bytes
-abbrev pub HasSession : Option Task → Type 0
+abbrev pub HasSession : Option WordTask → Type 0
 HasSession (Some (Sync run)) = ⊤
 HasSession (Some (DryRun run)) = ⊤
 HasSession (Some (Make seed count)) = ⊤
@@ -111,7 +111,7 @@ HasSession _ = ⊥
 
 -- the words ask for something that reads the source before it touches a folder: all but a handheld
 -- over captured bytes, which hears them as it goes
-abbrev pub ReadsFirst : Option Task → Type 0
+abbrev pub ReadsFirst : Option WordTask → Type 0
 ReadsFirst (Some (Emulate capture)) = ⊥
 ReadsFirst _ = ⊤
 
@@ -121,7 +121,7 @@ no_paths = record { handheld = None; desktop = None; source = None; trace = None
 
 -- the paths that words give to each object: those of a run, of an install, of a backup, of a
 -- restore and of categories, the file of a look, and those of a handheld over captured bytes
-abbrev pub paths_of : Option Task → Paths
+abbrev pub paths_of : Option WordTask → Paths
 paths_of (Some (Sync run)) = run_paths run
 paths_of (Some (DryRun run)) = run_paths run
 paths_of (Some (Install words)) = install_paths words

@@ -2,7 +2,7 @@
 use Rattle.std.specs.Prelude.{◌≡◌, ⊤, ℕ, false, List, [], ◌∷◌, Option, None, Some}
 use Rattle.trace_text.specs.declared.frame.End.{End}
 use Rattle.trace_text.specs.Frames.{past_of}
-use Rattle.trace_text.specs.Past.{Sent, is_repeat}
+use Rattle.trace_text.specs.Past.{PastFrame, is_repeat}
 use Rattle.hotsync_run.specs.LineRuns.{frames_in}
 use Rattle.hotsync_run.specs.Scripts.{IsScript}
 use Rattle.hotsync_run.specs.declared.report.Report.{Report}
@@ -16,7 +16,7 @@ HasNoLines (Some path) None = ⊥
 HasNoLines (Some path) (Some bytes) = IsScript bytes []
 
 -- no data frame has the key of the same end's data frame before it
-abbrev pub AreSaidOnce : List Sent → Type 0
+abbrev pub AreSaidOnce : List PastFrame → Type 0
 AreSaidOnce [] = ⊤
 AreSaidOnce (frame ∷ past) = ((X : End) → is_repeat X frame past ≡ false) × AreSaidOnce past
 

@@ -130,7 +130,7 @@ pub record OpensAll (capture : Capture) (before after : CallTold) : Type 0 where
   pub sink : Opens capture.output before.trace.paths after.trace.paths
 
 -- the handheld before it, and all that is known of its talk
-pub record Emulated (capture : Capture) (before after : CallTold) (status : Status)
+pub record CaptureRan (capture : Capture) (before after : CallTold) (status : Status)
     (report : Report) : Type 0 where
   pub device : Device
   pub handheld : IfSome before.palm.contents (λ held. HoldsAll held device.databases device.user)
@@ -151,7 +151,7 @@ pub record OpensThree (capture : Capture) (before after : CallTold) : Type 0 whe
 pub record MayEmulate (capture : Capture) (before after : CallTold) (status : Status)
     (report : Report) : Type 0 where
   pub shown : SaidNothing capture before after status report
-      ⊎ Emulated capture before after status report
+      ⊎ CaptureRan capture before after status report
   pub opened : OpensThree capture before after
   pub desktop : after.desk ≡ before.desk
   pub blames : BlamesByCount before after status

@@ -32,7 +32,7 @@ use Rattle.hotsync_run.specs.Scripts.{HasScript, IsScripted, ScriptRefuses}
 use Rattle.hotsync_run.specs.SessionCalls.{IsSessionCall, MayHaveSession, Paths, SessionCommand}
 use Rattle.hotsync_run.specs.Sessions.{Agenda, HadSession, IsTalk}
 use Rattle.hotsync_run.specs.Told.{CallTold, FolderTold, SidesTold, sides_of}
-use Rattle.hotsync_run.specs.Traces.{IsTraced}
+use Rattle.hotsync_run.specs.Traces.{TakesTrace}
 use Rattle.hotsync_run.specs.Undisturbed.{AreGood, IsGoodScript, IsKindScript, NoneFailed}
 use Rattle.hotsync_run.specs.declared.report.Report.{Report}
 use Rattle.hotsync_run.specs.declared.report.SessionEnd.TheVariants.{Ended, Stopped}
@@ -56,14 +56,14 @@ filing_agenda rules filing =
     record { rules = rules; device = filing.device; asked = map text (filing_acts filing) }
 
 -- a folder told stands for the handheld behind so many writes of the session
-pub record StandsInTurn (filing : Filing) (told : Option FileMap) (writes : ℕ) : Type 0 where
+pub record StandsBehindWrites (filing : Filing) (told : Option FileMap) (writes : ℕ) : Type 0 where
   pub reached : Device
   pub behind : StandsBehind filing writes reached
   pub stands : Stands told reached.databases reached.user
 
 -- behind some of them
 abbrev pub StandsInSomeTurn : Filing → Option FileMap → Type 0
-StandsInSomeTurn filing told = (writes : ℕ) × StandsInTurn filing told writes
+StandsInSomeTurn filing told = (writes : ℕ) × StandsBehindWrites filing told writes
 
 -- It ended: each of its requests was issued and performed, and none else; both folders stand for
 -- what the session makes of both sides, the desktop's without a journal; and what was done with each
@@ -93,7 +93,7 @@ pub record IsSoundFiling (filing : Filing) : Type 0 where
 pub record FilingLeft (filing : Filing) (opened : Option FileMap) (before after : SidesTold)
     (report : Report) : Type 0 where
   pub sound : IsSoundFiling filing
-  pub handheld : StandsInTurn filing after.palm.contents report.writes
+  pub handheld : StandsBehindWrites filing after.palm.contents report.writes
   pub turns : EachMomentSince (StandsInSomeTurn filing) before.palm.moments after.palm.moments
   pub ended : report.end ≡ Ended → EndedFiling filing after.palm after.desk report
   pub stopped : report.end ≡ Stopped → StoppedFiling filing before.desk after.desk report
@@ -150,7 +150,7 @@ pub record CategoriesRan (words : Between) (before after : CallTold) (status : S
   pub desktop : IsDesk (option_map finished before.desk.contents) slots
   pub had : HadFiling rules (filing_of device slots) (option_map finished before.desk.contents)
       (sides_of before) (sides_of after) status report
-  pub traced : IsTraced words.trace (trace_text (frames_in report)) before.trace after.trace status
+  pub traced : TakesTrace words.trace (trace_text (frames_in report)) before.trace after.trace status
 
 -- ---- every call
 

@@ -39,7 +39,7 @@ use Rattle.hotsync_run.specs.Stops.{TellsStop}
 use Rattle.hotsync_run.specs.Talks.{DesktopRan}
 use Rattle.hotsync_looks.specs.Told.{SinkTold}
 use Rattle.hotsync_run.specs.Told.{CallTold}
-use Rattle.hotsync_run.specs.Traces.{IsTraced}
+use Rattle.hotsync_run.specs.Traces.{TakesTrace}
 use Rattle.hotsync_run.specs.declared.report.Report.{Report}
 use Rattle.hotsync_run.specs.declared.report.SessionEnd.TheVariants.{Ended, Stopped}
 use Rattle.hotsync_looks.specs.declared.status.Status.{Status}
@@ -78,7 +78,7 @@ pub record ActsOnce (meeting : Meeting) (call : RunCall) : Type 0 where
 pub record IsWhatItSays (rules : List RuleValue) (call : RunCall) : Type 0 where
   pub trace : IsProper (fate_by rules) (said_in (log_in call.report)) (frames_in call.report)
   pub told : TellBoth (said_in (log_in call.report)) (frames_in call.report)
-  pub written : IsTraced call.run.trace (trace_text (frames_in call.report)) call.before.trace
+  pub written : TakesTrace call.run.trace (trace_text (frames_in call.report)) call.before.trace
       call.after.trace call.status
 
 -- A stop has the cause that is told: the status says whether it ended, the frames bear the cause

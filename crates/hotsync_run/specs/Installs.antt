@@ -26,7 +26,7 @@ use Rattle.hotsync_run.specs.Refusals.{HandheldRefuses, HasHandheld, TraceRefuse
 use Rattle.hotsync_run.specs.SessionCalls.{IsSessionCall, MayHaveSession, Paths, SessionCommand}
 use Rattle.hotsync_run.specs.Sessions.{Agenda, HadSession, IsTalk}
 use Rattle.hotsync_run.specs.Told.{CallTold, FolderTold, SidesTold}
-use Rattle.hotsync_run.specs.Traces.{IsTraced}
+use Rattle.hotsync_run.specs.Traces.{TakesTrace}
 use Rattle.hotsync_run.specs.Undisturbed.{IsGoodHandheld, NoneFailed}
 use Rattle.hotsync_run.specs.declared.report.Report.{Report}
 use Rattle.hotsync_run.specs.declared.report.SessionEnd.TheVariants.{Ended}
@@ -34,7 +34,7 @@ use Rattle.hotsync_run.specs.declared.report.SessionEnd.TheVariants.{Ended}
 -- ---- an install that sent nothing
 
 -- the source tells no other bytes than those of a database that may be installed
-pub record HasFile (left : Option (List ℕ)) : Type 0 where
+pub record HasInstallFile (left : Option (List ℕ)) : Type 0 where
   pub database : DatabaseValue
   pub file : IfSome left (λ bytes. IsInstallFile bytes database)
 
@@ -43,7 +43,7 @@ pub record HasFile (left : Option (List ℕ)) : Type 0 where
 abbrev pub InstallRefuses : Between → CallTold → Status → Type 0
 InstallRefuses words before refusal =
     FileRefuses words.other before.source.left refusal
-    ⊎ (HasFile before.source.left × (HandheldRefuses before.palm.contents refusal
+    ⊎ (HasInstallFile before.source.left × (HandheldRefuses before.palm.contents refusal
     ⊎ (HasHandheld before.palm.contents × TraceRefuses words.trace refusal)))
 
 -- ---- an install with a session
@@ -126,7 +126,7 @@ pub record InstallRan (words : Between) (before after : CallTold) (status : Stat
   pub closed : device.handles ≡ no_handles
   pub had : HadInstall device database before.palm after.palm status report
   pub desktop : after.desk ≡ before.desk
-  pub traced : IsTraced words.trace (trace_text (frames_in report)) before.trace after.trace status
+  pub traced : TakesTrace words.trace (trace_text (frames_in report)) before.trace after.trace status
 
 -- ---- every install
 

@@ -8,14 +8,14 @@ use Rattle.session_plan.specs.Tasks.{Meeting}
 use Rattle.repeat_laws.specs.Meetings.{IsActive}
 
 -- the file of a database of this name
-abbrev pub IsFileOf : List ℕ → List ℕ → Type 0
-IsFileOf name file = (file ≡ rows_file name) ⊎ (file ≡ resources_file name)
+abbrev pub IsFileOfName : List ℕ → List ℕ → Type 0
+IsFileOfName name file = (file ≡ rows_file name) ⊎ (file ≡ resources_file name)
 
 -- a session leaves a file alone: it isn't the information file, nor that of a database which the
 -- session doesn't skip
 pub record IsLeftAlone (meeting : Meeting) (file : List ℕ) : Type 0 where
   pub no_info : file ≡ device_info_file → ⊥
-  pub of_none : (name : List ℕ) → IsActive meeting name → IsFileOf name file → ⊥
+  pub of_none : (name : List ℕ) → IsActive meeting name → IsFileOfName name file → ⊥
 
 -- what a folder told holds under a name
 abbrev pub bytes_under : List ℕ → Option FileMap → Option (Option (List ℕ))

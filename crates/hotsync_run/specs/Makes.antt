@@ -9,7 +9,7 @@ use Rattle.desk_store.specs.Desks.{IsDesk}
 use Rattle.desk_store.specs.Shelves.{SlotValue}
 use Rattle.trace_text.specs.Fates.{Lost}
 use Rattle.line_script.specs.Rules.{RuleValue, rule_text}
-use Rattle.run_words.specs.Choices.{Choice}
+use Rattle.run_words.specs.Choices.{ChoiceTexts}
 use Rattle.run_words.specs.Runs.{Run}
 use Rattle.session_parts.specs.declared.report.Counts.{Counts}
 use Rattle.session_parts.specs.declared.report.DbReport.{DbReport}
@@ -33,7 +33,7 @@ use Rattle.hotsync_looks.specs.declared.status.Status.TheVariants.{Done, OutWrit
 -- ---- what is asked of it
 
 -- each database, with the action that it has where no word says another
-abbrev pub every_database : Choice
+abbrev pub every_database : ChoiceTexts
 every_database = record { only = None; actions = None }
 
 -- the words of the session: a run under the date 2001-09-09T01:46:40, without an option

@@ -44,7 +44,7 @@ pub record HandheldShows (held : Option FileMap) (refusal : Status) : Type 0 whe
   pub side : IfSome held (λ files. is_desktop files ≡ false)
   pub fault : OpenFault
   pub is : refusal ≡ handheld_status fault
-  pub shown : IfSome held (handheld.Shows fault)
+  pub shown : IfSome held (handheld.ShowsOpenFault fault)
 
 -- the handheld's folder was not opened
 abbrev pub HandheldRefuses : Option FileMap → Status → Type 0
@@ -73,7 +73,7 @@ pub record DesktopShows (kept : Option FileMap) (refusal : Status) : Type 0 wher
   pub side : IfSome kept (λ files. is_handheld files ≡ false)
   pub fault : DeskOpenFault
   pub is : refusal ≡ desktop_status fault
-  pub shown : IfSome kept (λ files. desktop.Shows (finished files) fault)
+  pub shown : IfSome kept (λ files. desktop.ShowsDeskFault (finished files) fault)
 
 -- the desktop's folder was not opened
 abbrev pub DesktopRefuses : Option FileMap → Status → Type 0

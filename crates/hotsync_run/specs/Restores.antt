@@ -8,7 +8,7 @@ use Rattle.pdb_files.specs.declared.bad_kind.BadKind.{BadKind}
 use Rattle.palm_device.specs.Devices.{Device, most_databases}
 use Rattle.palm_device.specs.Handles.{no_handles}
 use Rattle.handheld_files.specs.Openings.{HoldsAll, Stands}
-use Rattle.backup_files.specs.BackupFolders.{HoldsBackups, IsFirstBroken, IsFirstSame, Shows, backup_count}
+use Rattle.backup_files.specs.BackupFolders.{HoldsBackups, IsFirstBadFile, IsFirstSame, ShowsBackupFault, backup_count}
 use Rattle.backup_files.specs.declared.fault.BackupFault.{BackupFault}
 use Rattle.trace_text.specs.TraceLines.{trace_text}
 use Rattle.line_script.specs.Rules.{RuleValue}
@@ -33,7 +33,7 @@ use Rattle.hotsync_run.specs.Scripts.{HasScript, IsScripted, ScriptRefuses}
 use Rattle.hotsync_run.specs.SessionCalls.{IsSessionCall, MayHaveSession, Paths, SessionCommand, StaysAsItWas}
 use Rattle.hotsync_run.specs.Sessions.{Agenda, HadSession, IsTalk}
 use Rattle.hotsync_run.specs.Told.{CallTold, FolderTold, SidesTold}
-use Rattle.hotsync_run.specs.Traces.{IsTraced}
+use Rattle.hotsync_run.specs.Traces.{TakesTrace}
 use Rattle.hotsync_run.specs.Undisturbed.{IsGoodHandheld, IsGoodScript, IsKindScript, NoneFailed}
 use Rattle.hotsync_run.specs.declared.report.Report.{Report}
 use Rattle.hotsync_run.specs.declared.report.SessionEnd.TheVariants.{Ended}
@@ -44,7 +44,7 @@ use Rattle.hotsync_run.specs.declared.report.SessionEnd.TheVariants.{Ended}
 pub record BackupsShow (kept : Option FileMap) (refusal : Status) : Type 0 where
   pub fault : BackupFault
   pub is : refusal ≡ backup_status fault
-  pub shown : IfSome kept (Shows fault)
+  pub shown : IfSome kept (ShowsBackupFault fault)
 
 -- the folder of backups was not read
 abbrev pub BackupsRefuse : Option FileMap → Status → Type 0
@@ -157,7 +157,7 @@ pub record RestoreRan (words : Between) (before after : CallTold) (status : Stat
   pub backups : IfSome before.desk.contents (λ held. HoldsBackups held databases)
   pub had : HadRestore rules device databases before.palm after.palm status report
   pub desktop : StaysAsItWas before.desk after.desk
-  pub traced : IsTraced words.trace (trace_text (frames_in report)) before.trace after.trace status
+  pub traced : TakesTrace words.trace (trace_text (frames_in report)) before.trace after.trace status
 
 -- ---- every restore
 
@@ -168,7 +168,7 @@ pub record IsGoodBackups (told : Option FileMap) : Type 0 where
   pub is : told ≡ Some held
   pub few : backup_count held ≤ most_databases
   pub whole : (name : List ℕ) (kind : BadKind) (place : ℕ)
-      → ¬ (IsFirstBroken (finmap.keys held) held name kind place)
+      → ¬ (IsFirstBadFile (finmap.keys held) held name kind place)
   pub apart : (first second : List ℕ) → ¬ (IsFirstSame (finmap.keys held) held first second)
 
 -- A good script and a kind line, good files of the handheld and good backups, for all of which the

@@ -12,10 +12,10 @@ use Rattle.hotsync_run.specs.Meetings.{Meets}
 use Rattle.hotsync_run.specs.Refusals.{IsRefused, LeavesDesktopUnread}
 use Rattle.hotsync_run.specs.Scripts.{IsScripted}
 use Rattle.hotsync_run.specs.SessionCalls.{IsSessionCall, MayHaveSession, Paths, SessionCommand, StaysAsItWas}
-use Rattle.hotsync_run.specs.Talks.{DesktopRan, Talked}
+use Rattle.hotsync_run.specs.Talks.{DesktopRan, BegunSession}
 use Rattle.hotsync_looks.specs.Told.{SinkTold}
 use Rattle.hotsync_run.specs.Told.{CallTold, FolderTold, sides_of}
-use Rattle.hotsync_run.specs.Traces.{IsTraced}
+use Rattle.hotsync_run.specs.Traces.{TakesTrace}
 use Rattle.hotsync_run.specs.Undisturbed.{IsUndisturbed}
 use Rattle.hotsync_run.specs.declared.report.Report.{Report}
 use Rattle.hotsync_looks.specs.declared.status.Status.{Status}
@@ -46,8 +46,8 @@ pub record SessionRan (run : Run) (before after : CallTold) (status : Status) (r
   pub meets : Meets run before meeting
   pub changed : DesktopRan meeting (option_map finished before.desk.contents) before.desk
       after.desk report.end
-  pub talked : Talked rules meeting (sides_of before) (sides_of after) status report
-  pub traced : IsTraced run.trace (trace_text (frames_in report)) before.trace after.trace status
+  pub talked : BegunSession rules meeting (sides_of before) (sides_of after) status report
+  pub traced : TakesTrace run.trace (trace_text (frames_in report)) before.trace after.trace status
 
 -- ---- every run
 

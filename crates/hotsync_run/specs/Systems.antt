@@ -1,6 +1,6 @@
 -- A call over the folders, files and standard output of the system.
 use Rattle.std.specs.Prelude.{◌≡◌, ℕ, List, Option, None}
-use Rattle.run_words.specs.Commands.{Task, task_of}
+use Rattle.run_words.specs.Commands.{WordTask, task_of}
 use Rattle.hotsync_run.specs.Calls.{IsCall}
 use Rattle.hotsync_looks.specs.Codes.{code_of}
 use Rattle.hotsync_looks.specs.Told.{SinkTold}
@@ -17,7 +17,7 @@ pub record AreUntold (before : CallTold) (out : SinkTold) : Type 0 where
   pub printed : out.taken ≡ None
 
 -- a call for this task, over such objects, answered so
-pub record IsSystemCall (task : Option Task) (status : Status) (report : Report) : Type 0 where
+pub record IsSystemCall (task : Option WordTask) (status : Status) (report : Report) : Type 0 where
   pub before : CallTold
   pub after : CallTold
   pub out : SinkTold

@@ -49,8 +49,8 @@ agenda_of rules meeting =
 
 -- A session between these sides that began: what is known of every session, what it left of both,
 -- and what its status shows of them.
-abbrev pub Talked : List RuleValue → Meeting → SidesTold → SidesTold → Status → Report → Type 0
-Talked rules meeting before after status report =
+abbrev pub BegunSession : List RuleValue → Meeting → SidesTold → SidesTold → Status → Report → Type 0
+BegunSession rules meeting before after status report =
     HadSession (SessionLeft meeting after.palm before.desk after.desk) (ShowsMeeting meeting)
     (agenda_of rules meeting) before.palm after.palm status report
 
@@ -62,7 +62,7 @@ pub record TalkedFor (run : Run) (rules : List RuleValue) (device : Device) (slo
     (before after : SidesTold) (status : Status) (report : Report) : Type 0 where
   pub wishes : Wishes
   pub asked : AsksFor run wishes
-  pub talked : Talked rules (meeting_of device slots wishes) before after status report
+  pub talked : BegunSession rules (meeting_of device slots wishes) before after status report
   pub changed : DesktopRan (meeting_of device slots wishes) before.desk.contents before.desk
       after.desk report.end
 

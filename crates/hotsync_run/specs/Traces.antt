@@ -13,7 +13,7 @@ use Rattle.hotsync_looks.specs.declared.status.Status.TheVariants.{Done, TraceWr
 
 -- What a trace took: the text, wherever the run is told as done, and else unless the trace failed
 -- or memory ran out; or else a first part of it. Where none is named it took nothing of it.
-pub record IsTraced (path : Option (List ℕ)) (text : List ℕ) (before after : SinkTold)
+pub record TakesTrace (path : Option (List ℕ)) (text : List ℕ) (before after : SinkTold)
     (status : Status) : Type 0 where
   pub part : AppendsPrefix before.taken after.taken text
   pub done : path ≢ None → status ≡ Done
@@ -41,12 +41,12 @@ pub record TracesText (text : List ℕ) (before after : SinkTold) (status traced
 pub record TracesFrames (path : Option (List ℕ)) (text : List ℕ) (before after : SinkTold)
     (status traced : Status) : Type 0 where
   pub stands : StandsTraced before after status traced
-  pub traced_is : IsTraced path text before after traced
+  pub traced_is : TakesTrace path text before after traced
 
 -- The trace of a run, by the frames of its report. It is blamed only where its count rose.
 pub record TracesReport (path : Option (List ℕ)) (report : Report) (before after : SinkTold)
     (status : Status) : Type 0 where
-  pub traced : IsTraced path (trace_text (frames_in report)) before after status
+  pub traced : TakesTrace path (trace_text (frames_in report)) before after status
   pub silent : report.frames.items ≡ [] → after.taken ≡ before.taken
   pub failed : status ≡ TraceWrite → Rose before.faults after.faults
   pub paths : after.paths ≡ before.paths

@@ -5,7 +5,7 @@ use Rattle.std.specs.Prelude.{Option, Some, Ok, Result}
 use Rattle.pdb_values.specs.declared.record.Record.{Record}
 use Rattle.desktop_session.specs.Puts.{Puts}
 use Rattle.desktop_session.specs.Requests.{putting}
-use Rattle.session_parts.proofs.LinkWords.{LinkFault, Talk, Act, SessionFault, SessionValue, Asked}
+use Rattle.session_parts.proofs.LinkWords.{LinkFault, Talk, Act, SessionFault, SessionValue, AsksOne}
 use Rattle.slow_mirror.specs.Asks.{Asks}
 use Rattle.slow_mirror.proofs.AskLaws.{none_said, said_all}
 use Rattle.slow_mirror.proofs.NewsLaws.{SplitAt}
@@ -17,10 +17,10 @@ module _ {L : Type 0} {talk : L → Option Talk} {since : L → L → Type 0} {f
 
   -- a record that has an id is asked for under it
   pub put_asked : {handle here : ℕ} (item : Record) {old new : SessionValue L} {told : Result ℕ SessionFault} → here ≡ handle
-      → 0 < item.id → Puts talk since fault downs here item.id item.content old new told → Asked talk since fault downs (put_record handle item) old new
+      → 0 < item.id → Puts talk since fault downs here item.id item.content old new told → AsksOne talk since fault downs (put_record handle item) old new
   put_asked {handle} {here} item {old} {new} is some put =
-      subst (λ h. Asked talk since fault downs (putting 0 h item.id item.content) old new) is
-      (subst (λ g. Asked talk since fault downs (putting g here item.id item.content) old new) (put.old_id some) put.asked)
+      subst (λ h. AsksOne talk since fault downs (putting 0 h item.id item.content) old new) is
+      (subst (λ g. AsksOne talk since fault downs (putting g here item.id item.content) old new) (put.old_id some) put.asked)
 
 -- the one at a place
 pub all_at : {A : Type 0} (P : A → Type 0) (xs : List A) (k : ℕ) (x : A) → AllByRecursion P xs → SplitAt xs k x → P x

@@ -26,10 +26,10 @@ use Rattle.desktop_session.proofs.StopLaws.{does_then, fell_none, stops_more, st
 use Rattle.desktop_session.proofs.WholeListLaws.{count_is, heads_are, more_is}
 use Rattle.desktop_session.specs.Answers.{answer_by, no_more, said_in, user_of}
 use Rattle.desktop_session.specs.Faults.{fault_of}
-use Rattle.desktop_session.specs.Greetings.{Greeted, begun_by, user_by, user_with}
+use Rattle.desktop_session.specs.Greetings.{AnswersGreeting, begun_by, user_by, user_with}
 use Rattle.desktop_session.specs.Lists.{has_more, heads_listed, list_reply, listings}
 use Rattle.desktop_session.specs.Requests.{listing}
-use Rattle.desktop_session.specs.Tellings.{IsProper, device_after}
+use Rattle.desktop_session.specs.Tellings.{IsTellable, device_after}
 use Rattle.desktop_session.specs.declared.fault.SessionFault.TheVariants as session
 use Rattle.session_parts.specs.Causes.{IsLater}
 use Rattle.session_parts.specs.Meets.{IsUnlisted, Meets, MeetsOrNot, greeting, meeting_acts}
@@ -80,7 +80,7 @@ greeted_by talk fault one two cause (Ok user) said is last =
     (is ∙ ap (λ s. answer_by fault (begun_by (user_with (0 ∷ []) user s) (said_in 0x2E no_more two))) (zero_slot user.user)) last
 
 pub unmet_later : (told talk : Option Talk) (fault : Option LinkFault) (cause : SessionFault)
-    → Greeted (0 ∷ []) false told fault (Err cause) ⊎ IsUnlisted (0 ∷ []) false told fault cause → IsByLastReply talk cause
+    → AnswersGreeting (0 ∷ []) false told fault (Err cause) ⊎ IsUnlisted (0 ∷ []) false told fault cause → IsByLastReply talk cause
     → IsLater talk fault cause
 unmet_later told talk fault cause (inl said) last =
     greeted_by talk fault (reply_at 0x10 said.first) (reply_at 0x2E said.second) cause (said_in 0x10 user_of (reply_at 0x10 said.first)) refl said.is last
@@ -103,7 +103,7 @@ listings_lead : (count all : ℕ) → count ≤ all → Leads (listings count) (
 listings_lead count all few =
     subst (λ n. Leads (listings count) (listings n)) (let same : count + (all - count) ≡ all = omega arith in same) (listings-more count (all - count))
 
-few_lists : (device : Device) (count : ℕ) → IsProper device → count ≤ 65536
+few_lists : (device : Device) (count : ℕ) → IsTellable device → count ≤ 65536
     → ((k : ℕ) → k + 1 < count → has_more (list_reply device k) ≡ true) → count ≤ max 1 (length device.databases)
 few_lists device zero proper few more = omega arith
 few_lists device (suc zero) proper few more = omega arith

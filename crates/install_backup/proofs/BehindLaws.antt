@@ -9,7 +9,7 @@ use Rattle.session_parts.specs.Causes.{IsLater}
 use Rattle.session_parts.specs.Rests.{IsFirst}
 use Rattle.session_parts.specs.Spans.{Spans}
 use Rattle.session_parts.proofs.HandleLaws.{one_first}
-use Rattle.session_parts.proofs.LinkWords.{LinkFault, Talk, SessionFault, Act, acted, text, saying, SessionValue, Asked, Does}
+use Rattle.session_parts.proofs.LinkWords.{LinkFault, Talk, SessionFault, Act, acted, text, saying, SessionValue, AsksOne, Does}
 
 -- the handle is the first one before it, too
 first_before : (first : Act) (handle : ℕ) → ((device : Device) → (acted first device).1.handles ≡ device.handles) → (o : Option Talk)
@@ -38,7 +38,7 @@ module _ {L A : Type 0} {talk : L → Option Talk} {since : L → L → Type 0} 
 
   -- the act was refused
   pub span_refused : {first : Act} (acts : ℕ → List ℕ → List Act) {old new : SessionValue L} {cause : SessionFault}
-      → Asked talk since fault downs first old new → IsLater (talk new.link) (fault new.link) cause
+      → AsksOne talk since fault downs first old new → IsLater (talk new.link) (fault new.link) cause
       → Spans talk since fault downs (λ handle given. first ∷ acts handle given) says old new (Err cause)
   span_refused {first} acts {old} {new} {cause} asked later =
       let part = asked_part {A = A} talk since fault downs first (acts 1 []) old new cause asked in
@@ -58,7 +58,7 @@ module _ {L A : Type 0} {talk : L → Option Talk} {since : L → L → Type 0} 
   -- it was answered, and the stretch was asked for
   pub span_behind : (since_more : (a b c : L) → since a b → since b c → since a c) {first : Act} {acts : ℕ → List ℕ → List Act}
       → ((device : Device) → (acted first device).1.handles ≡ device.handles) → {old now new : SessionValue L} {answer : Result A SessionFault}
-      → fault now.link ≡ None → Asked talk since fault downs first old now → Spans talk since fault downs acts says now new answer
+      → fault now.link ≡ None → AsksOne talk since fault downs first old now → Spans talk since fault downs acts says now new answer
       → Spans talk since fault downs (λ handle given. first ∷ acts handle given) says old new answer
   span_behind since_more {first} {acts} keeps {old} {now} {new} {answer} none asked spans =
       let before = one_said talk since fault downs first old now none asked in

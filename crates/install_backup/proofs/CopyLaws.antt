@@ -15,7 +15,7 @@ use Rattle.desktop_session.specs.Answers.{block_of, or_none, record_of}
 use Rattle.desktop_session.specs.Lent.{LentValue}
 use Rattle.desktop_session.specs.Requests.{reading_app, reading_sort}
 use Rattle.desktop_session.specs.Says.{grown, sent}
-use Rattle.session_parts.proofs.LinkWords.{Act, Asked, LinkFault, SessionFault, SessionValue, Talk, acted, answer_by, counting, said_in, saying}
+use Rattle.session_parts.proofs.LinkWords.{Act, AsksOne, LinkFault, SessionFault, SessionValue, Talk, acted, answer_by, counting, said_in, saying}
 use Rattle.session_parts.proofs.RestLaws.{reads_same}
 use Rattle.slow_mirror.specs.Asks.{Asks}
 use Rattle.slow_mirror.specs.Reads.{entries_of, entries_told}
@@ -103,7 +103,7 @@ module _ {L A : Type 0} {talk : L → Option Talk} {since : L → L → Type 0} 
 
   -- an act, answered, and then others
   pub asks_behind : (since_more : (a b c : L) → since a b → since b c → since a c) (one : Act) (rest : List Act) {now new : SessionValue L}
-      {answer : Result A SessionFault} → fault now.link ≡ None → Asked talk since fault downs one old now → Asks talk since fault downs rest now new answer
+      {answer : Result A SessionFault} → fault now.link ≡ None → AsksOne talk since fault downs one old now → Asks talk since fault downs rest now new answer
       → Asks talk since fault downs (one ∷ rest) old new answer
   asks_behind since_more one rest {now} {new} {answer} none asked asks =
       asks_then talk since fault downs since_more (one ∷ []) rest old now new answer (one_said talk since fault downs one old now none asked) asks

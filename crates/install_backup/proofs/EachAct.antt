@@ -2,7 +2,7 @@
 use Rattle.std.proofs.Common.{◌≡◌, ◌∙◌, ◌+◌, ◌≤◌, ap, sym, subst, ℕ, List, [], ◌∷◌, ◌++◌, length, map, take}
 use Rattle.std.proofs.lemmas.List.{map-append}
 use Rattle.std.specs.Prelude.{Option, None, Ok, Err}
-use Rattle.session_parts.proofs.LinkWords.{LinkFault, Talk, SessionFault, Act, SessionValue, Asked}
+use Rattle.session_parts.proofs.LinkWords.{LinkFault, Talk, SessionFault, Act, SessionValue, AsksOne}
 use Rattle.slow_mirror.specs.Asks.{Asks}
 use Rattle.slow_mirror.proofs.AskLaws.{SoFar, asked_part, asks_then, none_said, said_all, said_on}
 use Rattle.slow_mirror.proofs.NewsLaws.{SplitAt, take_all, take_none}
@@ -16,13 +16,13 @@ module _ {L X : Type 0} {talk : L → Option Talk} {since : L → L → Type 0} 
   -- one more was answered
   pub each_on : (since_more : (a b c : L) → since a b → since b c → since a c) {k : ℕ} {x : X} {xs : List X} {now new : SessionValue L}
       → SplitAt xs k x → fault new.link ≡ None → SoFar talk since fault downs (map f (take k xs)) old now
-      → Asked talk since fault downs (f x) now new → SoFar talk since fault downs (map f (take (k + 1) xs)) old new
+      → AsksOne talk since fault downs (f x) now new → SoFar talk since fault downs (map f (take (k + 1) xs)) old new
   each_on since_more {k} {x} {xs} split none before asked =
       rw (ap (map f) split.next ∙ map-append f (take k xs) (x ∷ [])) (said_on since_more none before asked)
 
   -- one more was refused
   pub each_stop : {A : Type 0} (since_more : (a b c : L) → since a b → since b c → since a c) {k : ℕ} {x : X} {xs : List X} {now new : SessionValue L}
-      (cause : SessionFault) → SplitAt xs k x → SoFar talk since fault downs (map f (take k xs)) old now → Asked talk since fault downs (f x) now new
+      (cause : SessionFault) → SplitAt xs k x → SoFar talk since fault downs (map f (take k xs)) old now → AsksOne talk since fault downs (f x) now new
       → Asks {A = A} talk since fault downs (map f xs) old new (Err cause)
   each_stop {A} since_more {k} {x} {xs} {now} {new} cause split before asked =
       let all : map f (take k xs) ++ f x ∷ map f split.rest ≡ map f xs = sym (map-append f (take k xs) (x ∷ split.rest)) ∙ ap (map f) split.is in

@@ -7,7 +7,7 @@ use Rattle.dlp_commands.specs.DeviceSteps.{tried}
 use Rattle.dlp_commands.specs.declared.reading.Reading.TheVariants as reading
 use Rattle.desktop_session.specs.Requests.{reading_resource}
 use Rattle.desktop_session.proofs.TellLaws.{said_device}
-use Rattle.session_parts.proofs.LinkWords.{Act, Asked, LinkFault, SessionFault, SessionValue, Talk, acted, device_after, reading_at, said, saying}
+use Rattle.session_parts.proofs.LinkWords.{Act, AsksOne, LinkFault, SessionFault, SessionValue, Talk, acted, device_after, reading_at, said, saying}
 use Rattle.session_parts.proofs.RestLaws.{after-append, reads_same}
 use Rattle.slow_mirror.specs.Asks.{Asks}
 use Rattle.slow_mirror.proofs.AskLaws.{SoFar, asked_part, asks_then, none_said, said_on, said_part}
@@ -108,7 +108,7 @@ module _ {L : Type 0} {talk : L → Option Talk} {since : L → L → Type 0} {f
   reads_none itself = subst (λ acts. SoFar talk since fault downs acts old old) (sym (read_none asks)) (none_said talk since fault downs itself old)
 
   pub reads_on : (since_more : (a b c : L) → since a b → since b c → since a c) (k : ℕ) {now new : SessionValue L}
-      → fault new.link ≡ None → SoFar talk since fault downs (each_read asks k) old now → Asked talk since fault downs (asks k) now new
+      → fault new.link ≡ None → SoFar talk since fault downs (each_read asks k) old now → AsksOne talk since fault downs (asks k) now new
       → SoFar talk since fault downs (each_read asks (k + 1)) old new
   reads_on since_more k none before asked = rw (read_next asks k) (said_on since_more none before asked)
 
@@ -119,7 +119,7 @@ module _ {L : Type 0} {talk : L → Option Talk} {since : L → L → Type 0} {f
       rw (← left.is) (said_part left.left cause before)
 
   pub reads_stop : {A : Type 0} (since_more : (a b c : L) → since a b → since b c → since a c) (k count : ℕ) {now new : SessionValue L} (cause : SessionFault)
-      → k < count → SoFar talk since fault downs (each_read asks k) old now → Asked talk since fault downs (asks k) now new
+      → k < count → SoFar talk since fault downs (each_read asks k) old now → AsksOne talk since fault downs (asks k) now new
       → Asks {A = A} talk since fault downs (each_read asks count) old new (Err cause)
   reads_stop {A} since_more k count {now} {new} cause below before asked =
       let left = reads_left asks (k + 1) count (omega arith) in

@@ -11,7 +11,7 @@ use Rattle.desktop_session.specs.Answers.{or_false}
 use Rattle.desktop_session.specs.Lists.{IsToldOf}
 use Rattle.desktop_session.specs.Tellings.{number_of}
 use Rattle.desktop_session.proofs.LastLaws.{by_removed}
-use Rattle.session_parts.proofs.LinkWords.{Act, Asked, LinkFault, SessionFault, SessionValue, Talk, answer_by, no_more, said_in}
+use Rattle.session_parts.proofs.LinkWords.{Act, AsksOne, LinkFault, SessionFault, SessionValue, Talk, answer_by, no_more, said_in}
 use Rattle.install_backup.specs.Rooms.{IsNoLimit}
 
 -- what is told of another function is none
@@ -44,7 +44,7 @@ other_said number fault take read (Err cause) other is =
 
 -- the answer to one that may find none
 pub other_removed : {L : Type 0} {talk : L → Option Talk} {since : L → L → Type 0} {fault : L → Option LinkFault} {downs : L → ℕ} {one : Act}
-    {old new : SessionValue L} (cause : SessionFault) → (number_of one == 0x18) ≡ false → Asked talk since fault downs one old new
+    {old new : SessionValue L} (cause : SessionFault) → (number_of one == 0x18) ≡ false → AsksOne talk since fault downs one old new
     → ◌≡◌ {A = Result Bool SessionFault} (Err cause) (answer_by (fault new.link) (or_false (said_in (number_of one) no_more (reply_at (number_of one) new.reply))))
     → IsNoLimit cause
 other_removed {fault = fault} {one = one} {new = new} cause other asked is =

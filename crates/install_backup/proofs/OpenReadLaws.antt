@@ -9,7 +9,7 @@ use Rattle.palm_device.specs.Devices.{Device}
 use Rattle.palm_device.specs.Handles.{no_handles}
 use Rattle.dlp_commands.specs.DatabaseFunctions.{open_db}
 use Rattle.dlp_commands.specs.DeviceSteps.{outcome, tried}
-use Rattle.dlp_commands.specs.Reached.{Tried}
+use Rattle.dlp_commands.specs.Reached.{Trial}
 use Rattle.dlp_commands.proofs.ReplyLaws.{Replies, refused_reply}
 use Rattle.dlp_commands.proofs.TableLaws.{tried_done}
 use Rattle.dlp_commands.proofs.TriedLaws.{Keeps}
@@ -18,16 +18,16 @@ use Rattle.desktop_session.proofs.GreetLaws.{no_fault_said}
 use Rattle.desktop_session.proofs.TellLaws.{IfDone, Opens, open_done, read_again}
 use Rattle.session_parts.specs.Rests.{IsFirst}
 use Rattle.session_parts.proofs.HandleLaws.{IsOpened}
-use Rattle.session_parts.proofs.LinkWords.{Asked, LinkFault, SessionFault, SessionValue, Talk, acted, answer_by, handle_of, said_in}
+use Rattle.session_parts.proofs.LinkWords.{AsksOne, LinkFault, SessionFault, SessionValue, Talk, acted, answer_by, handle_of, said_in}
 
 one_reply : Replies 0x17 (reply.OpenDb 1)
 one_reply = record { is = record { fields = lit< tt; values = tt; fits = lit≤ tt }; function = refl }
 
-any_kept : (P : Device × ReplyValue → Type 0) (r : Tried) → Keeps P r → Keeps (λ (done : Device × ReplyValue). Unit {0}) r
+any_kept : (P : Device × ReplyValue → Type 0) (r : Trial) → Keeps P r → Keeps (λ (done : Device × ReplyValue). Unit {0}) r
 any_kept P (Ok done) keeps = tt
 any_kept P (Err code) keeps = keeps
 
-handle_by : (device : Device) (handle : ℕ) (name : List ℕ) (r : Tried) → IfDone (Opens name 0x90 (reply.OpenDb 1)) r
+handle_by : (device : Device) (handle : ℕ) (name : List ℕ) (r : Trial) → IfDone (Opens name 0x90 (reply.OpenDb 1)) r
     → Keeps (λ (done : Device × ReplyValue). Unit {0}) r → said_in 0x17 handle_of (reply_at 0x17 (outcome device 0x17 r).0) ≡ Ok handle → handle ≡ 1
 handle_by device handle name (Ok done) opens keeps is =
     let both : ◌≡◌ {A = Result ℕ SessionFault} (Ok 1) (Ok handle) =
@@ -58,7 +58,7 @@ first_by (Some talk) name handle bytes told said =
     λ none. opens_one talk.device name handle none (subst (λ r. said_in 0x17 handle_of (reply_at 0x17 r) ≡ Ok handle) told said)
 
 pub opened_to_read : {L : Type 0} {talk : L → Option Talk} {since : L → L → Type 0} {fault : L → Option LinkFault} {downs : L → ℕ} (name : List ℕ) {handle : ℕ}
-    {old now : SessionValue L} → Asked talk since fault downs (opening_to_read name) old now
+    {old now : SessionValue L} → AsksOne talk since fault downs (opening_to_read name) old now
     → Ok handle ≡ answer_by (fault now.link) (said_in 0x17 handle_of (reply_at 0x17 now.reply))
     → IsOpened talk since fault downs (opening_to_read name) handle old now
 opened_to_read {talk = talk} {fault = fault} name {handle} {old} {now} asked is =

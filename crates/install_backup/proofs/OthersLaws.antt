@@ -20,7 +20,7 @@ use Rattle.dlp_commands.specs.DatabaseFunctions.{close_db, create_db, delete_db,
 use Rattle.dlp_commands.specs.DeviceRuns.{Ran, exchanged}
 use Rattle.dlp_commands.specs.DeviceSteps.{DeviceStep, function_number, outcome, tried, tried_by}
 use Rattle.dlp_commands.specs.Errors.{already_open, exists, limit, none_open, not_found, read_only, too_many_open, check, need}
-use Rattle.dlp_commands.specs.Reached.{Tried, writes}
+use Rattle.dlp_commands.specs.Reached.{Trial, writes}
 use Rattle.dlp_commands.specs.Targets.{is_name, target_by, target_of, writable_name}
 use Rattle.dlp_commands.specs.Writings as writing
 use Rattle.dlp_commands.specs.Writings.{WritingValue, written_in}
@@ -220,7 +220,7 @@ module _ (mine : List ℕ → Bool) where
   pub acts_one : (one : Act) (old new : Device) (reply : List ℕ) → IsMine one → DeviceStep old (text one) reply new → (acted one old).1 ≡ new
   unfolding text acted
   acts_one one old new reply is step =
-      ap (λ (r : Tried). (outcome old (function_number one.asks) r).1) (tried_fixed one.given step.free old one.asks is.1)
+      ap (λ (r : Trial). (outcome old (function_number one.asks) r).1) (tried_fixed one.given step.free old one.asks is.1)
       ∙ ap (λ (p : List ℕ × Device). p.1) (step_tried old new one.asks reply is.0 step)
 
   -- a run by a beginning of acts is one by a beginning of the first of them, or goes on behind these

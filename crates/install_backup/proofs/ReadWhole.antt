@@ -31,7 +31,7 @@ use Rattle.session_parts.specs.Meets.{greeting}
 use Rattle.session_parts.specs.Rests.{IsAtRest}
 use Rattle.session_parts.specs.Spans.{within}
 use Rattle.session_parts.specs.Stretches.{AreFirst, EachSays, Stretch, each_acts}
-use Rattle.session_parts.proofs.LinkWords.{IsProper, Talk, closing, counting, saying}
+use Rattle.session_parts.proofs.LinkWords.{IsTellable, Talk, closing, counting, saying}
 use Rattle.session_parts.proofs.RestLaws.{after-append, closes_does, greeting_same, leads_to, listings_same, opened_on, reads_same}
 use Rattle.session_parts.proofs.StretchLaws.{Tells, first_is, tells_on}
 use Rattle.slow_mirror.specs.Reads.{entries_in, entries_told}
@@ -118,9 +118,9 @@ module _ (device : Device) (rests : IsAtRest device) (database : DatabaseValue) 
   pub opens : (acted (opening_to_read name) device).1 ≡ here
   opens = row_does (opening_to_read name) device _ (reply.OpenDb 1) open_row
 
-  pub proper_here : IsProper here
+  pub proper_here : IsTellable here
   proper_here =
-      subst IsProper opens
+      subst IsTellable opens
       (acted_proper (opening_to_read name) device rests.proper (act_sayable (opening_to_read name).asks device (open_fits 0x90 name (lit< tt) named) refl))
 
   abbrev pub base : Base

@@ -15,7 +15,7 @@ use Rattle.palm_device.specs.Handles.{free_handle, no_handles}
 use Rattle.dlp_commands.specs.DatabaseFunctions.{create_db, named}
 use Rattle.dlp_commands.specs.DeviceSteps.{outcome, tried}
 use Rattle.dlp_commands.specs.Errors.{exists, limit, too_many_open, ◌>>=◌, check, need}
-use Rattle.dlp_commands.specs.Reached.{Tried}
+use Rattle.dlp_commands.specs.Reached.{Trial}
 use Rattle.dlp_commands.proofs.ReplyLaws.{Replies, refused_reply}
 use Rattle.dlp_commands.proofs.TableLaws.{tried_done}
 use Rattle.dlp_commands.proofs.TriedLaws.{Keeps}
@@ -24,7 +24,7 @@ use Rattle.desktop_session.proofs.TellLaws.{IfDone, Opens, done_then, read_again
 use Rattle.session_parts.specs.declared.stop.Stop.TheVariants as stop
 use Rattle.desktop_session.proofs.LastLaws.{cause_answered}
 use Rattle.session_parts.proofs.HandleLaws.{make_done}
-use Rattle.session_parts.proofs.LinkWords.{LinkFault, Talk, SessionFault, acted, answer_by, handle_of, said_in, making, SessionValue, Asked}
+use Rattle.session_parts.proofs.LinkWords.{LinkFault, Talk, SessionFault, acted, answer_by, handle_of, said_in, making, SessionValue, AsksOne}
 use Rattle.install_backup.specs.Rooms.{IsUnmade, Judges, fault_of, has_room, stop_at}
 
 -- ---- what CreateDB answers
@@ -77,11 +77,11 @@ full_refused device creator kind flags version name =
 made_reply : Replies 0x18 (reply.CreateDb 1)
 made_reply = record { is = record { fields = lit< tt; values = tt; fits = lit≤ tt }; function = refl }
 
-any_kept : (P : Device × ReplyValue → Type 0) (r : Tried) → Keeps P r → Keeps (λ (done : Device × ReplyValue). Unit {0}) r
+any_kept : (P : Device × ReplyValue → Type 0) (r : Trial) → Keeps P r → Keeps (λ (done : Device × ReplyValue). Unit {0}) r
 any_kept P (Ok done) keeps = tt
 any_kept P (Err code) keeps = keeps
 
-refused_read : (code : ℕ) (r : Tried) → r ≡ Err code → Keeps (λ (done : Device × ReplyValue). Unit {0}) r
+refused_read : (code : ℕ) (r : Trial) → r ≡ Err code → Keeps (λ (done : Device × ReplyValue). Unit {0}) r
     → reply_at 0x18 (reply_text (reply.Refused 0x18 code)) ≡ Ok (reply.Refused 0x18 code)
 refused_read code (Err other) is keeps =
     let same : other ≡ code = cc in
@@ -89,7 +89,7 @@ refused_read code (Err other) is keeps =
     read_again 0x18 (reply.Refused 0x18 code) (refused_reply 0x18 code kept.0 kept.1)
 refused_read code (Ok done) is keeps = absurd cc
 
-room_by : (device : Device) (name : List ℕ) (handle : ℕ) (r : Tried) → IfDone (λ (done : Device × ReplyValue). has_room name device.databases ≡ true) r
+room_by : (device : Device) (name : List ℕ) (handle : ℕ) (r : Trial) → IfDone (λ (done : Device × ReplyValue). has_room name device.databases ≡ true) r
     → Keeps (λ (done : Device × ReplyValue). Unit {0}) r → said_in 0x18 handle_of (reply_at 0x18 (outcome device 0x18 r).0) ≡ Ok handle
     → has_room name device.databases ≡ true
 room_by device name handle (Ok done) room keeps is = room
@@ -105,7 +105,7 @@ made_room device head handle is =
     room_by device head.name handle made (room_done device head.creator.0 head.kind.0 head.attributes head.version head.name)
     (any_kept _ made (tried_done 0 device (making head).asks tt)) is
 
-full_by : (device : Device) (name : List ℕ) (function : ℕ) (code : ErrorCode) (r : Tried) → IfDone (Opens name 0xC0 (reply.CreateDb 1)) r
+full_by : (device : Device) (name : List ℕ) (function : ℕ) (code : ErrorCode) (r : Trial) → IfDone (Opens name 0xC0 (reply.CreateDb 1)) r
     → IfErr r (λ other. (other == limit) ≡ true → has_room name device.databases ≡ false)
     → Keeps (λ (done : Device × ReplyValue). Unit {0}) r
     → said_in 0x18 handle_of (reply_at 0x18 (outcome device 0x18 r).0) ≡ Err (session.Refused function code) → (code.0 == limit) ≡ true
@@ -153,7 +153,7 @@ fault_at name (session.Refused function code) = by ((function == 0x18) && (code.
 fault_at name other = refl
 
 module _ {L : Type 0} {talk : L → Option Talk} {since : L → L → Type 0} {fault : L → Option LinkFault} {downs : L → ℕ} (head : DbHead)
-    {old new : SessionValue L} (asked : Asked talk since fault downs (making head) old new) where
+    {old new : SessionValue L} (asked : AsksOne talk since fault downs (making head) old new) where
   -- it was made
   pub room_judged : (Holds : Device → Type 0) {handle : ℕ} → fault new.link ≡ None
       → Ok handle ≡ answer_by (fault new.link) (said_in 0x18 handle_of (reply_at 0x18 new.reply)) → Judges Holds true head.name (talk old.link)

@@ -6,7 +6,7 @@ ghost use Rattle.dlp_replies.specs.ReplyReading.{reply_at};
 ghost use Rattle.desktop_session.specs.declared.fault.SessionFault.TheVariants as session;
 ghost use Rattle.desktop_session.specs.Lent.{lent_resource, lent_value};
 ghost use Rattle.desktop_session.specs.Requests.{reading_at, reading_resource};
-ghost use Rattle.desktop_session.specs.Stops.{Asked};
+ghost use Rattle.desktop_session.specs.Stops.{AsksOne};
 ghost use Rattle.slow_mirror.specs.Asks.{Asks};
 ghost use Rattle.slow_mirror.specs.Reads.{entries_of};
 ghost use Rattle.session_parts.specs.Causes.{IsLater};
@@ -66,7 +66,7 @@ fn read_record<L: Link>(
 ) -> Result<Record, SessionFault>
     ensures same_reference { db.new.linked.ghost_name ≡ db.old.linked.ghost_name }
     ensures same_handle { db.new.handle ≡ db.old.handle }
-    ensures asked { Asked L.talk L.since L.fault L.downs (reading_at db.old.handle index)
+    ensures asked { AsksOne L.talk L.since L.fault L.downs (reading_at db.old.handle index)
         db.old.linked.now db.new.linked.now }
     ensures none { OnOk result (L.fault db.new.linked.now.link ≡ None) }
     ensures told { IfOk result (λ item. records_in (reply_at 0x20 db.new.linked.now.reply)
@@ -88,7 +88,7 @@ fn read_resource<L: Link>(
 ) -> Result<Resource, SessionFault>
     ensures same_reference { db.new.linked.ghost_name ≡ db.old.linked.ghost_name }
     ensures same_handle { db.new.handle ≡ db.old.handle }
-    ensures asked { Asked L.talk L.since L.fault L.downs (reading_resource db.old.handle index)
+    ensures asked { AsksOne L.talk L.since L.fault L.downs (reading_resource db.old.handle index)
         db.old.linked.now db.new.linked.now }
     ensures none { OnOk result (L.fault db.new.linked.now.link ≡ None) }
     ensures told { IfOk result (λ resource. resources_in (reply_at 0x23 db.new.linked.now.reply)

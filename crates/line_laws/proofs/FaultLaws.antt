@@ -1,25 +1,25 @@
 -- The newest frame that passes, and progress.
 use Rattle.line_laws.proofs.Names.{rules, ◌≡◌, ◌⊎◌, ℕ, ◌+◌, ◌<◌, ◌≤◌, Bool, true, false, not, List, [], ◌∷◌, length, refl, sym, ap, ◌∙◌, arith, inl, inr}
-use Rattle.line_laws.proofs.Names.{cases_Bool, cases_lt, cond-true, cond-false, Key, faulted, late_of, newest, Course, Came, Gone, Late, Sent, said, acked, at}
-use Rattle.line_laws.proofs.Names.{IsAckOf, is_data_of, End, Handheld, Desktop, data_frame, ack_frame, DataPends, AckPends, Progress, IsHeld, Blocked}
+use Rattle.line_laws.proofs.Names.{cases_Bool, cases_lt, cond-true, cond-false, Key, faulted, late_of, newest, FrameCourse, Came, Gone, Late, PastFrame, said, acked, at}
+use Rattle.line_laws.proofs.Names.{IsAckOf, is_data_of, End, Handheld, Desktop, data_frame, ack_frame, DataPends, AckPends, Progress, IsHeld, IsBlocked}
 use Rattle.line_laws.proofs.PastLaws.{at_all, at_push}
 
 -- ---- the newest that passes
 
-pub newest_inside : (p : Sent → Bool) (past : List Sent) → newest p past ≤ length past
+pub newest_inside : (p : PastFrame → Bool) (past : List PastFrame) → newest p past ≤ length past
 newest_inside p [] = omega arith
 newest_inside p (frame ∷ past) = let below = newest_inside p past in elim (cases_Bool (p frame)) [
   | inl passes ↦ omega (arith, cond-true (p frame) (length past + 1) (newest p past) passes)
   | inr fails ↦ omega (arith, cond-false (p frame) (length past + 1) (newest p past) fails)
 ]
 
-pub newest_push : (p : Sent → Bool) (frame : Sent) (past : List Sent) → newest p past ≤ newest p (frame ∷ past)
+pub newest_push : (p : PastFrame → Bool) (frame : PastFrame) (past : List PastFrame) → newest p past ≤ newest p (frame ∷ past)
 newest_push p frame past = let below = newest_inside p past in elim (cases_Bool (p frame)) [
   | inl passes ↦ omega (arith, cond-true (p frame) (length past + 1) (newest p past) passes)
   | inr fails ↦ omega (arith, cond-false (p frame) (length past + 1) (newest p past) fails)
 ]
 
-pub newest_from : (p : Sent → Bool) (past : List Sent) {n : ℕ} {frame : Sent} {older : List Sent} → n ≤ length past → at n past ≡ frame ∷ older
+pub newest_from : (p : PastFrame → Bool) (past : List PastFrame) {n : ℕ} {frame : PastFrame} {older : List PastFrame} → n ≤ length past → at n past ≡ frame ∷ older
     → p frame ≡ true → n ≤ newest p past
 newest_from p [] inside here passes = omega arith
 newest_from p (top ∷ past) {n} {frame} {older} inside here passes = elim (cases_lt (length past) n) [
@@ -32,11 +32,11 @@ newest_from p (top ∷ past) {n} {frame} {older} inside here passes = elim (case
 
 -- ---- at a tick a fault stands above the last one
 
-pub late_is_fault : (Z : End) (frame : Sent) → late_of Z frame ≡ true → faulted frame ≡ true
+pub late_is_fault : (Z : End) (frame : PastFrame) → late_of Z frame ≡ true → faulted frame ≡ true
 late_is_fault Z frame late = search rules
 
-pub fault_at_tick : {X Y : End} {past : List Sent} {cx cy released : ℕ} → Progress X Y past cx cy released → Blocked X past cx released
-    → Blocked Y past cy released → released < newest faulted past
+pub fault_at_tick : {X Y : End} {past : List PastFrame} {cx cy released : ℕ} → Progress X Y past cx cy released → IsBlocked X past cx released
+    → IsBlocked Y past cy released → released < newest faulted past
 fault_at_tick {X} {Y} {past} {cx} {cy} {released} progress bx by = elim bx [
   | inr held ↦ held_is X cx held
   | inl none ↦ elim by [
@@ -53,13 +53,13 @@ fault_at_tick {X} {Y} {past} {cx} {cy} {released} progress bx by = elim bx [
 
 -- ---- progress over the steps
 
-pub at_top : {frame : Sent} {past : List Sent} → at (length past + 1) (frame ∷ past) ≡ frame ∷ past
+pub at_top : {frame : PastFrame} {past : List PastFrame} → at (length past + 1) (frame ∷ past) ≡ frame ∷ past
 at_top = search rules
 
 len : {s t : List Key} → s ≡ t → length s ≡ length t
 len e = ap length e
 
-data_pends-push : {X : End} {frame : Sent} {past : List Sent} {cx : ℕ} → DataPends X past cx → said X (frame ∷ past) ≡ said X past
+data_pends-push : {X : End} {frame : PastFrame} {past : List PastFrame} {cx : ℕ} → DataPends X past cx → said X (frame ∷ past) ≡ said X past
     → DataPends X (frame ∷ past) cx
 data_pends-push {X} {frame} {past} pends same = (let e = at_push frame past pends.inside in record {
   n = pends.n;
@@ -73,7 +73,7 @@ data_pends-push {X} {frame} {past} pends same = (let e = at_push frame past pend
   newest_is = ap (λ p. length (said X p)) e ∙ pends.newest_is ∙ sym (len same);
 })
 
-ack_pends-push : {X Y : End} {frame : Sent} {past : List Sent} {cy : ℕ} → AckPends X Y past cy → said X (frame ∷ past) ≡ said X past
+ack_pends-push : {X Y : End} {frame : PastFrame} {past : List PastFrame} {cy : ℕ} → AckPends X Y past cy → said X (frame ∷ past) ≡ said X past
     → AckPends X Y (frame ∷ past) cy
 ack_pends-push {Y} {frame} {past} pends same = (let e = at_push frame past pends.inside in record {
   n = pends.n;
@@ -88,7 +88,7 @@ ack_pends-push {Y} {frame} {past} pends same = (let e = at_push frame past pends
 })
 
 -- a frame that isn't data of X
-pub progress_push : {X Y : End} {frame : Sent} {past : List Sent} {cx cy released : ℕ} → Progress X Y past cx cy released → is_data_of X frame ≡ false
+pub progress_push : {X Y : End} {frame : PastFrame} {past : List PastFrame} {cx cy released : ℕ} → Progress X Y past cx cy released → is_data_of X frame ≡ false
     → said X (frame ∷ past) ≡ said X past → Progress X Y (frame ∷ past) cx cy released
 progress_push {X} {frame} {past} progress other same =
     let stays : newest (is_data_of X) (frame ∷ past) ≡ newest (is_data_of X) past = cond-false _ _ _ other in
@@ -101,23 +101,23 @@ progress_push {X} {frame} {past} progress other same =
       ];
     }
 
-pub is_data-frame : (X : End) (key : Key) (bytes : List ℕ) (course : Course) → is_data_of X (data_frame X key bytes course) ≡ true
+pub is_data-frame : (X : End) (key : Key) (bytes : List ℕ) (course : FrameCourse) → is_data_of X (data_frame X key bytes course) ≡ true
 is_data-frame Handheld key bytes course = refl
 is_data-frame Desktop key bytes course = refl
 
-is_ack-frame : (X : End) (key : Key) (course : Course) → IsAckOf X (ack_frame X key course)
+is_ack-frame : (X : End) (key : Key) (course : FrameCourse) → IsAckOf X (ack_frame X key course)
 is_ack-frame Handheld key course = refl
 is_ack-frame Desktop key course = refl
 
-module _ {X Y : End} {past : List Sent} {cx cy released : ℕ} where
+module _ {X Y : End} {past : List PastFrame} {cx cy released : ℕ} where
   -- X sends data
-  pub progress_sent : {key : Key} {bytes : List ℕ} {course : Course} → released ≤ length past
+  pub progress_sent : {key : Key} {bytes : List ℕ} {course : FrameCourse} → released ≤ length past
       → cx ≤ length past → Progress X Y (data_frame X key bytes course ∷ past) cx cy released
   progress_sent {key} {bytes} {course} before inside =
       let frame = data_frame X key bytes course in
       let here : newest (is_data_of X) (frame ∷ past) ≡ length past + 1 = cond-true _ _ _ (is_data-frame X key bytes course) in
       record { since = omega (arith, here, before); cause = go course here } where
-        go : (course : Course) → newest (is_data_of X) (data_frame X key bytes course ∷ past) ≡ length past + 1
+        go : (course : FrameCourse) → newest (is_data_of X) (data_frame X key bytes course ∷ past) ≡ length past + 1
             → (newest (is_data_of X) (data_frame X key bytes course ∷ past) ≤ newest faulted (data_frame X key bytes course ∷ past))
             ⊎ DataPends X (data_frame X key bytes course ∷ past) cx ⊎ AckPends X Y (data_frame X key bytes course ∷ past) cy
         go Came here = inr (inl (record {
@@ -135,14 +135,14 @@ module _ {X Y : End} {past : List Sent} {cx cy released : ℕ} where
         go Late here = inl (omega (arith, here))
 
   -- Y acknowledges the newest fragment of X
-  pub progress_acked : {key : Key} {course : Course} {c : ℕ} → Progress X Y past cx cy released
+  pub progress_acked : {key : Key} {course : FrameCourse} {c : ℕ} → Progress X Y past cx cy released
       → is_data_of X (ack_frame Y key course) ≡ false → cy ≤ length past
       → acked Y (ack_frame Y key course ∷ past) ≡ said X (ack_frame Y key course ∷ past)
       → Progress X Y (ack_frame Y key course ∷ past) c cy released
   progress_acked {key} {course} {c} progress other inside all =
       let stays : newest (is_data_of X) (ack_frame Y key course ∷ past) ≡ newest (is_data_of X) past = cond-false _ _ _ other in
       record { since = omega (arith, progress.since, stays); cause = go course stays all } where
-        go : (course : Course) → newest (is_data_of X) (ack_frame Y key course ∷ past) ≡ newest (is_data_of X) past
+        go : (course : FrameCourse) → newest (is_data_of X) (ack_frame Y key course ∷ past) ≡ newest (is_data_of X) past
             → acked Y (ack_frame Y key course ∷ past) ≡ said X (ack_frame Y key course ∷ past)
             → (newest (is_data_of X) (ack_frame Y key course ∷ past) ≤ newest faulted (ack_frame Y key course ∷ past))
             ⊎ DataPends X (ack_frame Y key course ∷ past) c ⊎ AckPends X Y (ack_frame Y key course ∷ past) cy

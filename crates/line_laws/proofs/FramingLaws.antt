@@ -2,8 +2,8 @@
 use Rattle.line_laws.proofs.Names.{rules, ◌≡◌, ℕ, suc, ◌+◌, ◌-◌, ◌<◌, ◌≤◌, Bool, true, false, ◌&&◌, leb, List, [], ◌∷◌, length, map, refl, sym, ap, subst, ◌∙◌}
 use Rattle.line_laws.proofs.Names.{arith, inl, inr, slice_index_or, AllByRecursion, cases_lt, cond-false, and_parts, and_from, both_ways, le-leb, leb-true}
 use Rattle.line_laws.proofs.Names.{FateValue, Untouched, Lost, Cut, Hit, Noise, Unplug, Abort, arrives, comes, RepeatsHaveFaults, course_of, sent_in}
-use Rattle.line_laws.proofs.Names.{past_behind, past_of, came_in, Sent, at, AcksAreFor, StaysAway, ComeInOrder, SpeaksProperly, IsProper, Talk, FrameValue, End}
-use Rattle.line_laws.proofs.Names.{Handheld, Desktop, came_by, data_taken, Side, CameByCursor, IsNoAbort, Framed, unsaid, Speech}
+use Rattle.line_laws.proofs.Names.{past_behind, past_of, came_in, PastFrame, at, AcksAreFor, StaysAway, ComeInOrder, SpeaksProperly, IsProper, Talk, FrameValue, End}
+use Rattle.line_laws.proofs.Names.{Handheld, Desktop, came_by, data_taken, Side, CameByCursor, IsNoAbort, FrameFacts, unsaid, Speech}
 use Rattle.trace_text.specs.Fates as fate
 use Rattle.line_laws.proofs.PastLaws.{at_push, at_all}
 use Rattle.line_laws.proofs.CameLaws.{Grows, begins-grow, acks-grow, data_that_came-taken}
@@ -11,14 +11,14 @@ use Rattle.line_laws.proofs.CameLaws.{Grows, begins-grow, acks-grow, data_that_c
 -- ---- what came, by the frames and by the cursors
 
 -- frame n came exactly where it comes and stands at or before the cursor
-abbrev pub IsByCursor : (End → ℕ) → (ℕ → Bool) → List Sent → Type 0
+abbrev pub IsByCursor : (End → ℕ) → (ℕ → Bool) → List PastFrame → Type 0
 IsByCursor cursor came past =
-    (n : ℕ) (frame : Sent) (older : List Sent) → n ≤ length past → at n past ≡ frame ∷ older → came n ≡ (comes frame.course && leb n (cursor frame.from))
+    (n : ℕ) (frame : PastFrame) (older : List PastFrame) → n ≤ length past → at n past ≡ frame ∷ older → came n ≡ (comes frame.course && leb n (cursor frame.from))
 
-pub grows-by : (cursor : End → ℕ) {came : ℕ → Bool} (past : List Sent) → IsByCursor cursor came past → Grows (came_by cursor past) came past
+pub grows-by : (cursor : End → ℕ) {came : ℕ → Bool} (past : List PastFrame) → IsByCursor cursor came past → Grows (came_by cursor past) came past
 grows-by cursor past is n inside taken = search rules
 
-pub speaks-as : {X Y : End} {talk : Talk} {cursor : End → ℕ} {came : ℕ → Bool} {past : List Sent} {x : Side} → IsByCursor cursor came past
+pub speaks-as : {X Y : End} {talk : Talk} {cursor : End → ℕ} {came : ℕ → Bool} {past : List PastFrame} {x : Side} → IsByCursor cursor came past
     → cursor X ≤ length past → Speech X Y talk cursor past x → SpeaksProperly X Y talk came past
 speaks-as {X} {Y} {talk} {cursor} {came} {past} {x} is inside speech =
     let grows = grows-by cursor past is in
@@ -40,16 +40,16 @@ comes-arrives (Noise bytes) = refl
 comes-arrives Unplug = refl
 comes-arrives Abort = refl
 
-at-behind : {n : ℕ} (past : List Sent) (frames : List FrameValue) → AllByRecursion IsNoAbort frames → n ≤ length past
+at-behind : {n : ℕ} (past : List PastFrame) (frames : List FrameValue) → AllByRecursion IsNoAbort frames → n ≤ length past
     → at n (past_behind past frames) ≡ at n past
 at-behind past [] whole inside = refl
 at-behind {n} past (frame ∷ later) whole inside =
     ap (λ p. at n (past_behind p later)) (cond-false _ _ _ whole.0)
     ∙ (at-behind (sent_in frame ∷ past) later whole.1 (omega arith) ∙ at_push (sent_in frame) past inside)
 
-came-at : (cursor : End → ℕ) (past : List Sent) (frames : List FrameValue) {number : ℕ} → AllByRecursion IsNoAbort frames
+came-at : (cursor : End → ℕ) (past : List PastFrame) (frames : List FrameValue) {number : ℕ} → AllByRecursion IsNoAbort frames
     → CameByCursor number cursor frames → number ≡ length past + 1
-    → {n : ℕ} {frame : Sent} {older : List Sent} → number ≤ n → n ≤ length (past_behind past frames) → at n (past_behind past frames) ≡ frame ∷ older
+    → {n : ℕ} {frame : PastFrame} {older : List PastFrame} → number ≤ n → n ≤ length (past_behind past frames) → at n (past_behind past frames) ≡ frame ∷ older
     → slice_index_or (map (λ f. f.came) frames) (n - number) false ≡ (comes frame.course && leb n (cursor frame.from))
 came-at cursor past [] whole came next from inside here = absurd (omega arith)
 came-at cursor past (first ∷ later) {number} whole came next {n} {frame} {older} from inside here =
@@ -110,8 +110,8 @@ come-in-order cursor number (frame ∷ later) came = (
 
 -- ---- the whole
 
-pub trace-is-proper : {script : ℕ → FateValue} {talk : Talk} {cursor : End → ℕ} {frames : List FrameValue} {past : List Sent} {h d : Side}
-    → Framed script cursor frames past → RepeatsHaveFaults past → cursor Handheld ≤ length past → cursor Desktop ≤ length past
+pub trace-is-proper : {script : ℕ → FateValue} {talk : Talk} {cursor : End → ℕ} {frames : List FrameValue} {past : List PastFrame} {h d : Side}
+    → FrameFacts script cursor frames past → RepeatsHaveFaults past → cursor Handheld ≤ length past → cursor Desktop ≤ length past
     → Speech Handheld Desktop talk cursor past h → Speech Desktop Handheld talk cursor past d → IsProper script talk frames
 trace-is-proper {talk} {cursor} {frames} {past} framed faults h_in d_in handheld desktop =
     let is : IsByCursor cursor (came_in frames) past =

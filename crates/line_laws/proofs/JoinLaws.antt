@@ -1,15 +1,15 @@
 -- Release and faults over the whole tick, how an acknowledged fragment is known, and tries as a number of frames.
 use Rattle.line_laws.proofs.Names.{rules, ◌≡◌, ◌⊎◌, ℕ, ◌+◌, ◌<◌, ◌≤◌, Bool, true, false, List, ◌∷◌, length, Some, refl, sym, ap, subst, ◌∙◌, arith, inl, inr}
-use Rattle.line_laws.proofs.Names.{cases_lt, both_ways, Key, comes, faulted, newest, last_repeat, newest_repeat, RepeatsHaveFaults, Course, Sent, is_end, first}
+use Rattle.line_laws.proofs.Names.{cases_lt, both_ways, Key, comes, faulted, newest, last_repeat, newest_repeat, RepeatsHaveFaults, FrameCourse, PastFrame, is_end, first}
 use Rattle.line_laws.proofs.Names.{said, acked, at, IsDataOf, IsAckOf, is_data_of, is_repeat, run, End, Handheld, Desktop, Apart, Follows, data_frame, Release}
-use Rattle.line_laws.proofs.Names.{Acknowledged, AcksBehind}
+use Rattle.line_laws.proofs.Names.{IsAcknowledged, AcksBehind}
 use Rattle.line_laws.proofs.CountLaws.{follows-length}
 use Rattle.line_laws.proofs.PastLaws.{at_push, at_all, said_data-other}
 use Rattle.line_laws.proofs.FaultLaws.{newest_push}
 use Rattle.line_laws.proofs.TraceLaws.{last_repeat-is, last_repeat-stays, last_repeat-inside, newest_repeat-of, again_repeats, release_tick, faults_again}
 
 -- the frame of X is a repeat of X, and none of another end
-pub repeat_only : (X Y : End) (key : Key) (bytes : List ℕ) (course : Course) (past : List Sent) → is_end Y X ≡ false
+pub repeat_only : (X Y : End) (key : Key) (bytes : List ℕ) (course : FrameCourse) (past : List PastFrame) → is_end Y X ≡ false
     → is_repeat Y (data_frame X key bytes course) past ≡ false
 repeat_only X Y key bytes course past apart = cc
 
@@ -22,12 +22,12 @@ either Handheld Desktop Desktop apart = inr refl
 either Desktop Handheld Handheld apart = inr refl
 either Desktop Handheld Desktop apart = inl refl
 
-near_of : (X Y : End) (past : List Sent) (released : ℕ) → is_end X Y ≡ false → last_repeat X past ≤ released + 2 → last_repeat Y past ≤ released + 2
+near_of : (X Y : End) (past : List PastFrame) (released : ℕ) → is_end X Y ≡ false → last_repeat X past ≤ released + 2 → last_repeat Y past ≤ released + 2
     → (Z : End) → last_repeat Z past ≤ released + 2
 near_of X Y past released apart x y Z = search rules
 
 -- release and faults where X alone waits
-pub release_one : {X Y : End} {past : List Sent} {cx cy released : ℕ} {key : Key} {bytes : List ℕ} {course : Course} → Apart X Y
+pub release_one : {X Y : End} {past : List PastFrame} {cx cy released : ℕ} {key : Key} {bytes : List ℕ} {course : FrameCourse} → Apart X Y
     → first (said X past) ≡ Some key → Release X past cx released → Release Y past cy released → cx ≤ length past → cy ≤ length past
     → RepeatsHaveFaults past → released < newest faulted past
     → Release X (data_frame X key bytes course ∷ past) cx (length past) × Release Y (data_frame X key bytes course ∷ past) cy (length past)
@@ -44,8 +44,8 @@ release_one {X} {Y} {past} {released} {key} {bytes} {course} apart newest_is x_r
     )
 
 -- and where both wait
-pub release_two : {X Y : End} {past : List Sent} {cx cy released : ℕ} {key : Key} {bytes : List ℕ} {course : Course} {key' : Key}
-    {bytes' : List ℕ} {course' : Course}
+pub release_two : {X Y : End} {past : List PastFrame} {cx cy released : ℕ} {key : Key} {bytes : List ℕ} {course : FrameCourse} {key' : Key}
+    {bytes' : List ℕ} {course' : FrameCourse}
     → Apart X Y → first (said X past) ≡ Some key → first (said Y past) ≡ Some key' → Release X past cx released → Release Y past cy released
     → cx ≤ length past → cy ≤ length past
     → RepeatsHaveFaults past → released < newest faulted past
@@ -80,18 +80,18 @@ release_two {X} {Y} {past} {cx} {cy} {released} {key} {bytes} {course} {key'} {b
 
 -- ---- how X's newest fragment came to be acknowledged: by the frame of Y at the cursor
 
-pub acknowledged_by_ack : {X Y : End} {past : List Sent} (cy : ℕ) {frame : Sent} → at (cy + 1) past ≡ frame ∷ at cy past → IsAckOf Y frame
+pub acknowledged_by_ack : {X Y : End} {past : List PastFrame} (cy : ℕ) {frame : PastFrame} → at (cy + 1) past ≡ frame ∷ at cy past → IsAckOf Y frame
     → comes frame.course ≡ true → length (said X (at (cy + 1) past)) ≡ length (said X past) → first (said X past) ≡ Some (frame.key)
-    → Acknowledged X Y past (cy + 1)
+    → IsAcknowledged X Y past (cy + 1)
 acknowledged_by_ack cy here is came newest_is key = search rules
 
-pub acknowledged_by_answer : {X Y : End} {past : List Sent} (cy : ℕ) {frame : Sent} → at (cy + 1) past ≡ frame ∷ at cy past → IsDataOf Y frame
-    → comes frame.course ≡ true → length (acked Y (at (cy + 1) past)) ≡ length (said X past) → Acknowledged X Y past (cy + 1)
+pub acknowledged_by_answer : {X Y : End} {past : List PastFrame} (cy : ℕ) {frame : PastFrame} → at (cy + 1) past ≡ frame ∷ at cy past → IsDataOf Y frame
+    → comes frame.course ≡ true → length (acked Y (at (cy + 1) past)) ≡ length (said X past) → IsAcknowledged X Y past (cy + 1)
 acknowledged_by_answer cy here is came newest_is = search rules
 
 -- ---- acknowledgements stand behind what they acknowledge
 
-pub acks_behind-push : (X Y : End) (frame : Sent) (past : List Sent) (fresh : Bool) → AcksBehind X Y past
+pub acks_behind-push : (X Y : End) (frame : PastFrame) (past : List PastFrame) (fresh : Bool) → AcksBehind X Y past
     → Follows (said X (frame ∷ past)) (acked Y (frame ∷ past)) fresh → AcksBehind X Y (frame ∷ past)
 acks_behind-push X Y frame past fresh all follows n inside = elim (cases_lt (length past) n) [
   | inl new ↦ (let e : n ≡ length (frame ∷ past) = omega arith in
@@ -103,13 +103,13 @@ acks_behind-push X Y frame past fresh all follows n inside = elim (cases_lt (len
 
 -- ---- tries
 
-pub run_again : (X : End) {key : Key} (bytes : List ℕ) (course : Course) (past : List Sent) → first (said X past) ≡ Some key
+pub run_again : (X : End) {key : Key} (bytes : List ℕ) (course : FrameCourse) (past : List PastFrame) → first (said X past) ≡ Some key
     → run X (data_frame X key bytes course ∷ past) ≡ run X past + 1
 run_again X bytes course past newest_is = search rules
 
-pub run_begins : (X : End) {key : Key} (bytes : List ℕ) (course : Course) (past : List Sent) → (first (said X past) ≡ Some key → ⊥)
+pub run_begins : (X : End) {key : Key} (bytes : List ℕ) (course : FrameCourse) (past : List PastFrame) → (first (said X past) ≡ Some key → ⊥)
     → run X (data_frame X key bytes course ∷ past) ≡ 1
 run_begins X bytes course past new = search rules
 
-pub run_other : (X : End) (frame : Sent) (past : List Sent) → is_data_of X frame ≡ false → run X (frame ∷ past) ≡ run X past
+pub run_other : (X : End) (frame : PastFrame) (past : List PastFrame) → is_data_of X frame ≡ false → run X (frame ∷ past) ≡ run X past
 run_other X frame past other = cc

@@ -1,6 +1,6 @@
 -- The messages of both ends: how many pieces stand before one, and what stays of the rules when a message is added.
 use Rattle.line_laws.proofs.Names.{rules, ◌≡◌, ◌⊎◌, ℕ, zero, suc, ◌+◌, ◌<◌, ◌≤◌, Bool, true, false, List, [], ◌∷◌, ◌++◌, length, Option, Some, None, refl, sym}
-use Rattle.line_laws.proofs.Names.{ap, ◌∙◌, arith, inl, inr, cases_lt, piece_count, Sent, is_end, first, said, is_data_of, is_repeat, AcksNewest, AnswersNewest}
+use Rattle.line_laws.proofs.Names.{ap, ◌∙◌, arith, inl, inr, cases_lt, piece_count, PastFrame, is_end, first, said, is_data_of, is_repeat, AcksNewest, AnswersNewest}
 use Rattle.line_laws.proofs.Names.{IsKnown, IfAnswers, BeginInTurn, Talk, Turn, messages_of, pieces_before, answered_by, End, Handheld, Desktop, count_messages}
 use Rattle.line_laws.proofs.Names.{say}
 
@@ -81,11 +81,11 @@ messages-other Desktop Desktop message talk apart = absurd cc
 
 -- ---- the rules stay
 
-pub known-longer : {X Y : End} {talk later : Talk} {came : ℕ → Bool} {past : List Sent} → Longer talk later → IsKnown X Y talk came past
+pub known-longer : {X Y : End} {talk later : Talk} {came : ℕ → Bool} {past : List PastFrame} → Longer talk later → IsKnown X Y talk came past
     → IsKnown X Y later came past
 known-longer {X} {Y} {talk} {later} {past} longer was = record { n = was.n; reaches = was.reaches; cause = go was.reaches.frame was.cause }
   where
-    go : (frame : Sent) → AcksNewest X Y past was.n frame ⊎ AnswersNewest X Y talk past was.n frame
+    go : (frame : PastFrame) → AcksNewest X Y past was.n frame ⊎ AnswersNewest X Y talk past was.n frame
         → AcksNewest X Y past was.n frame ⊎ AnswersNewest X Y later past was.n frame
     go frame (inl ack) = inl ack
     go frame (inr answer) = inr (record {
@@ -102,7 +102,7 @@ known-longer {X} {Y} {talk} {later} {past} longer was = record { n = was.n; reac
       };
     })
 
-pub answers-longer : (turn : Option Turn) {talk later : Talk} (came : ℕ → Bool) (past : List Sent) → Longer talk later → IfAnswers turn talk came past
+pub answers-longer : (turn : Option Turn) {talk later : Talk} (came : ℕ → Bool) (past : List PastFrame) → Longer talk later → IfAnswers turn talk came past
     → IfAnswers turn later came past
 answers-longer None came past longer was = tt
 answers-longer (Some turn) came past longer was = record {
@@ -113,14 +113,14 @@ answers-longer (Some turn) came past longer was = record {
 }
 
 -- a new fragment is one more
-pub new-says : (X : End) (frame : Sent) (past : List Sent) → is_data_of X frame ≡ true → is_repeat X frame past ≡ false
+pub new-says : (X : End) (frame : PastFrame) (past : List PastFrame) → is_data_of X frame ≡ true → is_repeat X frame past ≡ false
     → length (said X (frame ∷ past)) ≡ length (said X past) + 1
 new-says X frame past is new = search rules
 
-said-grows : (X : End) (frame : Sent) (past : List Sent) → length (said X past) ≤ length (said X (frame ∷ past))
+said-grows : (X : End) (frame : PastFrame) (past : List PastFrame) → length (said X past) ≤ length (said X (frame ∷ past))
 said-grows X frame past = search rules
 
-pub begins-longer : (X Y : End) {talk later : Talk} (came : ℕ → Bool) (past : List Sent) → Longer talk later
+pub begins-longer : (X Y : End) {talk later : Talk} (came : ℕ → Bool) (past : List PastFrame) → Longer talk later
     → length (said X past) ≤ pieces_before (messages_of X talk) (count_messages X talk) → BeginInTurn X Y talk came past
     → BeginInTurn X Y later came past
 begins-longer X Y came [] longer most was = tt

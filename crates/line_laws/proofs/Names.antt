@@ -1,17 +1,17 @@
 -- The names that the proofs of this crate cite, passed on from one place. Declares nothing.
-pub use Rattle.line_laws.specs.Budget.{FirstTry, HeldBudget, HeldUp, Queued, Timed, Tried, data_pending, load}
+pub use Rattle.line_laws.specs.Budget.{FirstTry, HeldBudget, HeldUp, RepeatBudget, EndTime, TryBudget, data_pending, load}
 pub use Rattle.line_laws.specs.Came.{AcksMatch, came_by, data_taken, is_taken}
 pub use Rattle.line_laws.specs.Core.{AllBear, AllFit, Answering, Apart, Awaits, Core, Counts, Fits, Follows, Hears, Side, Speaks, Waiting, ack_frame}
 pub use Rattle.line_laws.specs.Core.{data_frame, key_now, part_now, taken_count}
-pub use Rattle.line_laws.specs.Framing.{CameByCursor, Framed, IsNoAbort, PassesFrame, RunsOn}
+pub use Rattle.line_laws.specs.Framing.{CameByCursor, FrameFacts, IsNoAbort, PassesFrame, RunsOn}
 pub use Rattle.line_laws.specs.Hearing.{heard}
 pub use Rattle.line_laws.specs.Line.{Knows, Line}
 pub use Rattle.line_laws.specs.Measure.{measure, rest_tries, work}
-pub use Rattle.line_laws.specs.Progress.{AckPends, Blocked, DataPends, IsHeld, Progress}
+pub use Rattle.line_laws.specs.Progress.{AckPends, IsBlocked, DataPends, IsHeld, Progress}
 pub use Rattle.line_laws.specs.Promises.{HasProperTrace, HasTenFaults}
 pub use Rattle.line_laws.specs.Reaching.{BeginsReached}
 pub use Rattle.line_laws.specs.Talking.{Moves, Speech, Talking, TookNewest, count_messages, left, part_at, say, unsaid}
-pub use Rattle.line_laws.specs.Trace.{Acknowledged, AcksBehind, AcksFollow, NoAck, Release, Traced, ack_keys, came_keys, cons_if}
+pub use Rattle.line_laws.specs.Trace.{IsAcknowledged, AcksBehind, AcksFollow, NoAck, Release, TraceFacts, ack_keys, came_keys, cons_if}
 pub use Rattle.padp_link.proofs.NeighbourLaws.{next_key_differs}
 pub use Rattle.padp_link.proofs.ReceiverLaws.{IsBefore, takes_piece}
 pub use Rattle.padp_link.specs.Collecting.{data_fragment}
@@ -35,10 +35,10 @@ pub use Rattle.trace_text.specs.Fates.{Abort, Cut, FateValue, Hit, Lost, Noise, 
 pub use Rattle.trace_text.specs.Faults.{IsHeldIn, RepeatsHaveFaults, comes, count, data_comes, faulted, is_late, last_repeat, late_of, newest, newest_repeat}
 pub use Rattle.trace_text.specs.Frames.{came_in, course_of, past_behind, past_of, sent_in}
 pub use Rattle.trace_text.specs.Parts.{Part, add_part, each_once, key_of_part, message_parts, part_of, session_parts, spoken}
-pub use Rattle.trace_text.specs.Past.{Came, Course, Gone, IsAckOf, IsDataOf, Late, Sent, ack_of, acked, add, at, data_of, first, is_data_of, is_end, is_repeat}
+pub use Rattle.trace_text.specs.Past.{Came, FrameCourse, Gone, IsAckOf, IsDataOf, Late, PastFrame, ack_of, acked, add, at, data_of, first, is_data_of, is_end, is_repeat}
 pub use Rattle.trace_text.specs.Past.{keys, run, said, same_key}
 pub use Rattle.trace_text.specs.Proper.{AcksAreFor, AcksNewest, AnswersNewest, AnswersReached, AreNumbered, AtMostTen, BeginInTurn, ComeInOrder, EndReached}
-pub use Rattle.trace_text.specs.Proper.{IfAnswers, IsKnown, IsProper, Numbered, Reaches, SpeaksProperly, StaysAway, data_that_came, is_ack_of}
+pub use Rattle.trace_text.specs.Proper.{IfAnswers, IsKnown, IsProper, NumberedFrame, Reaches, SpeaksProperly, StaysAway, data_that_came, is_ack_of}
 pub use Rattle.trace_text.specs.Talks.{Talk, Turn, answer_to, answered_by, messages_of, pieces_before}
 pub use Rattle.trace_text.specs.TraceLines.{FrameValue}
 pub use Rattle.trace_text.specs.declared.frame.End.{End}

@@ -1,6 +1,6 @@
 -- What was said and taken, with its bytes.
 use Rattle.line_laws.proofs.Names.{◌≡◌, ℕ, ◌+◌, true, not, ◌&&◌, List, [], ◌∷◌, map, Some, None, refl, sym, ap, ◌∙◌, inl, inr, cases_Bool, cond-true}
-use Rattle.line_laws.proofs.Names.{cond-false, Key, data_comes, Part, key_of_part, part_of, add_part, spoken, each_once, Course, Sent, is_end, same_key, first}
+use Rattle.line_laws.proofs.Names.{cond-false, Key, data_comes, Part, key_of_part, part_of, add_part, spoken, each_once, FrameCourse, PastFrame, is_end, same_key, first}
 use Rattle.line_laws.proofs.Names.{add, said, acked, at, is_data_of, End, data_frame, heard, cons_if, came_keys, ack_keys, AcksFollow}
 use Rattle.line_laws.proofs.PastLaws.{same_key-same, same_key-apart}
 use Rattle.line_laws.proofs.FaultLaws.{is_data-frame}
@@ -24,7 +24,7 @@ add_part-again part (newest ∷ older) same = (let e : newest.key ≡ part.key =
 
 -- ---- the keys of what was said
 
-pub spoken_keys : (X : End) (past : List Sent) → map key_of_part (spoken X past) ≡ said X past
+pub spoken_keys : (X : End) (past : List PastFrame) → map key_of_part (spoken X past) ≡ said X past
 spoken_keys X [] = refl
 spoken_keys X (frame ∷ past) = let older = spoken_keys X past in elim (cases_Bool (is_data_of X frame)) [
   | inl is ↦ ap (λ s. map key_of_part s) (cond-true (is_data_of X frame) (add_part (part_of frame) (spoken X past)) (spoken X past) is)
@@ -36,7 +36,7 @@ spoken_keys X (frame ∷ past) = let older = spoken_keys X past in elim (cases_B
 
 -- ---- the keys of what was taken are those that were acknowledged
 
-pub heard_keys : (X : End) (past : List Sent) → map key_of_part (heard X past) ≡ each_once (came_keys X past)
+pub heard_keys : (X : End) (past : List PastFrame) → map key_of_part (heard X past) ≡ each_once (came_keys X past)
 heard_keys X [] = refl
 heard_keys X (frame ∷ past) = let older = heard_keys X past in elim (cases_Bool (data_comes X frame)) [
   | inl is ↦ ap (λ s. map key_of_part s) (cond-true (data_comes X frame) (add_part (part_of frame) (heard X past)) (heard X past) is)
@@ -46,7 +46,7 @@ heard_keys X (frame ∷ past) = let older = heard_keys X past in elim (cases_Boo
       ∙ sym (ap (λ b. each_once (cons_if b frame.key (came_keys X past))) other)
 ]
 
-pub acked_each_once : (Y : End) (past : List Sent) → acked Y past ≡ each_once (ack_keys Y past)
+pub acked_each_once : (Y : End) (past : List PastFrame) → acked Y past ≡ each_once (ack_keys Y past)
 acked_each_once Y [] = refl
 acked_each_once Y (frame ∷ past) = let older = acked_each_once Y past in elim (cases_Bool (is_end Y frame.from && not frame.is_data)) [
   | inl is ↦ ap (λ o. add o (acked Y past)) (cond-true (is_end Y frame.from && not frame.is_data) (Some frame.key) None is) ∙ ap (λ s. add (Some frame.key) s)
@@ -55,31 +55,31 @@ acked_each_once Y (frame ∷ past) = let older = acked_each_once Y past in elim 
       ∙ sym (ap (λ b. each_once (cons_if b frame.key (ack_keys Y past))) other)
 ]
 
-pub heard_is_acked : (X Y : End) (past : List Sent) (cx : ℕ) → AcksFollow X Y past cx → map key_of_part (heard X (at cx past)) ≡ acked Y past
+pub heard_is_acked : (X Y : End) (past : List PastFrame) (cx : ℕ) → AcksFollow X Y past cx → map key_of_part (heard X (at cx past)) ≡ acked Y past
 heard_is_acked X Y past cx follow = heard_keys X (at cx past) ∙ ap each_once (sym follow) ∙ sym (acked_each_once Y past)
 
 -- ---- over the steps
 
 -- X begins a fragment: one part more
-pub spoken_begins : (X : End) {key : Key} {bytes : List ℕ} (course : Course) (past : List Sent) → (first (said X past) ≡ Some key → ⊥)
+pub spoken_begins : (X : End) {key : Key} {bytes : List ℕ} (course : FrameCourse) (past : List PastFrame) → (first (said X past) ≡ Some key → ⊥)
     → spoken X (data_frame X key bytes course ∷ past) ≡ record { key = key; bytes = bytes } ∷ spoken X past
 spoken_begins X {key} {bytes} course past new =
     cond-true _ _ _ (is_data-frame X key bytes course) ∙ add_part-new (spoken X past) (λ same. new (ap first (sym (spoken_keys X past)) ∙ same))
 
 -- X sends again: none more
-pub spoken_again : (X : End) {key : Key} (bytes : List ℕ) (course : Course) (past : List Sent) → first (said X past) ≡ Some key
+pub spoken_again : (X : End) {key : Key} (bytes : List ℕ) (course : FrameCourse) (past : List PastFrame) → first (said X past) ≡ Some key
     → spoken X (data_frame X key bytes course ∷ past) ≡ spoken X past
 spoken_again X {key} bytes course past same =
     cond-true _ _ _ (is_data-frame X key bytes course) ∙ add_part-again _ (spoken X past) (ap first (spoken_keys X past) ∙ same)
 
 -- the other end takes a new fragment: one part more
-pub heard_newest : (X Y : End) (past : List Sent) (cx : ℕ) {frame : Sent} → AcksFollow X Y past cx → at (cx + 1) past ≡ frame ∷ at cx past
+pub heard_newest : (X Y : End) (past : List PastFrame) (cx : ℕ) {frame : PastFrame} → AcksFollow X Y past cx → at (cx + 1) past ≡ frame ∷ at cx past
     → data_comes X frame ≡ true → (first (acked Y past) ≡ Some (frame.key) → ⊥) → heard X (at (cx + 1) past) ≡ part_of frame ∷ heard X (at cx past)
 heard_newest X Y past cx follow here comes_here new = ap (λ s. heard X s) here ∙ cond-true _ _ _ comes_here ∙ add_part-new (heard X (at cx past))
     (λ same. new (ap first (sym (heard_is_acked X Y past cx follow)) ∙ same))
 
 -- it takes a copy: none more
-pub heard_copy : (X Y : End) (past : List Sent) (cx : ℕ) {frame : Sent} → AcksFollow X Y past cx → at (cx + 1) past ≡ frame ∷ at cx past
+pub heard_copy : (X Y : End) (past : List PastFrame) (cx : ℕ) {frame : PastFrame} → AcksFollow X Y past cx → at (cx + 1) past ≡ frame ∷ at cx past
     → data_comes X frame ≡ true → first (acked Y past) ≡ Some (frame.key) → heard X (at (cx + 1) past) ≡ heard X (at cx past)
 heard_copy X Y past cx follow here comes_here same =
     ap (λ s. heard X s) here ∙ cond-true _ _ _ comes_here ∙ add_part-again _ (heard X (at cx past)) (ap first (heard_is_acked X Y past cx follow) ∙ same)

@@ -1,6 +1,6 @@
 use Rattle.line_laws.proofs.Names.{common_steps, rules, ◌≡◌, ◌⊎◌, ℕ, zero, suc, ◌+◌, ◌-◌, ◌≤◌, true, false, List, [], ◌∷◌, length, drop, Option, Some, None}
-use Rattle.line_laws.proofs.Names.{refl, sym, ap, subst, ◌∙◌, arith, inl, inr, cond-true, cond-false, cases_Bool, both_ways, Key, Course, IsDataOf, IsAckOf}
-use Rattle.line_laws.proofs.Names.{Sent, is_end, same_key, first, add, keys, said, acked, at, End, Handheld, Desktop, data_frame, ack_frame}
+use Rattle.line_laws.proofs.Names.{refl, sym, ap, subst, ◌∙◌, arith, inl, inr, cond-true, cond-false, cases_Bool, both_ways, Key, FrameCourse, IsDataOf, IsAckOf}
+use Rattle.line_laws.proofs.Names.{PastFrame, is_end, same_key, first, add, keys, said, acked, at, End, Handheld, Desktop, data_frame, ack_frame}
 
 -- ---- keys
 
@@ -59,7 +59,7 @@ ends_tail key ends same = search rules
 
 -- ---- the past
 
-pub keys_end : (pick : Sent → Option Key) (n : ℕ) (past : List Sent) → Ends (keys pick (drop n past)) (keys pick past)
+pub keys_end : (pick : PastFrame → Option Key) (n : ℕ) (past : List PastFrame) → Ends (keys pick (drop n past)) (keys pick past)
 keys_end pick zero past = record { count = 0; is = refl; fits = omega arith }
 keys_end pick (suc n) [] = record { count = 0; is = refl; fits = omega arith }
 keys_end pick (suc n) (frame ∷ past) =
@@ -73,34 +73,34 @@ keys_end pick (suc n) (frame ∷ past) =
       }
     ]
 
-pub length-at : (n : ℕ) (past : List Sent) → n ≤ length past → length (at n past) ≡ n
+pub length-at : (n : ℕ) (past : List PastFrame) → n ≤ length past → length (at n past) ≡ n
 length-at n past inside = grind (arith, common_steps)
 
-pub at_all : (past : List Sent) → at (length past) past ≡ past
+pub at_all : (past : List PastFrame) → at (length past) past ≡ past
 at_all past = search rules
 
-pub at_push : {n : ℕ} (frame : Sent) (past : List Sent) → n ≤ length past → at n (frame ∷ past) ≡ at n past
+pub at_push : {n : ℕ} (frame : PastFrame) (past : List PastFrame) → n ≤ length past → at n (frame ∷ past) ≡ at n past
 at_push frame past inside = search rules
 
-pub at_at : {m n : ℕ} (past : List Sent) → m ≤ n → n ≤ length past → drop (n - m) (at n past) ≡ at m past
+pub at_at : {m n : ℕ} (past : List PastFrame) → m ≤ n → n ≤ length past → drop (n - m) (at n past) ≡ at m past
 at_at past below inside = grind (arith, common_steps)
 
-pub keys_end_at : (pick : Sent → Option Key) {m n : ℕ} (past : List Sent) → m ≤ n → n ≤ length past → Ends (keys pick (at m past)) (keys pick (at n past))
+pub keys_end_at : (pick : PastFrame → Option Key) {m n : ℕ} (past : List PastFrame) → m ≤ n → n ≤ length past → Ends (keys pick (at m past)) (keys pick (at n past))
 keys_end_at pick {m} {n} past below inside =
     subst (λ s. Ends (keys pick s) (keys pick (at n past))) (at_at past below inside) (keys_end pick (n - m) (at n past))
 
-pub keys_end_all : (pick : Sent → Option Key) (n : ℕ) (past : List Sent) → Ends (keys pick (at n past)) (keys pick past)
+pub keys_end_all : (pick : PastFrame → Option Key) (n : ℕ) (past : List PastFrame) → Ends (keys pick (at n past)) (keys pick past)
 keys_end_all pick n past = keys_end pick (length past - n) past
 
-pub keys_grow : (pick : Sent → Option Key) {m n : ℕ} (past : List Sent) → m ≤ n → n ≤ length past
+pub keys_grow : (pick : PastFrame → Option Key) {m n : ℕ} (past : List PastFrame) → m ≤ n → n ≤ length past
     → length (keys pick (at m past)) ≤ length (keys pick (at n past))
 keys_grow pick past below inside = let ends = keys_end_at pick past below inside in omega arith
 
-pub keys_below : (pick : Sent → Option Key) (n : ℕ) (past : List Sent) → length (keys pick (at n past)) ≤ length (keys pick past)
+pub keys_below : (pick : PastFrame → Option Key) (n : ℕ) (past : List PastFrame) → length (keys pick (at n past)) ≤ length (keys pick past)
 keys_below pick n past = let ends = keys_end_all pick n past in omega arith
 
 -- two keys in a row differ
-pub keys_apart : (pick : Sent → Option Key) (past : List Sent) {key : Key} {older : List Key} → keys pick past ≡ key ∷ older → first older ≡ Some key → ⊥
+pub keys_apart : (pick : PastFrame → Option Key) (past : List PastFrame) {key : Key} {older : List Key} → keys pick past ≡ key ∷ older → first older ≡ Some key → ⊥
 keys_apart pick [] is same = absurd cc
 keys_apart pick (frame ∷ past) {key} {older} is same = elim (add_either (pick frame) (keys pick past)) [
   | inl stays ↦ keys_apart pick past (sym stays ∙ is) same
@@ -108,7 +108,7 @@ keys_apart pick (frame ∷ past) {key} {older} is same = elim (add_either (pick 
       more.apart (ap first o ∙ same ∙ ap Some (sym k)))
 ]
 
-pub keys_push : (pick : Sent → Option Key) (frame : Sent) (past : List Sent) → length (keys pick past) ≤ length (keys pick (frame ∷ past))
+pub keys_push : (pick : PastFrame → Option Key) (frame : PastFrame) (past : List PastFrame) → length (keys pick past) ≤ length (keys pick (frame ∷ past))
 keys_push pick frame past = search rules
 
 -- ---- what a pushed frame changes
@@ -117,44 +117,44 @@ pub is_end-same : (X : End) → is_end X X ≡ true
 is_end-same Handheld = refl
 is_end-same Desktop = refl
 
-pub said_data : (X : End) (key : Key) (bytes : List ℕ) (course : Course) (past : List Sent)
+pub said_data : (X : End) (key : Key) (bytes : List ℕ) (course : FrameCourse) (past : List PastFrame)
     → said X (data_frame X key bytes course ∷ past) ≡ add (Some key) (said X past)
 said_data Handheld key bytes course past = refl
 said_data Desktop key bytes course past = refl
 
-pub said_data-other : (X Y : End) → is_end Y X ≡ false → (key : Key) (bytes : List ℕ) (course : Course) (past : List Sent)
+pub said_data-other : (X Y : End) → is_end Y X ≡ false → (key : Key) (bytes : List ℕ) (course : FrameCourse) (past : List PastFrame)
     → said Y (data_frame X key bytes course ∷ past) ≡ said Y past
 said_data-other Handheld Handheld apart key bytes course past = absurd cc
 said_data-other Desktop Desktop apart key bytes course past = absurd cc
 said_data-other Handheld Desktop apart key bytes course past = refl
 said_data-other Desktop Handheld apart key bytes course past = refl
 
-pub acked_data : (X Y : End) (key : Key) (bytes : List ℕ) (course : Course) (past : List Sent) → acked Y (data_frame X key bytes course ∷ past) ≡ acked Y past
+pub acked_data : (X Y : End) (key : Key) (bytes : List ℕ) (course : FrameCourse) (past : List PastFrame) → acked Y (data_frame X key bytes course ∷ past) ≡ acked Y past
 acked_data Handheld Handheld key bytes course past = refl
 acked_data Desktop Desktop key bytes course past = refl
 acked_data Handheld Desktop key bytes course past = refl
 acked_data Desktop Handheld key bytes course past = refl
 
-pub acked_ack : (X : End) (key : Key) (course : Course) (past : List Sent) → acked X (ack_frame X key course ∷ past) ≡ add (Some key) (acked X past)
+pub acked_ack : (X : End) (key : Key) (course : FrameCourse) (past : List PastFrame) → acked X (ack_frame X key course ∷ past) ≡ add (Some key) (acked X past)
 acked_ack Handheld key course past = refl
 acked_ack Desktop key course past = refl
 
-pub acked_ack-other : (X Y : End) → is_end Y X ≡ false → (key : Key) (course : Course) (past : List Sent)
+pub acked_ack-other : (X Y : End) → is_end Y X ≡ false → (key : Key) (course : FrameCourse) (past : List PastFrame)
     → acked Y (ack_frame X key course ∷ past) ≡ acked Y past
 acked_ack-other Handheld Handheld apart key course past = absurd cc
 acked_ack-other Desktop Desktop apart key course past = absurd cc
 acked_ack-other Handheld Desktop apart key course past = refl
 acked_ack-other Desktop Handheld apart key course past = refl
 
-pub said_ack : (X Y : End) (key : Key) (course : Course) (past : List Sent) → said Y (ack_frame X key course ∷ past) ≡ said Y past
+pub said_ack : (X Y : End) (key : Key) (course : FrameCourse) (past : List PastFrame) → said Y (ack_frame X key course ∷ past) ≡ said Y past
 said_ack Handheld Handheld key course past = refl
 said_ack Desktop Desktop key course past = refl
 said_ack Handheld Desktop key course past = refl
 said_ack Desktop Handheld key course past = refl
 
 -- the newest key of a past that begins with this frame is that frame's
-pub first_said : (X : End) (frame : Sent) (past : List Sent) → IsDataOf X frame → first (said X (frame ∷ past)) ≡ Some (frame.key)
+pub first_said : (X : End) (frame : PastFrame) (past : List PastFrame) → IsDataOf X frame → first (said X (frame ∷ past)) ≡ Some (frame.key)
 first_said X frame past is = search rules
 
-pub first_acked : (X : End) (frame : Sent) (past : List Sent) → IsAckOf X frame → first (acked X (frame ∷ past)) ≡ Some (frame.key)
+pub first_acked : (X : End) (frame : PastFrame) (past : List PastFrame) → IsAckOf X frame → first (acked X (frame ∷ past)) ≡ Some (frame.key)
 first_acked X frame past is = search rules

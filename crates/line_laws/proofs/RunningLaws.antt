@@ -1,9 +1,9 @@
 -- The whole of a running line over each step.
 use Rattle.line_laws.proofs.Names.{rules, ◌≡◌, ℕ, suc, ◌+◌, ◌<◌, ◌≤◌, Bool, true, false, not, ◌&&◌, List, [], ◌∷◌, length, Some, refl, sym, ap, ◌∙◌, arith, inl}
 use Rattle.line_laws.proofs.Names.{inr, cases_lt, both_ways, and_parts, and_from, Taken, piece_count, data_fragment, ReceiverValue, after_answer}
-use Rattle.line_laws.proofs.Names.{next_key_differs, comes, is_late, late_of, data_comes, Course, Came, Gone, Late, Sent, is_end, first, data_of, ack_of, said}
+use Rattle.line_laws.proofs.Names.{next_key_differs, comes, is_late, late_of, data_comes, FrameCourse, Came, Gone, Late, PastFrame, is_end, first, data_of, ack_of, said}
 use Rattle.line_laws.proofs.Names.{acked, at, IsDataOf, IsAckOf, is_data_of, End, Apart, Side, Waiting, key_now, part_now, data_frame, ack_frame, Knows, Line}
-use Rattle.line_laws.proofs.Names.{Blocked, Acknowledged}
+use Rattle.line_laws.proofs.Names.{IsBlocked, IsAcknowledged}
 use Rattle.line_laws.proofs.PastLaws.{said_ack, said_data, said_data-other, add_new, add_first, keys_below}
 use Rattle.line_laws.proofs.CountLaws.{IsCopy, follows-length}
 use Rattle.line_laws.proofs.StepLaws.{turned, again}
@@ -18,12 +18,12 @@ use Rattle.line_laws.proofs.TracedLaws.{traced_turned, traced_moves, traced_take
 
 -- ---- what an end knows
 
-pub knows_moves : {X Y : End} {past : List Sent} {cy : ℕ} {x : Side} {tx : ℕ} {frame : Sent} → Knows X Y past cy x tx
+pub knows_moves : {X Y : End} {past : List PastFrame} {cy : ℕ} {x : Side} {tx : ℕ} {frame : PastFrame} → Knows X Y past cy x tx
     → at (cy + 1) past ≡ frame ∷ at cy past → (Waiting x → IsAckOf Y frame → comes frame.course ≡ true → frame.key ≡ key_now x → ⊥)
     → Knows X Y past (cy + 1) x tx
 knows_moves knows here other = search rules
 
-pub knows_push : {X Y : End} {frame : Sent} {past : List Sent} {cy : ℕ} {x : Side} {tx : ℕ} → Knows X Y past cy x tx → cy ≤ length past
+pub knows_push : {X Y : End} {frame : PastFrame} {past : List PastFrame} {cy : ℕ} {x : Side} {tx : ℕ} → Knows X Y past cy x tx → cy ≤ length past
     → said X (frame ∷ past) ≡ said X past → is_data_of X frame ≡ false → Knows X Y (frame ∷ past) cy x tx
 knows_push {X} {Y} {frame} {past} knows inside same other = record {
   run_is = λ w. run_other X frame past other ∙ knows.run_is w;
@@ -31,7 +31,7 @@ knows_push {X} {Y} {frame} {past} knows inside same other = record {
   done = λ idle some. acknowledged-push (knows.done idle (omega (arith, some, ap length same))) inside same;
 }
 
-late_comes : (course : Course) → is_late course ≡ true → comes course ≡ true
+late_comes : (course : FrameCourse) → is_late course ≡ true → comes course ≡ true
 late_comes Came late = absurd cc
 late_comes Gone late = absurd cc
 late_comes Late late = refl
@@ -41,19 +41,19 @@ no_data false b c gone = refl
 no_data true false c gone = refl
 no_data true true c gone = gone
 
-ack_no_data : (X : End) (frame : Sent) → IsAckOf X frame → data_comes X frame ≡ false
+ack_no_data : (X : End) (frame : PastFrame) → IsAckOf X frame → data_comes X frame ≡ false
 ack_no_data X frame is = go (is_end X frame.from) frame.is_data (comes frame.course) is where
   go : (a b c : Bool) → (a && not b) ≡ true → ((a && b) && c) ≡ false
   go false b c is = refl
   go true false c is = refl
   go true true c is = absurd cc
 
-data_no_ack : (X : End) (frame : Sent) → IsDataOf X frame → IsAckOf X frame → ⊥
+data_no_ack : (X : End) (frame : PastFrame) → IsDataOf X frame → IsAckOf X frame → ⊥
 data_no_ack X frame is_data is_ack = search rules
 
 -- ---- the steps
 
-module _ {X Y : End} {past : List Sent} {cx cy released : ℕ} {x y : Side} {rx ry : ReceiverValue} {fx fy : Bool} {tx ty : ℕ} {frame : Sent} where
+module _ {X Y : End} {past : List PastFrame} {cx cy released : ℕ} {x y : Side} {rx ry : ReceiverValue} {fx fy : Bool} {tx ty : ℕ} {frame : PastFrame} where
   -- a frame that doesn't come, or the other end's, is passed
   pub running_skips : Line X Y past cx cy released x y rx ry fx fy tx ty
       → cx < length past → at (cx + 1) past ≡ frame ∷ at cx past → (is_end X frame.from && comes frame.course) ≡ false
@@ -89,7 +89,7 @@ module _ {X Y : End} {past : List Sent} {cx cy released : ℕ} {x y : Side} {rx 
       }
 
   -- data, a copy: acknowledged again
-  pub running_copy : {course : Course}
+  pub running_copy : {course : FrameCourse}
       → Apart X Y → Line X Y past cx cy released x y rx ry fx fy tx ty
       → cx < length past → at (cx + 1) past ≡ frame ∷ at cx past → (late_of X frame ≡ true → cx + 1 ≤ released) → IsDataOf X frame
       → comes frame.course ≡ true → IsCopy X Y frame (cx + 1) past
@@ -110,7 +110,7 @@ module _ {X Y : End} {past : List Sent} {cx cy released : ℕ} {x y : Side} {rx 
       }
 
   -- the newest fragment: taken, the other end's wait ends, and it is acknowledged
-  pub running_newest : {k : ℕ} {course : Course} {answer : Taken} {whole : Bool}
+  pub running_newest : {k : ℕ} {course : FrameCourse} {answer : Taken} {whole : Bool}
       → Apart X Y → Line X Y past cx cy released x y rx ry fx fy tx ty
       → cx < length past → at (cx + 1) past ≡ frame ∷ at cx past → (late_of X frame ≡ true → cx + 1 ≤ released) → IsDataOf X frame
       → comes frame.course ≡ true → Accepting X Y past cy (cx + 1) x y rx ry (frame.key) (frame.bytes) answer whole → piece_count (length y.message) ≤ k
@@ -134,7 +134,7 @@ module _ {X Y : End} {past : List Sent} {cx cy released : ℕ} {x y : Side} {rx 
           done = λ _ some. acknowledged-push (known (omega (arith, some, ap length same))) (omega (arith, x_in)) same;
         };
       } where
-        known : 0 < length (said Y past) → Acknowledged Y X past (cx + 1)
+        known : 0 < length (said Y past) → IsAcknowledged Y X past (cx + 1)
         known some = elim (cases_lt y.acknowledged (piece_count (length y.message))) [
           | inl waits ↦ acknowledged_by_answer cx here is comes_here
               (omega (arith, accepting.knows, keys_below (ack_of X) (cx + 1) past, follows-length _ _ fy line.core.back.follows))
@@ -166,7 +166,7 @@ module _ {X Y : End} {past : List Sent} {cx cy released : ℕ} {x y : Side} {rx 
       }
 
 -- a fragment begins
-module _ {X Y : End} {key : _} {bytes : List ℕ} {course : Course} {past : List Sent} where
+module _ {X Y : End} {key : _} {bytes : List ℕ} {course : FrameCourse} {past : List PastFrame} where
   knows_begins : {cy : ℕ} {x : Side} → cy ≤ length past
       → (first (said X past) ≡ Some key → ⊥) → Waiting x → Knows X Y (data_frame X key bytes course ∷ past) cy x 1
   knows_begins inside new waits = record {
@@ -188,8 +188,8 @@ module _ {X Y : End} {key : _} {bytes : List ℕ} {course : Course} {past : List
   }
 
 -- the acknowledgement of another piece: the next one goes
-module _ {X Y : End} {past : List Sent} {cx cy released : ℕ} {x y : Side} {rx ry : ReceiverValue} {tx ty : ℕ} where
-  pub running_next_piece : {fx fy : Bool} {frame : Sent} {course : Course}
+module _ {X Y : End} {past : List PastFrame} {cx cy released : ℕ} {x y : Side} {rx ry : ReceiverValue} {tx ty : ℕ} where
+  pub running_next_piece : {fx fy : Bool} {frame : PastFrame} {course : FrameCourse}
       → Apart X Y → Line X Y past cx cy released x y rx ry fx fy tx ty
       → cx < length past → at (cx + 1) past ≡ frame ∷ at cx past → (late_of X frame ≡ true → cx + 1 ≤ released) → IsAckOf X frame → Waiting y
       → key_now y ≡ frame.key → y.acknowledged + 1 < piece_count (length y.message)
@@ -218,7 +218,7 @@ module _ {X Y : End} {past : List Sent} {cx cy released : ℕ} {x y : Side} {rx 
       }
 
   -- a new message
-  pub running_starts : {id : ℕ} {message : List ℕ} (course : Course)
+  pub running_starts : {id : ℕ} {message : List ℕ} (course : FrameCourse)
       → Apart X Y → Line X Y past cx cy released x y rx ry false false tx ty
       → length (said X past) ≤ length (acked Y (at cy past)) → (id ≡ x.id → ⊥) → ry.awaited ≡ Some id → ry.pieces ≡ []
       → (Waiting y → y.acknowledged + 1 ≡ piece_count (length y.message))
@@ -241,9 +241,9 @@ module _ {X Y : End} {past : List Sent} {cx cy released : ℕ} {x y : Side} {rx 
       }
 
   -- the tick where X alone waits
-  pub running_tick_one : {fx fy : Bool} {course : Course}
+  pub running_tick_one : {fx fy : Bool} {course : FrameCourse}
       → Apart X Y → Line X Y past cx cy released x y rx ry fx fy tx ty
-      → Blocked X past cx released → Blocked Y past cy released → Waiting x → (Waiting y → ⊥)
+      → IsBlocked X past cx released → IsBlocked Y past cy released → Waiting x → (Waiting y → ⊥)
       → Line X Y (data_frame X (key_now x) ((part_now x).bytes) course ∷ past) cx cy (length past) x y rx ry fx fy (suc tx) ty
   running_tick_one {fx} {fy} apart line bx by waits idle =
       let step = tick_one apart line.core line.x_time line.y_time line.inside bx by waits idle in
@@ -261,9 +261,9 @@ module _ {X Y : End} {past : List Sent} {cx cy released : ℕ} {x y : Side} {rx 
       }
 
   -- and where both wait: X sends, then Y
-  pub running_tick_two : {fx fy : Bool} {course : Course} (other : Course)
+  pub running_tick_two : {fx fy : Bool} {course : FrameCourse} (other : FrameCourse)
       → Apart X Y → Line X Y past cx cy released x y rx ry fx fy tx ty
-      → Blocked X past cx released → Blocked Y past cy released → Waiting x → Waiting y
+      → IsBlocked X past cx released → IsBlocked Y past cy released → Waiting x → Waiting y
       → Line X Y (data_frame Y (key_now y) ((part_now y).bytes) other ∷ data_frame X (key_now x) ((part_now x).bytes) course ∷ past) cx cy (length past) x
       y rx ry fx fy (suc tx) (suc ty)
   running_tick_two {fx} {fy} {course} other apart line bx by wx wy =

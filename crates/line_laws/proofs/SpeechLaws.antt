@@ -1,7 +1,7 @@
 -- What an end sent, over each kind of step.
 use Rattle.line_laws.proofs.Names.{rules, ◌≡◌, ◌⊎◌, ℕ, ◌+◌, ◌-◌, ◌<◌, ◌≤◌, Bool, true, false, List, ◌∷◌, ◌++◌, length, sym, ap, subst, ◌∙◌, arith, inl, inr}
 use Rattle.line_laws.proofs.Names.{reverse, cases_lt, both_ways, cond-false, append-nil, session_id, piece_count, data_comes, IsHeldIn, spoken, message_parts}
-use Rattle.line_laws.proofs.Names.{session_parts, Sent, is_end, first, said, acked, at, is_data_of, is_repeat, run, Reaches, AcksNewest, AnswersNewest, IsKnown}
+use Rattle.line_laws.proofs.Names.{session_parts, PastFrame, is_end, first, said, acked, at, is_data_of, is_repeat, run, Reaches, AcksNewest, AnswersNewest, IsKnown}
 use Rattle.line_laws.proofs.Names.{IfAnswers, AnswersReached, BeginInTurn, is_ack_of, Talk, messages_of, pieces_before, answered_by, End, came_by, data_taken}
 use Rattle.line_laws.proofs.Names.{Side, left, part_at, unsaid, count_messages, say, TookNewest, Speech}
 use Rattle.line_laws.proofs.PastLaws.{at_push}
@@ -12,10 +12,10 @@ use Rattle.line_laws.proofs.MessageLaws.{new-says}
 
 -- ---- a frame is pushed
 
-pub held-back : {X : End} {n : ℕ} {frame : Sent} {past : List Sent} → n ≤ length past → IsHeldIn X n (frame ∷ past) → IsHeldIn X n past
+pub held-back : {X : End} {n : ℕ} {frame : PastFrame} {past : List PastFrame} → n ≤ length past → IsHeldIn X n (frame ∷ past) → IsHeldIn X n past
 held-back inside held = search rules
 
-unfoldable pub reaches-push : (cursor : End → ℕ) (n : ℕ) (frame : Sent) (past : List Sent) → Reaches (came_by cursor past) n past
+unfoldable pub reaches-push : (cursor : End → ℕ) (n : ℕ) (frame : PastFrame) (past : List PastFrame) → Reaches (came_by cursor past) n past
     → Reaches (came_by cursor (frame ∷ past)) n (frame ∷ past)
 reaches-push cursor n frame past was = record {
   frame = was.frame;
@@ -26,13 +26,13 @@ reaches-push cursor n frame past was = record {
   free = λ held. was.free (held-back was.inside held);
 }
 
-pub known-push : {X Y : End} {talk : Talk} (cursor : End → ℕ) {frame : Sent} {past : List Sent} → said X (frame ∷ past) ≡ said X past
+pub known-push : {X Y : End} {talk : Talk} (cursor : End → ℕ) {frame : PastFrame} {past : List PastFrame} → said X (frame ∷ past) ≡ said X past
     → IsKnown X Y talk (came_by cursor past) past → IsKnown X Y talk (came_by cursor (frame ∷ past)) (frame ∷ past)
 unfolding reaches-push
 known-push {X} {Y} {talk} cursor {frame} {past} same was =
     record { n = was.n; reaches = reaches-push cursor was.n frame past was.reaches; cause = go was.reaches.frame was.reaches.inside was.cause }
   where
-    go : (it : Sent) → was.n ≤ length past → AcksNewest X Y past was.n it ⊎ AnswersNewest X Y talk past was.n it
+    go : (it : PastFrame) → was.n ≤ length past → AcksNewest X Y past was.n it ⊎ AnswersNewest X Y talk past was.n it
         → AcksNewest X Y (frame ∷ past) was.n it ⊎ AnswersNewest X Y talk (frame ∷ past) was.n it
     go it inside (inl ack) = inl (record {
       is = ack.is;
@@ -49,7 +49,7 @@ known-push {X} {Y} {talk} cursor {frame} {past} same was =
       bears = record { is = answer.bears.is; number_is = ap (λ s. length (said Y s)) (at_push frame past inside) ∙ answer.bears.number_is };
     })
 
-pub took-push : {X Y : End} (cursor : End → ℕ) {frame : Sent} {past : List Sent} → length (acked Y (frame ∷ past)) ≡ length (acked Y past)
+pub took-push : {X Y : End} (cursor : End → ℕ) {frame : PastFrame} {past : List PastFrame} → length (acked Y (frame ∷ past)) ≡ length (acked Y past)
     → TookNewest X Y (came_by cursor past) past → TookNewest X Y (came_by cursor (frame ∷ past)) (frame ∷ past)
 unfolding reaches-push
 took-push {X} cursor {frame} {past} same was = record {
@@ -58,19 +58,19 @@ took-push {X} cursor {frame} {past} same was = record {
   bears = record { is = was.bears.is; number_is = ap (λ s. length (said X s)) (at_push frame past was.reaches.inside) ∙ (was.bears.number_is ∙ sym same) };
 }
 
-pub took-grows : {X Y : End} {came later : ℕ → Bool} {past : List Sent} → Grows came later past → TookNewest X Y came past → TookNewest X Y later past
+pub took-grows : {X Y : End} {came later : ℕ → Bool} {past : List PastFrame} → Grows came later past → TookNewest X Y came past → TookNewest X Y later past
 unfolding reaches-grows
 took-grows {came} {later} {past} more was = record { n = was.n; reaches = reaches-grows came later was.n past more was.reaches; bears = was.bears }
 
 -- where X begins nothing
-begins-none : {X Y : End} {talk : Talk} (cursor : End → ℕ) (frame : Sent) {past : List Sent}
+begins-none : {X Y : End} {talk : Talk} (cursor : End → ℕ) (frame : PastFrame) {past : List PastFrame}
     → (is_data_of X frame ≡ true → is_repeat X frame past ≡ false → ⊥) → BeginInTurn X Y talk (came_by cursor past) past
     → BeginInTurn X Y talk (came_by cursor (frame ∷ past)) (frame ∷ past)
 begins-none {X} {Y} {talk} cursor frame {past} none was =
     (λ is new. absurd (none is new), begins-grow X Y talk past (came-push cursor frame past) was)
 
 -- where it begins a fragment
-begins-one : {X Y : End} {talk : Talk} (cursor : End → ℕ) (frame : Sent) {past : List Sent}
+begins-one : {X Y : End} {talk : Talk} (cursor : End → ℕ) (frame : PastFrame) {past : List PastFrame}
     → (0 < length (said X past) → IsKnown X Y talk (came_by cursor past) past) → AnswersReached X talk (came_by cursor (frame ∷ past)) past
     → BeginInTurn X Y talk (came_by cursor past) past → BeginInTurn X Y talk (came_by cursor (frame ∷ past)) (frame ∷ past)
 begins-one {X} {Y} {talk} cursor frame {past} known answers was = (
@@ -79,14 +79,14 @@ begins-one {X} {Y} {talk} cursor frame {past} known answers was = (
 )
 
 -- what was said stays
-spoken_still : (X : End) (frame : Sent) (past : List Sent) (x : Side) (talk : Talk) → spoken X (frame ∷ past) ≡ spoken X past
+spoken_still : (X : End) (frame : PastFrame) (past : List PastFrame) (x : Side) (talk : Talk) → spoken X (frame ∷ past) ≡ spoken X past
     → reverse (spoken X past) ++ unsaid x ≡ session_parts 0 (messages_of X talk)
     → reverse (spoken X (frame ∷ past)) ++ unsaid x ≡ session_parts 0 (messages_of X talk)
 spoken_still X frame past x talk same was = cc
 
 -- ---- steps that begin nothing
 
-module _ {X Y : End} {talk : Talk} {cursor : End → ℕ} {past : List Sent} {x : Side} where
+module _ {X Y : End} {talk : Talk} {cursor : End → ℕ} {past : List PastFrame} {x : Side} where
   -- cursors move, and no data of X comes by that
   pub speech-moves : {later : End → ℕ} → ((Z : End) → cursor Z ≤ later Z)
       → data_taken X (at (later X) past) ≡ data_taken X (at (cursor X) past) → Speech X Y talk cursor past x → Speech X Y talk later past x
@@ -104,7 +104,7 @@ module _ {X Y : End} {talk : Talk} {cursor : End → ℕ} {past : List Sent} {x 
       }
 
   -- a frame that is neither data of X nor an acknowledgement by Y
-  pub speech-push : {frame : Sent} → is_data_of X frame ≡ false
+  pub speech-push : {frame : PastFrame} → is_data_of X frame ≡ false
       → is_ack_of Y frame ≡ false → said X (frame ∷ past) ≡ said X past → acked Y (frame ∷ past) ≡ acked Y past → run X (frame ∷ past) ≡ run X past
       → cursor X ≤ length past
       → Speech X Y talk cursor past x → Speech X Y talk cursor (frame ∷ past) x
@@ -123,7 +123,7 @@ module _ {X Y : End} {talk : Talk} {cursor : End → ℕ} {past : List Sent} {x 
       }
 
   -- X sends its newest fragment again
-  pub speech-again : {frame : Sent} → is_repeat X frame past ≡ true
+  pub speech-again : {frame : PastFrame} → is_repeat X frame past ≡ true
       → is_ack_of Y frame ≡ false → said X (frame ∷ past) ≡ said X past → acked Y (frame ∷ past) ≡ acked Y past → run X (frame ∷ past) ≤ 10
       → spoken X (frame ∷ past) ≡ spoken X past → cursor X ≤ length past
       → Speech X Y talk cursor past x → Speech X Y talk cursor (frame ∷ past) x
@@ -142,7 +142,7 @@ module _ {X Y : End} {talk : Talk} {cursor : End → ℕ} {past : List Sent} {x 
       }
 
   -- data of X is taken, and Y acknowledges it
-  pub speech-taken : {later : End → ℕ} {ack : Sent} {cx : ℕ} {frame : Sent}
+  pub speech-taken : {later : End → ℕ} {ack : PastFrame} {cx : ℕ} {frame : PastFrame}
       → ((Z : End) → cursor Z ≤ later Z) → cursor X ≡ cx → later X ≡ cx + 1 → cx < length past
       → at (cx + 1) past ≡ frame ∷ at cx past → data_comes X frame ≡ true → frame.from ≡ X → is_ack_of Y ack ≡ true → ack.key ≡ frame.key
       → (IsHeldIn X (cx + 1) past → ⊥)
@@ -171,7 +171,7 @@ module _ {X Y : End} {talk : Talk} {cursor : End → ℕ} {past : List Sent} {x 
 -- ---- steps that begin a fragment
 
 -- no message begins in the middle of one
-inside_message : (X : End) (talk : Talk) (came : ℕ → Bool) (past : List Sent) (x : Side)
+inside_message : (X : End) (talk : Talk) (came : ℕ → Bool) (past : List PastFrame) (x : Side)
     → length (said X past) + left x ≡ pieces_before (messages_of X talk) (count_messages X talk)
     → pieces_before (messages_of X talk) (count_messages X talk) ≡ pieces_before (messages_of X talk) (count_messages X talk - 1)
     + piece_count (length x.message)
@@ -180,7 +180,7 @@ inside_message X talk came past x begun current more number less begins =
     absurd (omega (arith, begun, current, more, begins, pieces-grow (messages_of X talk) number (count_messages X talk - 1) (omega arith)))
 
 -- the next piece of its message
-pub speech-next : {X Y : End} {talk : Talk} {cursor : End → ℕ} {frame : Sent} {past : List Sent} {x : Side}
+pub speech-next : {X Y : End} {talk : Talk} {cursor : End → ℕ} {frame : PastFrame} {past : List PastFrame} {x : Side}
     → x.acknowledged + 1 < piece_count (length x.message) → is_data_of X frame ≡ true → is_repeat X frame past ≡ false → is_ack_of Y frame ≡ false
     → acked Y (frame ∷ past) ≡ acked Y past → run X (frame ∷ past) ≡ 1
     → spoken X (frame ∷ past) ≡ part_at x.id x.message (x.acknowledged + 1) ∷ spoken X past → cursor X ≤ length past
@@ -204,7 +204,7 @@ speech-next {X} {Y} {talk} {cursor} {frame} {past} {x} more is_data new no_ack n
     }
 
 -- a message begins where all pieces before it were begun
-first_piece : (X : End) (message : List ℕ) (talk : Talk) (came : ℕ → Bool) (past : List Sent)
+first_piece : (X : End) (message : List ℕ) (talk : Talk) (came : ℕ → Bool) (past : List PastFrame)
     → length (said X past) ≡ pieces_before (messages_of X talk) (count_messages X talk)
     → IfAnswers (answered_by X (count_messages X talk)) (say X message talk) came past → AnswersReached X (say X message talk) came past
 first_piece X message talk came past all answers number less begins = elim (cases_lt number (count_messages X talk)) [
@@ -221,7 +221,7 @@ first_piece X message talk came past all answers number less begins = elim (case
 ]
 
 -- X begins a message: it knows that its newest fragment was taken, and took what this message answers
-pub speech-starts : {X Y : End} {talk : Talk} {cursor : End → ℕ} {frame : Sent} {past : List Sent} {x begun : Side} → left x ≡ 0
+pub speech-starts : {X Y : End} {talk : Talk} {cursor : End → ℕ} {frame : PastFrame} {past : List PastFrame} {x begun : Side} → left x ≡ 0
     → begun.acknowledged ≡ 0 → is_data_of X frame ≡ true → is_repeat X frame past ≡ false → is_ack_of Y frame ≡ false
     → acked Y (frame ∷ past) ≡ acked Y past → run X (frame ∷ past) ≡ 1 → spoken X (frame ∷ past) ≡ part_at begun.id begun.message 0 ∷ spoken X past
     → begun.id ≡ session_id (count_messages X talk) → cursor X ≤ length past
@@ -260,7 +260,7 @@ speech-starts {X} {Y} {talk} {cursor} {frame} {past} {x} {begun} none first_one 
     }
 
 -- the other end begins one
-pub speech-longer : {X Y : End} {talk : Talk} {cursor : End → ℕ} {past : List Sent} {x : Side} (message : List ℕ) → is_end X Y ≡ false
+pub speech-longer : {X Y : End} {talk : Talk} {cursor : End → ℕ} {past : List PastFrame} {x : Side} (message : List ℕ) → is_end X Y ≡ false
     → Speech X Y talk cursor past x → Speech X Y (say Y message talk) cursor past x
 speech-longer {X} {Y} {talk} {cursor} {past} {x} message apart was =
     let later = say Y message talk in

@@ -2,7 +2,7 @@
 -- aborted
 -- its place is taken by an abort, which says nothing: what was to be sent isn't said, and what was to be acknowledged isn't.
 use Rattle.line_laws.proofs.Names.{common_steps, ◌≡◌, ℕ, ◌+◌, ◌<◌, ◌≤◌, Bool, true, false, List, [], ◌∷◌, ◌++◌, length, sym, ap, subst, ◌∙◌, arith, inr}
-use Rattle.line_laws.proofs.Names.{reverse, cond-true, append_assoc, session_id, data_comes, came_in, spoken, message_parts, session_parts, Sent, is_end, said}
+use Rattle.line_laws.proofs.Names.{reverse, cond-true, append_assoc, session_id, data_comes, came_in, spoken, message_parts, session_parts, PastFrame, is_end, said}
 use Rattle.line_laws.proofs.Names.{at, AcksAreFor, SpeaksProperly, Talk, messages_of, pieces_before, FrameValue, End, came_by, data_taken, Side, unsaid}
 use Rattle.line_laws.proofs.Names.{count_messages, say, Speech}
 use Rattle.line_laws.proofs.CameLaws.{Grows, begins-grow, acks-grow, came-moves, data_that_came-taken}
@@ -11,7 +11,7 @@ use Rattle.line_laws.proofs.UnsaidLaws.{parts-say}
 use Rattle.line_laws.proofs.FramingLaws.{IsByCursor, grows-by}
 
 -- a message that an end was to begin
-pub speaks-more : {X Y : End} {talk : Talk} {came : ℕ → Bool} {past : List Sent} (message : List ℕ)
+pub speaks-more : {X Y : End} {talk : Talk} {came : ℕ → Bool} {past : List PastFrame} (message : List ℕ)
     → length (said X past) ≤ pieces_before (messages_of X talk) (count_messages X talk) → SpeaksProperly X Y talk came past
     → SpeaksProperly X Y (say X message talk) came past
 speaks-more {X} {Y} {talk} {came} {past} message most was = record {
@@ -25,7 +25,7 @@ speaks-more {X} {Y} {talk} {came} {past} message most was = record {
   acked = was.acked;
 }
 
-pub speaks-beside : {X Y : End} {talk : Talk} {came : ℕ → Bool} {past : List Sent} (message : List ℕ) → is_end X Y ≡ false
+pub speaks-beside : {X Y : End} {talk : Talk} {came : ℕ → Bool} {past : List PastFrame} (message : List ℕ) → is_end X Y ≡ false
     → length (said X past) ≤ pieces_before (messages_of X talk) (count_messages X talk) → SpeaksProperly X Y talk came past
     → SpeaksProperly X Y (say Y message talk) came past
 speaks-beside {X} {Y} {talk} {came} {past} message apart most was = record {
@@ -36,7 +36,7 @@ speaks-beside {X} {Y} {talk} {came} {past} message apart most was = record {
 }
 
 -- data of X that was taken and was to be acknowledged
-pub speaks-unacked : {X Y : End} {talk : Talk} {cursor later : End → ℕ} {came : ℕ → Bool} {past : List Sent} {cx : ℕ} {frame : Sent} {x : Side}
+pub speaks-unacked : {X Y : End} {talk : Talk} {cursor later : End → ℕ} {came : ℕ → Bool} {past : List PastFrame} {cx : ℕ} {frame : PastFrame} {x : Side}
     → ((Z : End) → cursor Z ≤ later Z) → cursor X ≡ cx → later X ≡ cx + 1 → cx < length past → at (cx + 1) past ≡ frame ∷ at cx past
     → data_comes X frame ≡ true
     → IsByCursor later came past → Speech X Y talk cursor past x → SpeaksProperly X Y talk came past
@@ -58,6 +58,6 @@ speaks-unacked {X} {Y} {talk} {cursor} {later} {came} {past} {cx} {frame} {x} mo
 -- ---- the abort stands last
 
 -- what came is told by the frames before it
-pub came-still : (cursor : End → ℕ) (frames : List FrameValue) (frame : FrameValue) (past : List Sent) → length past ≡ length frames
+pub came-still : (cursor : End → ℕ) (frames : List FrameValue) (frame : FrameValue) (past : List PastFrame) → length past ≡ length frames
     → IsByCursor cursor (came_in frames) past → IsByCursor cursor (came_in (frames ++ frame ∷ [])) past
 came-still cursor frames frame past same is n found older inside here = grind (arith, common_steps)

@@ -1,7 +1,7 @@
 -- What an end does with a frame that comes.
 use Rattle.line_laws.proofs.Names.{rules, ◌≡◌, ◌⊎◌, ℕ, ◌+◌, ◌<◌, ◌≤◌, Bool, true, false, cond, nat_eq, List, [], ◌∷◌, length, Some, refl, sym, ap, subst, ◌∙◌}
 use Rattle.line_laws.proofs.Names.{arith, inl, inr, both_ways, cond-true, cond-false, Key, Taken, Accepted, Whole, Repeated, Dropped, piece_count}
-use Rattle.line_laws.proofs.Names.{data_fragment, ReceiverValue, Answers, after_answer, IsBefore, takes_piece, next_key_differs, Course, Sent, first, data_of}
+use Rattle.line_laws.proofs.Names.{data_fragment, ReceiverValue, Answers, after_answer, IsBefore, takes_piece, next_key_differs, FrameCourse, PastFrame, first, data_of}
 use Rattle.line_laws.proofs.Names.{ack_of, said, acked, at, IsDataOf, IsAckOf, End, Apart, Follows, Counts, Side, Waiting, key_now, part_now, Awaits, Answering}
 use Rattle.line_laws.proofs.Names.{Core, data_frame, ack_frame}
 use Rattle.line_laws.proofs.PastLaws.{keys_apart, keys_below}
@@ -34,25 +34,25 @@ takes {x} {receiver} {answer} awaits new waits answers =
 
 -- the newest fragment was taken: it is the last one of its message where it is whole; the other end, if it waits, waits on the last
 -- piece of its own message, and this one is a first piece; and the core holds once the frame is acknowledged and the other end waits no more
-pub record Accepting (X Y : End) (past : List Sent) (cy n : ℕ) (x y : Side) (rx ry : ReceiverValue) (key : Key) (bytes : List ℕ)
+pub record Accepting (X Y : End) (past : List PastFrame) (cy n : ℕ) (x y : Side) (rx ry : ReceiverValue) (key : Key) (bytes : List ℕ)
     (answer : Taken) (whole : Bool) : Type 0 where
   pub key_is : key ≡ key_now x
   pub waits : Waiting x
   pub whole_is : nat_eq (x.acknowledged + 1) (piece_count (length x.message)) ≡ whole
   pub answers : Waiting y → (x.acknowledged ≡ 0) × (y.acknowledged + 1 ≡ piece_count (length y.message))
   pub knows : length (said Y past) ≤ length (acked X (at n past))
-  pub core : (k : ℕ) (course : Course) → piece_count (length y.message) ≤ k
+  pub core : (k : ℕ) (course : FrameCourse) → piece_count (length y.message) ≤ k
       → Core X Y (ack_frame Y key course ∷ past) n cy x (record y { acknowledged = k }) rx
       (after_answer ry (key.id) (data_fragment key bytes) answer) false false
 
-abbrev pub AfterData : (X Y : End) (past : List Sent) (cy n : ℕ) (x y : Side) (rx ry : ReceiverValue) (fx fy : Bool) (key : Key) (bytes : List ℕ) → Taken
+abbrev pub AfterData : (X Y : End) (past : List PastFrame) (cy n : ℕ) (x y : Side) (rx ry : ReceiverValue) (fx fy : Bool) (key : Key) (bytes : List ℕ) → Taken
     → Type 0
-AfterData X Y past cy n x y rx ry fx fy key bytes Repeated = (course : Course) → Core X Y (ack_frame Y key course ∷ past) n cy x y rx ry fx fy
+AfterData X Y past cy n x y rx ry fx fy key bytes Repeated = (course : FrameCourse) → Core X Y (ack_frame Y key course ∷ past) n cy x y rx ry fx fy
 AfterData X Y past cy n x y rx ry fx fy key bytes Accepted = (fx ≡ true) × Accepting X Y past cy n x y rx ry key bytes Accepted false
 AfterData X Y past cy n x y rx ry fx fy key bytes Whole = (fx ≡ true) × Accepting X Y past cy n x y rx ry key bytes Whole true
 AfterData X Y past cy n x y rx ry fx fy key bytes Dropped = ⊥
 
-module _ {X Y : End} {past : List Sent} {cx cy : ℕ} {x y : Side} {rx ry : ReceiverValue} where
+module _ {X Y : End} {past : List PastFrame} {cx cy : ℕ} {x y : Side} {rx ry : ReceiverValue} where
   -- a copy of the last fragment that was taken
   take_copy : {n : ℕ} {fx fy : Bool} {key : Key} (bytes : List ℕ) (answer : Taken)
       → Apart X Y → Core X Y past cx cy x y rx ry fx fy → cx ≤ n → n ≤ length past
@@ -109,7 +109,7 @@ module _ {X Y : End} {past : List Sent} {cx cy : ℕ} {x y : Side} {rx ry : Rece
         go Dropped false test answers took = absurd (let e : Dropped ≡ Accepted = took.is ∙ cond-false _ Whole Accepted test in cc)
 
   -- A data frame of X comes, whatever its answer: it is never dropped.
-  pub take_data : {n : ℕ} {fx fy : Bool} {frame : Sent} {older : List Sent} (answer : Taken)
+  pub take_data : {n : ℕ} {fx fy : Bool} {frame : PastFrame} {older : List PastFrame} (answer : Taken)
       → Apart X Y → Core X Y past cx cy x y rx ry fx fy → cx ≤ n → n ≤ length past
       → at n past ≡ frame ∷ older → IsDataOf X frame → Answers ry (frame.key.id) (data_fragment (frame.key) (frame.bytes)) answer
       → AfterData X Y past cy n x y rx ry fx fy (frame.key) (frame.bytes) answer
@@ -138,12 +138,12 @@ module _ {X Y : End} {past : List Sent} {cx cy : ℕ} {x y : Side} {rx ry : Rece
 abbrev pub acknowledged : Side → Side
 acknowledged side = record side { acknowledged = side.acknowledged + 1 }
 
-pub record Matched (X Y : End) (past : List Sent) (n : ℕ) (fx fy : Bool) (x y : Side) : Type 0 where
+pub record Matched (X Y : End) (past : List PastFrame) (n : ℕ) (fx fy : Bool) (x y : Side) : Type 0 where
   pub none_fresh : fy ≡ false
   pub knows : length (said Y past) ≤ length (acked X (at n past))
   pub alone : y.acknowledged + 1 < piece_count (length y.message) → (fx ≡ false) × (Waiting x → ⊥)
 
-module _ {X Y : End} {past : List Sent} {cx cy n : ℕ} {x y : Side} {rx ry : ReceiverValue} {frame : Sent} {older : List Sent} where
+module _ {X Y : End} {past : List PastFrame} {cx cy n : ℕ} {x y : Side} {rx ry : ReceiverValue} {frame : PastFrame} {older : List PastFrame} where
   -- it bears the key of the waiting piece of Y: its newest fragment was taken, and where more pieces follow X waits for nothing
   pub matched : {fx fy : Bool}
       → Core X Y past cx cy x y rx ry fx fy → cx ≤ n → n ≤ length past
@@ -185,7 +185,7 @@ module _ {X Y : End} {past : List Sent} {cx cy n : ℕ} {x y : Side} {rx ry : Re
       ends (subst (λ f. Core X Y past cx cy x y rx ry fx f) m.none_fresh core) from inside (omega arith)
 
   -- it acknowledges another piece: the next one goes
-  pub take_ack : {fx fy : Bool} (course : Course)
+  pub take_ack : {fx fy : Bool} (course : FrameCourse)
       → Apart X Y → Core X Y past cx cy x y rx ry fx fy → cx ≤ n → n ≤ length past
       → at n past ≡ frame ∷ older → IsAckOf X frame → Waiting y → key_now y ≡ frame.key → y.acknowledged + 1 < piece_count (length y.message)
       → Core X Y (data_frame Y (key_now (acknowledged y)) ((part_now (acknowledged y)).bytes) course ∷ past) n cy x (acknowledged y) rx ry false true
@@ -213,9 +213,9 @@ module _ {X Y : End} {past : List Sent} {cx cy n : ℕ} {x y : Side} {rx ry : Re
 abbrev pub beginning : ℕ → List ℕ → Side
 beginning id message = record { id = id; message = message; acknowledged = 0 }
 
-module _ {X Y : End} {past : List Sent} {cx cy : ℕ} {x y : Side} {rx ry : ReceiverValue} {id : ℕ} where
+module _ {X Y : End} {past : List PastFrame} {cx cy : ℕ} {x y : Side} {rx ry : ReceiverValue} {id : ℕ} where
   -- X, which waits for nothing and knows all that was said, begins a message that Y awaits
-  pub starts : {message : List ℕ} {course : Course} → Apart X Y
+  pub starts : {message : List ℕ} {course : FrameCourse} → Apart X Y
       → Core X Y past cx cy x y rx ry false false
       → length (said X past) ≤ length (acked Y (at cy past)) → (id ≡ x.id → ⊥) → ry.awaited ≡ Some id → ry.pieces ≡ []
       → (Waiting y → y.acknowledged + 1 ≡ piece_count (length y.message))

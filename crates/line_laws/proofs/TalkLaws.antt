@@ -1,7 +1,7 @@
 -- The messages of both ends over each step of a running line.
 use Rattle.line_laws.proofs.Names.{rules, ◌≡◌, ℕ, ◌+◌, ◌-◌, ◌<◌, ◌≤◌, Bool, true, false, not, ◌&&◌, List, [], ◌∷◌, length, Some, refl, sym, ap, subst, ◌∙◌}
 use Rattle.line_laws.proofs.Names.{arith, inl, inr, cases_lt, both_ways, and_parts, and_from, Key, Taken, session_id, piece_count, ReceiverValue}
-use Rattle.line_laws.proofs.Names.{next_key_differs, comes, late_of, data_comes, IsHeldIn, Course, Sent, is_end, first, data_of, ack_of, said, acked, at}
+use Rattle.line_laws.proofs.Names.{next_key_differs, comes, late_of, data_comes, IsHeldIn, FrameCourse, PastFrame, is_end, first, data_of, ack_of, said, acked, at}
 use Rattle.line_laws.proofs.Names.{is_data_of, run, IsDataOf, IsAckOf, Reaches, AcksAreFor, IsKnown, EndReached, IfAnswers, is_ack_of, SpeaksProperly, Talk}
 use Rattle.line_laws.proofs.Names.{messages_of, pieces_before, answered_by, answer_to, End, Handheld, Desktop, came_by, data_taken, Apart, Follows, Counts}
 use Rattle.line_laws.proofs.Names.{Side, Waiting, key_now, part_now, data_frame, ack_frame, Line, left, unsaid, count_messages, say, TookNewest, Speech}
@@ -25,30 +25,30 @@ use Rattle.line_laws.proofs.SpeechLaws.{speech-starts, speech-longer}
 pub moves-more : {X Y : End} {cursor later : End → ℕ} → is_end X Y ≡ false → Moves X Y cursor later → (Z : End) → cursor Z ≤ later Z
 moves-more apart moves Z = search rules
 
-ack-frame-is : (Y : End) (key : Key) (course : Course) → is_ack_of Y (ack_frame Y key course) ≡ true
+ack-frame-is : (Y : End) (key : Key) (course : FrameCourse) → is_ack_of Y (ack_frame Y key course) ≡ true
 ack-frame-is Handheld key course = refl
 ack-frame-is Desktop key course = refl
 
-ack-frame-other : (X Y : End) (key : Key) (course : Course) → is_end X Y ≡ false → is_ack_of X (ack_frame Y key course) ≡ false
+ack-frame-other : (X Y : End) (key : Key) (course : FrameCourse) → is_end X Y ≡ false → is_ack_of X (ack_frame Y key course) ≡ false
 ack-frame-other X Y key course apart = ap (λ b. b && true) apart
 
-data-frame-no_ack : (X Y : End) (key : Key) (bytes : List ℕ) (course : Course) → is_ack_of X (data_frame Y key bytes course) ≡ false
+data-frame-no_ack : (X Y : End) (key : Key) (bytes : List ℕ) (course : FrameCourse) → is_ack_of X (data_frame Y key bytes course) ≡ false
 data-frame-no_ack Handheld Handheld key bytes course = refl
 data-frame-no_ack Handheld Desktop key bytes course = refl
 data-frame-no_ack Desktop Handheld key bytes course = refl
 data-frame-no_ack Desktop Desktop key bytes course = refl
 
-data-frame-other : (X Y : End) (key : Key) (bytes : List ℕ) (course : Course) → is_end Y X ≡ false → is_data_of Y (data_frame X key bytes course) ≡ false
+data-frame-other : (X Y : End) (key : Key) (bytes : List ℕ) (course : FrameCourse) → is_end Y X ≡ false → is_data_of Y (data_frame X key bytes course) ≡ false
 data-frame-other X Y key bytes course apart = ap (λ b. b && true) apart
 
 -- the frame that is taken reached this time
-taken-reaches : {X : End} (cursor : End → ℕ) {past : List Sent} {cx : ℕ} {frame : Sent} → cursor X ≡ cx + 1 → cx < length past
+taken-reaches : {X : End} (cursor : End → ℕ) {past : List PastFrame} {cx : ℕ} {frame : PastFrame} → cursor X ≡ cx + 1 → cx < length past
     → at (cx + 1) past ≡ frame ∷ at cx past → is_end X frame.from ≡ true → comes frame.course ≡ true → (IsHeldIn X (cx + 1) past → ⊥)
     → Reaches (came_by cursor past) (cx + 1) past
 taken-reaches cursor is_cx inside here mine comes_here free = search rules
 
 -- the newest fragment of X is the one that is accepted
-newest_at : {X Y : End} {past : List Sent} {fx : Bool} {cx : ℕ} {frame : Sent} → Counts X Y past fx cx → cx < length past
+newest_at : {X Y : End} {past : List PastFrame} {fx : Bool} {cx : ℕ} {frame : PastFrame} → Counts X Y past fx cx → cx < length past
     → at (cx + 1) past ≡ frame ∷ at cx past → IsDataOf X frame → first (said X past) ≡ Some (frame.key)
     → length (said X (at (cx + 1) past)) ≡ length (said X past)
 newest_at {X} {Y} {past} {fx} {cx} {frame} counts inside here is key = elim (pending_data fx counts (omega arith) (omega (arith, inside)) here is) [
@@ -59,10 +59,10 @@ newest_at {X} {Y} {past} {fx} {cx} {frame} counts inside here is key = elim (pen
   go true follows copy = absurd (keys_apart (data_of X) past follows.1 (copy.key ∙ sym (sym (ap first follows.1) ∙ key)))
   go false follows copy = copy.old ∙ sym (ap length follows)
 
-some_said : (X : End) (past : List Sent) {key : Key} → first (said X past) ≡ Some key → 0 < length (said X past)
+some_said : (X : End) (past : List PastFrame) {key : Key} → first (said X past) ≡ Some key → 0 < length (said X past)
 some_said X past newest_is = search rules
 
-module _ {Y : End} {talk : Talk} {cursor : End → ℕ} {past : List Sent} where
+module _ {Y : End} {talk : Talk} {cursor : End → ℕ} {past : List PastFrame} where
   -- an end that said something began a message
   some_message : {X : End} {x : Side} → Speech X Y talk cursor past x → 0 < length (said X past)
       → 0 < count_messages X talk
@@ -71,7 +71,7 @@ module _ {Y : End} {talk : Talk} {cursor : End → ℕ} {past : List Sent} where
   -- ---- passing
 
   -- a frame of X is passed that is no data which comes
-  pub talking_passes : {X : End} {later : End → ℕ} {cx : ℕ} {x y : Side} {fx fy : Bool} {frame : Sent}
+  pub talking_passes : {X : End} {later : End → ℕ} {cx : ℕ} {x y : Side} {fx fy : Bool} {frame : PastFrame}
       → Apart X Y → cursor X ≡ cx → Moves X Y cursor later → at (cx + 1) past ≡ frame ∷ at cx past → data_comes X frame ≡ false
       → Talking X Y talk cursor past x y fx fy → Talking X Y talk later past x y fx fy
   talking_passes {X} {later} {cx} apart is_cx moves here other was =
@@ -88,7 +88,7 @@ module _ {Y : End} {talk : Talk} {cursor : End → ℕ} {past : List Sent} where
   -- ---- data is taken
 
   -- Y's speech, where Y acknowledges data of X
-  acked_other : {X : End} {later : End → ℕ} {y : Side} {key : Key} {course : Course} → Apart X Y
+  acked_other : {X : End} {later : End → ℕ} {y : Side} {key : Key} {course : FrameCourse} → Apart X Y
       → Moves X Y cursor later → cursor Y ≤ length past → Speech Y X talk cursor past y → Speech Y X talk later (ack_frame Y key course ∷ past) y
   acked_other {X} {key} {course} apart moves inside was =
       let no_data = ack_is_no_data Y Y key course in
@@ -98,7 +98,7 @@ module _ {Y : End} {talk : Talk} {cursor : End → ℕ} {past : List Sent} where
 
   -- a copy
   pub talking_copy : {X : End} {later : End → ℕ} {cx cy released : ℕ} {x y : Side} {rx ry : ReceiverValue} {fx fy : Bool} {tx ty : ℕ}
-      {course : Course} {frame : Sent}
+      {course : FrameCourse} {frame : PastFrame}
       → Apart X Y → Line X Y past cx cy released x y rx ry fx fy tx ty
       → cx < length past → at (cx + 1) past ≡ frame ∷ at cx past → (late_of X frame ≡ true → cx + 1 ≤ released) → IsDataOf X frame
       → comes frame.course ≡ true → IsCopy X Y frame (cx + 1) past
@@ -125,14 +125,14 @@ module _ {Y : End} {talk : Talk} {cursor : End → ℕ} {past : List Sent} where
       }
 
 -- the frame that is taken reached what is sent behind the acknowledgement
-reached-now : {X : End} (cursor : End → ℕ) {ack : Sent} {past : List Sent} {cx : ℕ} {frame : Sent} → cursor X ≡ cx + 1 → cx < length past
+reached-now : {X : End} (cursor : End → ℕ) {ack : PastFrame} {past : List PastFrame} {cx : ℕ} {frame : PastFrame} → cursor X ≡ cx + 1 → cx < length past
     → at (cx + 1) past ≡ frame ∷ at cx past → is_end X frame.from ≡ true → comes frame.course ≡ true → (IsHeldIn X (cx + 1) past → ⊥)
     → (reaches : Reaches (came_by cursor (ack ∷ past)) (cx + 1) (ack ∷ past)) × (reaches.frame ≡ frame)
 unfolding taken-reaches reaches-push
 reached-now cursor {ack} {past} {cx} is_cx inside here mine comes_here free =
     (reaches-push cursor (cx + 1) ack past (taken-reaches cursor is_cx inside here mine comes_here free), refl)
 
-module _ {X Y : End} {came : ℕ → Bool} {past : List Sent} {n : ℕ} {frame : Sent} where
+module _ {X Y : End} {came : ℕ → Bool} {past : List PastFrame} {n : ℕ} {frame : PastFrame} where
   took-newest : (reached : (reaches : Reaches came n past) × (reaches.frame ≡ frame))
       → IsDataOf X frame → length (said X (at n past)) ≡ length (acked Y past) → TookNewest X Y came past
   took-newest reached is number =
@@ -167,8 +167,8 @@ module _ {X Y : End} {came : ℕ → Bool} {past : List Sent} {n : ℕ} {frame :
   }
 
 -- the newest fragment: where Y waits, this frame tells it that its message was taken
-pub talking_newest : {X Y : End} {talk : Talk} {cursor later : End → ℕ} {past : List Sent} {cx cy released : ℕ} {x y : Side} {rx ry : ReceiverValue}
-    {fx fy : Bool} {tx ty k : ℕ} {course : Course} {frame : Sent} {answer : Taken} {whole : Bool}
+pub talking_newest : {X Y : End} {talk : Talk} {cursor later : End → ℕ} {past : List PastFrame} {cx cy released : ℕ} {x y : Side} {rx ry : ReceiverValue}
+    {fx fy : Bool} {tx ty k : ℕ} {course : FrameCourse} {frame : PastFrame} {answer : Taken} {whole : Bool}
     → Apart X Y → Line X Y past cx cy released x y rx ry fx fy tx ty
     → cx < length past → at (cx + 1) past ≡ frame ∷ at cx past → (late_of X frame ≡ true → cx + 1 ≤ released) → IsDataOf X frame
     → comes frame.course ≡ true → Accepting X Y past cy (cx + 1) x y rx ry (frame.key) (frame.bytes) answer whole → piece_count (length y.message) ≤ k
@@ -234,16 +234,16 @@ talking_newest {X} {Y} {talk} {later} {past} {cx} {y} {fx} {k} {course} {frame} 
 
 -- ---- acknowledgements
 
-ack_no_data : (X : End) (frame : Sent) → IsAckOf X frame → data_comes X frame ≡ false
+ack_no_data : (X : End) (frame : PastFrame) → IsAckOf X frame → data_comes X frame ≡ false
 ack_no_data X frame is = go (is_end X frame.from) frame.is_data (comes frame.course) is where
   go : (a b c : Bool) → (a && not b) ≡ true → ((a && b) && c) ≡ false
   go false b c is = refl
   go true false c is = refl
   go true true c is = absurd cc
 
-module _ {X Y : End} {talk : Talk} {past : List Sent} {cx cy released : ℕ} {x y : Side} {rx ry : ReceiverValue} {tx ty : ℕ} where
+module _ {X Y : End} {talk : Talk} {past : List PastFrame} {cx cy released : ℕ} {x y : Side} {rx ry : ReceiverValue} {tx ty : ℕ} where
   -- the acknowledgement of the waiting piece of Y tells it that this was taken
-  known_now : (later : End → ℕ) {fx fy : Bool} {frame : Sent}
+  known_now : (later : End → ℕ) {fx fy : Bool} {frame : PastFrame}
       → Line X Y past cx cy released x y rx ry fx fy tx ty
       → cx < length past → at (cx + 1) past ≡ frame ∷ at cx past → (late_of X frame ≡ true → cx + 1 ≤ released) → IsAckOf X frame
       → comes frame.course ≡ true → Waiting y → key_now y ≡ frame.key → later X ≡ cx + 1 → IsKnown Y X talk (came_by later past) past
@@ -258,7 +258,7 @@ module _ {X Y : End} {talk : Talk} {past : List Sent} {cx cy released : ℕ} {x 
       (line.core.y_speaks.newest waits ∙ ap Some key)
 
   -- of its last piece
-  pub talking_last_ack : {cursor later : End → ℕ} {fx fy : Bool} {frame : Sent}
+  pub talking_last_ack : {cursor later : End → ℕ} {fx fy : Bool} {frame : PastFrame}
       → Apart X Y → Line X Y past cx cy released x y rx ry fx fy tx ty
       → cx < length past → at (cx + 1) past ≡ frame ∷ at cx past → (late_of X frame ≡ true → cx + 1 ≤ released) → IsAckOf X frame
       → comes frame.course ≡ true → Waiting y → key_now y ≡ frame.key → y.acknowledged + 1 ≡ piece_count (length y.message)
@@ -274,7 +274,7 @@ module _ {X Y : End} {talk : Talk} {past : List Sent} {cx cy released : ℕ} {x 
       }
 
   -- of another piece: the next one goes
-  pub talking_next_piece : {cursor later : End → ℕ} {fx fy : Bool} {frame : Sent} {course : Course}
+  pub talking_next_piece : {cursor later : End → ℕ} {fx fy : Bool} {frame : PastFrame} {course : FrameCourse}
       → Apart X Y → Line X Y past cx cy released x y rx ry fx fy tx ty
       → cx < length past → at (cx + 1) past ≡ frame ∷ at cx past → (late_of X frame ≡ true → cx + 1 ≤ released) → IsAckOf X frame
       → comes frame.course ≡ true → Waiting y → key_now y ≡ frame.key → y.acknowledged + 1 < piece_count (length y.message)
@@ -303,7 +303,7 @@ module _ {X Y : End} {talk : Talk} {past : List Sent} {cx cy released : ℕ} {x 
 
   -- ---- a new message
 
-  pub talking_starts : {cursor : End → ℕ} {id : ℕ} {message : List ℕ} {course : Course}
+  pub talking_starts : {cursor : End → ℕ} {id : ℕ} {message : List ℕ} {course : FrameCourse}
       → Apart X Y → Line X Y past cx cy released x y rx ry false false tx ty → (Waiting x → ⊥) → (id ≡ x.id → ⊥)
       → id ≡ session_id (count_messages X talk)
       → IfAnswers (answered_by X (count_messages X talk)) talk (came_by cursor past) past
@@ -339,7 +339,7 @@ module _ {X Y : End} {talk : Talk} {past : List Sent} {cx cy released : ℕ} {x 
       }
 
 -- an end whose message was taken whole: its last fragment reached this time
-module _ {X Y : End} {talk : Talk} {cursor : End → ℕ} {past : List Sent} {x : Side} where
+module _ {X Y : End} {talk : Talk} {cursor : End → ℕ} {past : List PastFrame} {x : Side} where
   pub end_taken : Speech X Y talk cursor past x → left x ≡ 0
       → said X past ≡ acked Y past → 0 < count_messages X talk → 0 < length (said X past)
       → EndReached (record { end = X; number = count_messages X talk - 1 }) talk (came_by cursor past) past
@@ -360,7 +360,7 @@ module _ {X Y : End} {talk : Talk} {cursor : End → ℕ} {past : List Sent} {x 
 
   -- ---- the tick
 
-  talking_again : {y : Side} {fx fy : Bool} {key : Key} {bytes : List ℕ} {course : Course}
+  talking_again : {y : Side} {fx fy : Bool} {key : Key} {bytes : List ℕ} {course : FrameCourse}
       → Apart X Y → first (said X past) ≡ Some key → run X past < 10 → cursor X ≤ length past → cursor Y ≤ length past
       → Talking X Y talk cursor past x y fx fy → Talking X Y talk cursor (data_frame X key bytes course ∷ past) x y fx fy
   talking_again {key} {bytes} {course} apart newest_is few x_in y_in was =
@@ -380,8 +380,8 @@ module _ {X Y : End} {talk : Talk} {cursor : End → ℕ} {past : List Sent} {x 
   talking_turned was = search rules
 
 -- where X alone waits
-module _ {X Y : End} {talk : Talk} {cursor : End → ℕ} {past : List Sent} {cx cy released : ℕ} {x y : Side} {rx ry : ReceiverValue} {fx fy : Bool}
-    {tx ty : ℕ} {course : Course} where
+module _ {X Y : End} {talk : Talk} {cursor : End → ℕ} {past : List PastFrame} {cx cy released : ℕ} {x y : Side} {rx ry : ReceiverValue} {fx fy : Bool}
+    {tx ty : ℕ} {course : FrameCourse} where
   pub talking_tick_one : Apart X Y → Line X Y past cx cy released x y rx ry fx fy tx ty → Waiting x → tx < 10 → cursor X ≡ cx → cursor Y ≡ cy
       → Talking X Y talk cursor past x y fx fy → Talking X Y talk cursor (data_frame X (key_now x) ((part_now x).bytes) course ∷ past) x y fx fy
   talking_tick_one apart line waits few is_cx is_cy was =
@@ -389,7 +389,7 @@ module _ {X Y : End} {talk : Talk} {cursor : End → ℕ} {past : List Sent} {cx
       (omega (arith, is_cy, line.core.back.cur_in)) was
 
   -- where both wait: X sends, then Y
-  pub talking_tick_two : {other : Course}
+  pub talking_tick_two : {other : FrameCourse}
       → Apart X Y → Line X Y past cx cy released x y rx ry fx fy tx ty → Waiting x → Waiting y → tx < 10 → ty < 10 → cursor X ≡ cx → cursor Y ≡ cy
       → Talking X Y talk cursor past x y fx fy
       → Talking X Y talk cursor (data_frame Y (key_now y) ((part_now y).bytes) other ∷ data_frame X (key_now x) ((part_now x).bytes) course ∷ past) x y fx fy
@@ -415,7 +415,7 @@ none_yet Handheld = refl
 none_yet Desktop = refl
 
 -- an end speaks properly
-pub speaks_properly : {X Y : End} {talk : Talk} {cursor : End → ℕ} {past : List Sent} {x : Side} → cursor X ≤ length past
+pub speaks_properly : {X Y : End} {talk : Talk} {cursor : End → ℕ} {past : List PastFrame} {x : Side} → cursor X ≤ length past
     → Speech X Y talk cursor past x → SpeaksProperly X Y talk (came_by cursor past) past
 speaks_properly {Y} {cursor} {past} {x} inside speech = record {
   says = record { rest = unsaid x; is = speech.says };

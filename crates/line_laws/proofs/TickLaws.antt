@@ -1,8 +1,8 @@
 -- The tick: both timers run where their ends wait.
 use Rattle.line_laws.proofs.Names.{common_steps, rules, ◌≡◌, ℕ, zero, suc, ◌+◌, ◌*◌, ◌-◌, ◌<◌, ◌≤◌, Bool, true, false, List, ◌∷◌, length, ap, subst, arith, inl}
-use Rattle.line_laws.proofs.Names.{inr, Key, ReceiverValue, faulted, late_of, data_comes, count, Course, Sent, is_end, said, acked, at, is_data_of, End, load}
-use Rattle.line_laws.proofs.Names.{Queued, HeldBudget, HeldUp, Tried, Timed, Apart, Counts, Side, Waiting, key_now, part_now, Core, data_frame, Progress}
-use Rattle.line_laws.proofs.Names.{Blocked}
+use Rattle.line_laws.proofs.Names.{inr, Key, ReceiverValue, faulted, late_of, data_comes, count, FrameCourse, PastFrame, is_end, said, acked, at, is_data_of, End, load}
+use Rattle.line_laws.proofs.Names.{RepeatBudget, HeldBudget, HeldUp, TryBudget, EndTime, Apart, Counts, Side, Waiting, key_now, part_now, Core, data_frame, Progress}
+use Rattle.line_laws.proofs.Names.{IsBlocked}
 use Rattle.line_laws.proofs.PastLaws.{at_all, at_push}
 use Rattle.line_laws.proofs.CountLaws.{follows-length}
 use Rattle.line_laws.proofs.StepLaws.{turned, again}
@@ -10,18 +10,18 @@ use Rattle.line_laws.proofs.FaultLaws.{progress_sent, progress_push}
 use Rattle.line_laws.proofs.BudgetLaws.{count_pass, count_fail, four, above_tick, AfterTick, tick_first, tick_later}
 use Rattle.line_laws.proofs.LoadLaws.{count_at-push, load_sent, load_turned, queued_push, held_step}
 
-blocked_above : {X : End} {past : List Sent} {c released : ℕ} → released ≤ length past → Blocked X past c released → released ≤ c
+blocked_above : {X : End} {past : List PastFrame} {c released : ℕ} → released ≤ length past → IsBlocked X past c released → released ≤ c
 blocked_above inside (inl all) = omega (arith, all)
 blocked_above inside (inr held) = omega (arith, held.above)
 
 -- the tick itself: no data frame of X stands above it, and at most two of X are on the line
-pub record Fresh (X : End) (past : List Sent) (cx tick : ℕ) : Type 0 where
+pub record Fresh (X : End) (past : List PastFrame) (cx tick : ℕ) : Type 0 where
   pub none : count (is_data_of X) past + length (said X (at tick past)) ≤ count (is_data_of X) (at tick past) + length (said X past)
   pub old : count (data_comes X) (at tick past) ≤ count (data_comes X) (at cx past) + 2
 
-module _ {X : End} {past : List Sent} {cx : ℕ} where
-  pub fresh_at_tick : {Y : End} {fx : Bool} {released : ℕ} → Counts X Y past fx cx → Queued X past cx released
-      → released ≤ length past → Blocked X past cx released → Fresh X past cx (length past)
+module _ {X : End} {past : List PastFrame} {cx : ℕ} where
+  pub fresh_at_tick : {Y : End} {fx : Bool} {released : ℕ} → Counts X Y past fx cx → RepeatBudget X past cx released
+      → released ≤ length past → IsBlocked X past cx released → Fresh X past cx (length past)
   fresh_at_tick counts queued inside blocked =
       let all = at_all past in
       record {
@@ -29,7 +29,7 @@ module _ {X : End} {past : List Sent} {cx : ℕ} where
         old = omega (arith, above_tick counts queued (omega arith) (blocked_above inside blocked) counts.cur_in, ap (λ s. count (data_comes X) s) all);
       }
 
-  pub fresh_queued : {tick : ℕ} → Fresh X past cx tick → Queued X past cx tick
+  pub fresh_queued : {tick : ℕ} → Fresh X past cx tick → RepeatBudget X past cx tick
   fresh_queued fresh = omega arith
 
   -- by its tries, what is known once the tick was
@@ -37,8 +37,8 @@ module _ {X : End} {past : List Sent} {cx : ℕ} where
   tick_held_up after = search rules
 
   pub tried_tick : {Y : End} {fx fy : Bool} {cy released : ℕ} (tries : ℕ) → Counts X Y past fx cx → Counts Y X past fy cy
-      → Progress X Y past cx cy released → Blocked X past cx released → Blocked Y past cy released
-      → HeldBudget 10 X Y past cx cy released → HeldBudget 10 Y X past cy cx released → Tried X Y past cx cy released tries
+      → Progress X Y past cx cy released → IsBlocked X past cx released → IsBlocked Y past cy released
+      → HeldBudget 10 X Y past cx cy released → HeldBudget 10 Y X past cy cx released → TryBudget X Y past cx cy released tries
       → HeldUp 4 X Y past cx cy (length past) tries
   tried_tick zero there back progress bx by held_x held_y tried = absurd tried
   tried_tick (suc zero) there back progress bx by held_x held_y tried = tick_held_up (tick_first there back progress bx by held_x held_y tried)
@@ -47,7 +47,7 @@ module _ {X : End} {past : List Sent} {cx : ℕ} where
       tick_held_up (subst (λ k. AfterTick X Y past cx cy k) e (tick_later progress bx by tried))
 
   -- a data frame of either end, within the slack
-  pub held_up-sent : {slack : ℕ} {Y : End} {frame : Sent} {cy tick faults : ℕ} → HeldUp (slack + 2) X Y past cx cy tick faults
+  pub held_up-sent : {slack : ℕ} {Y : End} {frame : PastFrame} {cy tick faults : ℕ} → HeldUp (slack + 2) X Y past cx cy tick faults
       → tick ≤ length past → load X Y (frame ∷ past) cx cy ≤ load X Y past cx cy + 2
       → acked X (frame ∷ past) ≡ acked X past → said Y (frame ∷ past) ≡ said Y past → HeldUp slack X Y (frame ∷ past) cx cy tick faults
   held_up-sent {frame} was inside more ax sy = record {
@@ -66,7 +66,7 @@ module _ {X : End} {past : List Sent} {cx : ℕ} where
 -- ---- one timer: X sends again, in a past that holds the tick and perhaps the other's frame
 
 -- a repeat of X
-pub record Repeats (X Y : End) (frame : Sent) (past : List Sent) : Type 0 where
+pub record Repeats (X Y : End) (frame : PastFrame) (past : List PastFrame) : Type 0 where
   pub sx : said X (frame ∷ past) ≡ said X past
   pub sy : said Y (frame ∷ past) ≡ said Y past
   pub ax : acked X (frame ∷ past) ≡ acked X past
@@ -74,9 +74,9 @@ pub record Repeats (X Y : End) (frame : Sent) (past : List Sent) : Type 0 where
   pub is : is_data_of X frame ≡ true
   pub other : is_data_of Y frame ≡ false
 
-module _ {X Y : End} {frame : Sent} {past : List Sent} {tick : ℕ} where
+module _ {X Y : End} {frame : PastFrame} {past : List PastFrame} {tick : ℕ} where
   pub queued_again : {cx : ℕ} → Repeats X Y frame past → Fresh X past cx tick → cx ≤ length past
-      → tick ≤ length past → Queued X (frame ∷ past) cx tick
+      → tick ≤ length past → RepeatBudget X (frame ∷ past) cx tick
   queued_again repeat fresh x_in t_in = record {
     once = omega (
       arith,
@@ -105,7 +105,7 @@ module _ {X Y : End} {frame : Sent} {past : List Sent} {tick : ℕ} where
 
   -- what a late repeat may have before it
   pub held_again : {fx fy : Bool} {cx cy : ℕ} → Repeats X Y frame past
-      → Counts X Y (frame ∷ past) fx cx → Counts Y X (frame ∷ past) fy cy → Queued X (frame ∷ past) cx tick → Queued Y (frame ∷ past) cy tick
+      → Counts X Y (frame ∷ past) fx cx → Counts Y X (frame ∷ past) fy cy → RepeatBudget X (frame ∷ past) cx tick → RepeatBudget Y (frame ∷ past) cy tick
       → tick ≤ length past
       → load X Y (frame ∷ past) cx cy + 2 * (length (said X (frame ∷ past)) + length (acked X (frame ∷ past))) ≤ length past + 1 + 8 + 2 *
       (length (said X (frame ∷ past)) + length (said Y (frame ∷ past)))
@@ -117,7 +117,7 @@ module _ {X Y : End} {frame : Sent} {past : List Sent} {tick : ℕ} where
 
 -- ---- the whole tick
 
-pub repeats_of : {X Y : End} {past : List Sent} {cx cy : ℕ} {x y : Side} {rx ry : ReceiverValue} {fx fy : Bool} {course : Course} → Apart X Y
+pub repeats_of : {X Y : End} {past : List PastFrame} {cx cy : ℕ} {x y : Side} {rx ry : ReceiverValue} {fx fy : Bool} {course : FrameCourse} → Apart X Y
     → Core X Y past cx cy x y rx ry fx fy → Waiting x → Repeats X Y (data_frame X (key_now x) ((part_now x).bytes) course) past
 repeats_of apart core waits = grind (arith, common_steps)
 
@@ -125,41 +125,41 @@ pub len : {s t : List Key} → s ≡ t → length s ≡ length t
 len e = ap length e
 
 -- nothing is held at the tick
-none_held : (slack : ℕ) (X Y : End) (past : List Sent) (cx cy : ℕ) → HeldBudget slack X Y past cx cy (length past)
+none_held : (slack : ℕ) (X Y : End) (past : List PastFrame) (cx cy : ℕ) → HeldBudget slack X Y past cx cy (length past)
 none_held slack X Y past cx cy n frame older from above inside here late = absurd (omega arith)
 
-pub held_wider : {slack wider : ℕ} (X Y : End) (past : List Sent) {cx : ℕ} (cy : ℕ) {released : ℕ} → slack ≤ wider → HeldBudget slack X Y past cx cy released
+pub held_wider : {slack wider : ℕ} (X Y : End) (past : List PastFrame) {cx : ℕ} (cy : ℕ) {released : ℕ} → slack ≤ wider → HeldBudget slack X Y past cx cy released
     → HeldBudget wider X Y past cx cy released
 held_wider X Y past cy more all n frame older from above inside here late = search rules
 
-pub late_from : (X Y : End) (key : Key) (bytes : List ℕ) (course : Course) → is_end Y X ≡ false → late_of Y (data_frame X key bytes course) ≡ true → ⊥
+pub late_from : (X Y : End) (key : Key) (bytes : List ℕ) (course : FrameCourse) → is_end Y X ≡ false → late_of Y (data_frame X key bytes course) ≡ true → ⊥
 late_from X Y key bytes course apart late = cc
 
-tried_from : {X Y : End} {past : List Sent} {cx cy released : ℕ} (tries : ℕ) → HeldUp 0 X Y past cx cy released tries → 0 < tries
-    → Tried X Y past cx cy released (suc tries)
+tried_from : {X Y : End} {past : List PastFrame} {cx cy released : ℕ} (tries : ℕ) → HeldUp 0 X Y past cx cy released tries → 0 < tries
+    → TryBudget X Y past cx cy released (suc tries)
 tried_from zero held some = absurd (omega arith)
 tried_from (suc faults) held some = held
 
-pub tried_some : (X Y : End) (past : List Sent) (cx cy released tries : ℕ) → Tried X Y past cx cy released tries → 0 < tries
+pub tried_some : (X Y : End) (past : List PastFrame) (cx cy released tries : ℕ) → TryBudget X Y past cx cy released tries → 0 < tries
 tried_some X Y past cx cy released zero tried = absurd tried
 tried_some X Y past cx cy released (suc tries) tried = omega arith
 
-held_up-less : {X Y : End} {past : List Sent} {cx cy tick faults : ℕ} → HeldUp 2 X Y past cx cy tick faults → HeldUp 0 X Y past cx cy tick faults
+held_up-less : {X Y : End} {past : List PastFrame} {cx cy tick faults : ℕ} → HeldUp 2 X Y past cx cy tick faults → HeldUp 0 X Y past cx cy tick faults
 held_up-less was = search rules
 
 -- X's repeat makes at most two more of the load
-sent_load : {X Y : End} {frame : Sent} {past : List Sent} {cx cy : ℕ} → Repeats X Y frame past → cx ≤ length past → cy ≤ length past
+sent_load : {X Y : End} {frame : PastFrame} {past : List PastFrame} {cx cy : ℕ} → Repeats X Y frame past → cx ≤ length past → cy ≤ length past
     → load X Y (frame ∷ past) cx cy ≤ load X Y past cx cy + 2
 sent_load {X} {Y} {frame} {past} repeat x_in y_in = load_sent X Y frame past x_in y_in repeat.other
 
 -- only X waits
-pub tick_one : {X Y : End} {past : List Sent} {cx cy released : ℕ} {x y : Side} {rx ry : ReceiverValue} {fx fy : Bool} {tx ty : ℕ} {course : Course}
-    → Apart X Y → Core X Y past cx cy x y rx ry fx fy → Timed X Y past cx cy released x tx → Timed Y X past cy cx released y ty
+pub tick_one : {X Y : End} {past : List PastFrame} {cx cy released : ℕ} {x y : Side} {rx ry : ReceiverValue} {fx fy : Bool} {tx ty : ℕ} {course : FrameCourse}
+    → Apart X Y → Core X Y past cx cy x y rx ry fx fy → EndTime X Y past cx cy released x tx → EndTime Y X past cy cx released y ty
     → released ≤ length past
-    → Blocked X past cx released → Blocked Y past cy released → Waiting x → (Waiting y → ⊥)
+    → IsBlocked X past cx released → IsBlocked Y past cy released → Waiting x → (Waiting y → ⊥)
     → Core X Y (data_frame X (key_now x) ((part_now x).bytes) course ∷ past) cx cy x y rx ry fx fy
-    × Timed X Y (data_frame X (key_now x) ((part_now x).bytes) course ∷ past) cx cy (length past) x (suc tx)
-    × Timed Y X (data_frame X (key_now x) ((part_now x).bytes) course ∷ past) cy cx (length past) y ty
+    × EndTime X Y (data_frame X (key_now x) ((part_now x).bytes) course ∷ past) cx cy (length past) x (suc tx)
+    × EndTime Y X (data_frame X (key_now x) ((part_now x).bytes) course ∷ past) cy cx (length past) y ty
 tick_one {X} {Y} {past} {cx} {cy} {released} {x} {tx} {course} apart core x_time y_time inside bx by waits idle =
     let frame = data_frame X (key_now x) ((part_now x).bytes) course in
     let more = again course apart core waits in
@@ -196,14 +196,14 @@ tick_one {X} {Y} {past} {cx} {cy} {released} {x} {tx} {course} apart core x_time
     )
 
 -- both wait: X sends, then Y
-pub tick_two : {X Y : End} {past : List Sent} {cx cy released : ℕ} {x y : Side} {rx ry : ReceiverValue} {fx fy : Bool} {tx ty : ℕ} {course other : Course}
-    → Apart X Y → Core X Y past cx cy x y rx ry fx fy → Timed X Y past cx cy released x tx → Timed Y X past cy cx released y ty
+pub tick_two : {X Y : End} {past : List PastFrame} {cx cy released : ℕ} {x y : Side} {rx ry : ReceiverValue} {fx fy : Bool} {tx ty : ℕ} {course other : FrameCourse}
+    → Apart X Y → Core X Y past cx cy x y rx ry fx fy → EndTime X Y past cx cy released x tx → EndTime Y X past cy cx released y ty
     → released ≤ length past
-    → Blocked X past cx released → Blocked Y past cy released → Waiting x → Waiting y
+    → IsBlocked X past cx released → IsBlocked Y past cy released → Waiting x → Waiting y
     → Core Y X (data_frame Y (key_now y) ((part_now y).bytes) other ∷ data_frame X (key_now x) ((part_now x).bytes) course ∷ past) cy cx y x ry rx fy fx
-    × Timed X Y (data_frame Y (key_now y) ((part_now y).bytes) other ∷ data_frame X (key_now x) ((part_now x).bytes) course ∷
+    × EndTime X Y (data_frame Y (key_now y) ((part_now y).bytes) other ∷ data_frame X (key_now x) ((part_now x).bytes) course ∷
     past) cx cy (length past) x (suc tx)
-    × Timed Y X (data_frame Y (key_now y) ((part_now y).bytes) other ∷ data_frame X (key_now x) ((part_now x).bytes) course ∷
+    × EndTime Y X (data_frame Y (key_now y) ((part_now y).bytes) other ∷ data_frame X (key_now x) ((part_now x).bytes) course ∷
     past) cy cx (length past) y (suc ty)
 tick_two {X} {Y} {past} {cx} {cy} {released} {x} {y} {tx} {ty} {course} {other} apart core x_time y_time inside bx by wx wy =
     let back_apart : Apart Y X = record { there = apart.back; back = apart.there } in

@@ -1,7 +1,7 @@
 -- The time of both ends over the steps between two ticks.
 use Rattle.line_laws.proofs.Names.{◌≡◌, ℕ, zero, suc, ◌+◌, ◌*◌, ◌<◌, ◌≤◌, Bool, true, false, ◌&&◌, List, ◌∷◌, length, refl, ap, arith, cond-true, cond-false}
-use Rattle.line_laws.proofs.Names.{Key, late_of, data_comes, newest, Course, Sent, is_end, said, acked, at, is_data_of, End, Handheld, Desktop, load, Queued}
-use Rattle.line_laws.proofs.Names.{HeldBudget, Tried, Timed, Apart, Counts, Side, Waiting, data_frame, ack_frame, DataPends, AckPends, Progress}
+use Rattle.line_laws.proofs.Names.{Key, late_of, data_comes, newest, FrameCourse, PastFrame, is_end, said, acked, at, is_data_of, End, Handheld, Desktop, load, RepeatBudget}
+use Rattle.line_laws.proofs.Names.{HeldBudget, TryBudget, EndTime, Apart, Counts, Side, Waiting, data_frame, ack_frame, DataPends, AckPends, Progress}
 use Rattle.line_laws.proofs.PastLaws.{said_data-other, acked_data, said_ack, acked_ack-other}
 use Rattle.line_laws.proofs.CountLaws.{follows-length}
 use Rattle.line_laws.proofs.FaultLaws.{progress_sent, progress_push, progress_x, progress_y, is_data-frame}
@@ -12,32 +12,32 @@ use Rattle.line_laws.proofs.TickLaws.{len, late_from}
 
 -- ---- tries
 
-tried_push : (X Y : End) (frame : Sent) (past : List Sent) (cx cy dx dy : ℕ) {released : ℕ} (tries : ℕ) → Tried X Y past cx cy released tries
+tried_push : (X Y : End) (frame : PastFrame) (past : List PastFrame) (cx cy dx dy : ℕ) {released : ℕ} (tries : ℕ) → TryBudget X Y past cx cy released tries
     → released ≤ length past → newest (is_data_of X) (frame ∷ past) ≡ newest (is_data_of X) past
     → load X Y (frame ∷ past) dx dy + 2 * length (acked X (frame ∷ past)) + 2 * length (said Y past) ≤ load X Y past cx cy + 2 * length (acked X past) + 2
     * length (said Y (frame ∷ past))
-    → Tried X Y (frame ∷ past) dx dy released tries
+    → TryBudget X Y (frame ∷ past) dx dy released tries
 tried_push X Y frame past cx cy dx dy zero tried inside same fair = tried
 tried_push X Y frame past cx cy dx dy (suc zero) tried inside same fair = first_step tried same fair
 tried_push X Y frame past cx cy dx dy (suc (suc faults)) tried inside same fair = held_up-step tried inside fair
 
-tried_moves : (X Y : End) (past : List Sent) (cx cy dx dy released tries : ℕ) → Tried X Y past cx cy released tries
-    → load X Y past dx dy ≤ load X Y past cx cy → Tried X Y past dx dy released tries
+tried_moves : (X Y : End) (past : List PastFrame) (cx cy dx dy released tries : ℕ) → TryBudget X Y past cx cy released tries
+    → load X Y past dx dy ≤ load X Y past cx cy → TryBudget X Y past dx dy released tries
 tried_moves X Y past cx cy dx dy released zero tried fair = tried
 tried_moves X Y past cx cy dx dy released (suc zero) tried fair = first_step tried refl (omega (arith, fair))
 tried_moves X Y past cx cy dx dy released (suc (suc faults)) tried fair = held_up-moves tried fair
 
 -- two ends at eight data frames on the line
-eight : {X Y : End} {past : List Sent} {fx fy : Bool} {cx cy released : ℕ} → Counts X Y past fx cx → Counts Y X past fy cy → Queued X past cx released
-    → Queued Y past cy released → released ≤ length past → load X Y past cx cy ≤ length past + 8
+eight : {X Y : End} {past : List PastFrame} {fx fy : Bool} {cx cy released : ℕ} → Counts X Y past fx cx → Counts Y X past fy cy → RepeatBudget X past cx released
+    → RepeatBudget Y past cy released → released ≤ length past → load X Y past cx cy ≤ length past + 8
 eight there back qx qy inside = omega (arith, four there qx inside, four back qy inside)
 
 -- ---- a cursor moves by one frame
 
-pub time_passes : {X Y : End} {past : List Sent} {cx cy released : ℕ} {x y : Side} {tx ty : ℕ} → Timed X Y past cx cy released x tx
-    → Timed Y X past cy cx released y ty → cx < length past
+pub time_passes : {X Y : End} {past : List PastFrame} {cx cy released : ℕ} {x y : Side} {tx ty : ℕ} → EndTime X Y past cx cy released x tx
+    → EndTime Y X past cy cx released y ty → cx < length past
     → (Waiting x → (pends : DataPends X past cx) → pends.n ≡ cx + 1 → ⊥) → (Waiting y → (pends : AckPends Y X past cx) → pends.n ≡ cx + 1 → ⊥)
-    → Timed X Y past (cx + 1) cy released x tx × Timed Y X past cy (cx + 1) released y ty
+    → EndTime X Y past (cx + 1) cy released x tx × EndTime Y X past cy (cx + 1) released y ty
 time_passes {X} {Y} {past} {cx} {cy} {released} {tx} {ty} x_time y_time inside no_data no_ack =
     let fair = load_moves X Y past cx cy (cx + 1) (omega arith) (omega arith) in
     let t0 = load_turned X Y past cx cy in
@@ -58,11 +58,11 @@ time_passes {X} {Y} {past} {cx} {cy} {released} {tx} {ty} x_time y_time inside n
 
 -- ---- X begins a fragment
 
-pub time_begins : {X Y : End} {key : Key} {bytes : List ℕ} {course : Course} {past : List Sent} {cx cy released : ℕ} {x y : Side} {ty : ℕ} → Apart X Y
-    → Queued X past cx released → HeldBudget 10 X Y past cx cy released → Timed Y X past cy cx released y ty → released ≤ length past
+pub time_begins : {X Y : End} {key : Key} {bytes : List ℕ} {course : FrameCourse} {past : List PastFrame} {cx cy released : ℕ} {x y : Side} {ty : ℕ} → Apart X Y
+    → RepeatBudget X past cx released → HeldBudget 10 X Y past cx cy released → EndTime Y X past cy cx released y ty → released ≤ length past
     → cx ≤ length past → cy ≤ length past → said X (data_frame X key bytes course ∷ past) ≡ key ∷ said X past
     → Counts X Y (data_frame X key bytes course ∷ past) true cx → Counts Y X (data_frame X key bytes course ∷ past) false cy
-    → Timed X Y (data_frame X key bytes course ∷ past) cx cy released x 1 × Timed Y X (data_frame X key bytes course ∷ past) cy cx released y ty
+    → EndTime X Y (data_frame X key bytes course ∷ past) cx cy released x 1 × EndTime Y X (data_frame X key bytes course ∷ past) cy cx released y ty
 time_begins {X} {Y} {key} {bytes} {course} {past} {cx} {cy} {ty} apart qx hx y_time inside x_in y_in sx there back =
     let frame = data_frame X key bytes course in
     let sy = said_data-other X Y apart.back key bytes course past in
@@ -94,23 +94,23 @@ time_begins {X} {Y} {key} {bytes} {course} {past} {cx} {cy} {ty} apart qx hx y_t
 
 -- ---- data that comes is taken and acknowledged
 
-pub ack_is_no_data : (X Y : End) (key : Key) (course : Course) → is_data_of X (ack_frame Y key course) ≡ false
+pub ack_is_no_data : (X Y : End) (key : Key) (course : FrameCourse) → is_data_of X (ack_frame Y key course) ≡ false
 ack_is_no_data Handheld Handheld key course = refl
 ack_is_no_data Handheld Desktop key course = refl
 ack_is_no_data Desktop Handheld key course = refl
 ack_is_no_data Desktop Desktop key course = refl
 
-ack_late : (X Y : End) (key : Key) (course : Course) → is_end X Y ≡ false → late_of X (ack_frame Y key course) ≡ true → ⊥
+ack_late : (X Y : End) (key : Key) (course : FrameCourse) → is_end X Y ≡ false → late_of X (ack_frame Y key course) ≡ true → ⊥
 ack_late X Y key course apart late = cc
 
-pub time_takes : {X Y : End} {key : Key} {course : Course} {past : List Sent} {fx fy : Bool} {cx cy released : ℕ} {x y y' : Side} {tx ty : ℕ}
-    {frame : Sent} {older : List Sent}
-    → Apart X Y → Timed X Y past cx cy released x tx → Timed Y X past cy cx released y ty → released ≤ length past
+pub time_takes : {X Y : End} {key : Key} {course : FrameCourse} {past : List PastFrame} {fx fy : Bool} {cx cy released : ℕ} {x y y' : Side} {tx ty : ℕ}
+    {frame : PastFrame} {older : List PastFrame}
+    → Apart X Y → EndTime X Y past cx cy released x tx → EndTime Y X past cy cx released y ty → released ≤ length past
     → cx < length past → cy ≤ length past → at (cx + 1) past ≡ frame ∷ older → older ≡ at cx past → data_comes X frame ≡ true
     → Counts X Y (ack_frame Y key course ∷ past) fx (cx + 1) → Counts Y X (ack_frame Y key course ∷ past) fy cy
     → (Waiting x → Progress X Y (ack_frame Y key course ∷ past) (cx + 1) cy released)
     → (Waiting y' → Waiting y × (acked Y (ack_frame Y key course ∷ past) ≡ acked Y past)) → ((pends : AckPends Y X past cx) → pends.n ≡ cx + 1 → ⊥)
-    → Timed X Y (ack_frame Y key course ∷ past) (cx + 1) cy released x tx × Timed Y X (ack_frame Y key course ∷ past) cy (cx + 1) released y' ty
+    → EndTime X Y (ack_frame Y key course ∷ past) (cx + 1) cy released x tx × EndTime Y X (ack_frame Y key course ∷ past) cy (cx + 1) released y' ty
 time_takes {X} {Y} {key} {course} {past} {fx} {cx} {cy} {tx} {ty} apart x_time y_time inside x_in y_in here behind comes_here there back progress waits no_ack =
     let ack = ack_frame Y key course in
     let sx = said_ack Y X key course past in

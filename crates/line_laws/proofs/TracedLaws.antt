@@ -1,28 +1,28 @@
 -- The trace over the steps.
 use Rattle.line_laws.proofs.Names.{common_steps, rules, ◌≡◌, ℕ, ◌+◌, ◌<◌, ◌≤◌, Bool, true, false, not, ◌&&◌, List, ◌∷◌, length, Some, refl, sym, ap, subst}
-use Rattle.line_laws.proofs.Names.{arith, inl, inr, Key, faulted, late_of, data_comes, newest, Course, Sent, is_end, first, said, acked, at, is_repeat, End}
-use Rattle.line_laws.proofs.Names.{Handheld, Desktop, Apart, Follows, data_frame, ack_frame, Traced}
+use Rattle.line_laws.proofs.Names.{arith, inl, inr, Key, faulted, late_of, data_comes, newest, FrameCourse, PastFrame, is_end, first, said, acked, at, is_repeat, End}
+use Rattle.line_laws.proofs.Names.{Handheld, Desktop, Apart, Follows, data_frame, ack_frame, TraceFacts}
 use Rattle.line_laws.proofs.TraceLaws.{begun_no_repeat, release_push, release_moves, faults_push, acks_taken, acks_push}
 use Rattle.line_laws.proofs.JoinLaws.{release_one, release_two, acks_behind-push, repeat_only, either}
 
-pub traced_turned : {X Y : End} {past : List Sent} {cx cy released : ℕ} → Traced X Y past cx cy released → Traced Y X past cy cx released
+pub traced_turned : {X Y : End} {past : List PastFrame} {cx cy released : ℕ} → TraceFacts X Y past cx cy released → TraceFacts Y X past cy cx released
 traced_turned traced = search rules
 
 -- a frame is passed that isn't data that comes, and isn't held
-pub traced_moves : {X Y : End} {past : List Sent} {cx cy released : ℕ} {frame : Sent} → Traced X Y past cx cy released
+pub traced_moves : {X Y : End} {past : List PastFrame} {cx cy released : ℕ} {frame : PastFrame} → TraceFacts X Y past cx cy released
     → at (cx + 1) past ≡ frame ∷ at cx past → cx < length past → (late_of X frame ≡ true → cx + 1 ≤ released) → data_comes X frame ≡ false
-    → Traced X Y past (cx + 1) cy released
+    → TraceFacts X Y past (cx + 1) cy released
 traced_moves traced here inside free other = grind (arith, common_steps)
 
 -- an acknowledgement is no repeat, and one of Y is none of X
-ack_no_repeat : (X Y : End) (key : Key) (course : Course) (past : List Sent) → is_repeat X (ack_frame Y key course) past ≡ false
+ack_no_repeat : (X Y : End) (key : Key) (course : FrameCourse) (past : List PastFrame) → is_repeat X (ack_frame Y key course) past ≡ false
 ack_no_repeat X Y key course past = search rules
 
-other_ack_end : (X Y : End) (key : Key) (course : Course) → is_end X Y ≡ false
+other_ack_end : (X Y : End) (key : Key) (course : FrameCourse) → is_end X Y ≡ false
     → (is_end X ((ack_frame Y key course).from) && not ((ack_frame Y key course).is_data)) ≡ false
 other_ack_end X Y key course apart = ap (λ b. b && true) apart
 
-data_no_ack : (X Y : End) (key : Key) (bytes : List ℕ) (course : Course)
+data_no_ack : (X Y : End) (key : Key) (bytes : List ℕ) (course : FrameCourse)
     → (is_end X ((data_frame Y key bytes course).from) && not ((data_frame Y key bytes course).is_data)) ≡ false
 data_no_ack Handheld Handheld key bytes course = refl
 data_no_ack Handheld Desktop key bytes course = refl
@@ -30,12 +30,12 @@ data_no_ack Desktop Handheld key bytes course = refl
 data_no_ack Desktop Desktop key bytes course = refl
 
 -- data that comes is taken and acknowledged
-pub traced_taken : {X Y : End} {past : List Sent} {cx cy released : ℕ} {frame : Sent} {course : Course} (fx fy : Bool) → Apart X Y
-    → Traced X Y past cx cy released → at (cx + 1) past ≡ frame ∷ at cx past → cx < length past → cy ≤ length past
+pub traced_taken : {X Y : End} {past : List PastFrame} {cx cy released : ℕ} {frame : PastFrame} {course : FrameCourse} (fx fy : Bool) → Apart X Y
+    → TraceFacts X Y past cx cy released → at (cx + 1) past ≡ frame ∷ at cx past → cx < length past → cy ≤ length past
     → (late_of X frame ≡ true → cx + 1 ≤ released) → data_comes X frame ≡ true
     → Follows (said X (ack_frame Y (frame.key) course ∷ past)) (acked Y (ack_frame Y (frame.key) course ∷ past)) fx
     → Follows (said Y (ack_frame Y (frame.key) course ∷ past)) (acked X (ack_frame Y (frame.key) course ∷ past)) fy
-    → Traced X Y (ack_frame Y (frame.key) course ∷ past) (cx + 1) cy released
+    → TraceFacts X Y (ack_frame Y (frame.key) course ∷ past) (cx + 1) cy released
 traced_taken {X} {Y} {past} {frame} {course} fx fy apart traced here x_in y_in free is there back = record {
   x_release = release_push (release_moves traced.x_release here x_in free) (omega (arith, x_in)) (ack_no_repeat X Y frame.key course past);
   y_release = release_push traced.y_release y_in (ack_no_repeat Y Y frame.key course past);
@@ -46,13 +46,13 @@ traced_taken {X} {Y} {past} {frame} {course} fx fy apart traced here x_in y_in f
   faults = faults_push (ack_frame Y frame.key course) past traced.faults (λ Z. ack_no_repeat Z Y frame.key course past);
 }
 
-module _ {X Y : End} {past : List Sent} {cx cy released : ℕ} {key : Key} {bytes : List ℕ} {course : Course} where
+module _ {X Y : End} {past : List PastFrame} {cx cy released : ℕ} {key : Key} {bytes : List ℕ} {course : FrameCourse} where
   -- X begins a fragment
   pub traced_begins : (fx fy : Bool) → Apart X Y
-      → Traced X Y past cx cy released → cx ≤ length past → cy ≤ length past → (first (said X past) ≡ Some key → ⊥)
+      → TraceFacts X Y past cx cy released → cx ≤ length past → cy ≤ length past → (first (said X past) ≡ Some key → ⊥)
       → Follows (said X (data_frame X key bytes course ∷ past)) (acked Y (data_frame X key bytes course ∷ past)) fx
       → Follows (said Y (data_frame X key bytes course ∷ past)) (acked X (data_frame X key bytes course ∷ past)) fy
-      → Traced X Y (data_frame X key bytes course ∷ past) cx cy released
+      → TraceFacts X Y (data_frame X key bytes course ∷ past) cx cy released
   traced_begins fx fy apart traced x_in y_in new there back = record {
     x_release = release_push traced.x_release x_in mine;
     y_release = release_push traced.y_release y_in other;
@@ -76,10 +76,10 @@ module _ {X Y : End} {past : List Sent} {cx cy released : ℕ} {key : Key} {byte
 
   -- the tick where X alone waits
   pub traced_tick : (fx fy : Bool) → Apart X Y
-      → Traced X Y past cx cy released → cx ≤ length past → cy ≤ length past → first (said X past) ≡ Some key → released < newest faulted past
+      → TraceFacts X Y past cx cy released → cx ≤ length past → cy ≤ length past → first (said X past) ≡ Some key → released < newest faulted past
       → Follows (said X (data_frame X key bytes course ∷ past)) (acked Y (data_frame X key bytes course ∷ past)) fx
       → Follows (said Y (data_frame X key bytes course ∷ past)) (acked X (data_frame X key bytes course ∷ past)) fy
-      → Traced X Y (data_frame X key bytes course ∷ past) cx cy (length past)
+      → TraceFacts X Y (data_frame X key bytes course ∷ past) cx cy (length past)
   traced_tick fx fy apart traced x_in y_in newest_is fault there back =
       let all = release_one apart newest_is traced.x_release traced.y_release x_in y_in traced.faults fault in
       record {
@@ -93,8 +93,8 @@ module _ {X Y : End} {past : List Sent} {cx cy released : ℕ} {key : Key} {byte
       }
 
   -- and where both wait
-  pub traced_tick_two : {key' : Key} {bytes' : List ℕ} {course' : Course} (fx fy gx gy : Bool)
-      → Apart X Y → Traced X Y past cx cy released → cx ≤ length past → cy ≤ length past → first (said X past) ≡ Some key
+  pub traced_tick_two : {key' : Key} {bytes' : List ℕ} {course' : FrameCourse} (fx fy gx gy : Bool)
+      → Apart X Y → TraceFacts X Y past cx cy released → cx ≤ length past → cy ≤ length past → first (said X past) ≡ Some key
       → first (said Y past) ≡ Some key' → released < newest faulted past
       → Follows (said X (data_frame X key bytes course ∷ past)) (acked Y (data_frame X key bytes course ∷ past)) fx
       → Follows (said Y (data_frame X key bytes course ∷ past)) (acked X (data_frame X key bytes course ∷ past)) fy
@@ -102,7 +102,7 @@ module _ {X Y : End} {past : List Sent} {cx cy released : ℕ} {key : Key} {byte
       (acked Y (data_frame Y key' bytes' course' ∷ data_frame X key bytes course ∷ past)) gx
       → Follows (said Y (data_frame Y key' bytes' course' ∷ data_frame X key bytes course ∷ past))
       (acked X (data_frame Y key' bytes' course' ∷ data_frame X key bytes course ∷ past)) gy
-      → Traced X Y (data_frame Y key' bytes' course' ∷ data_frame X key bytes course ∷ past) cx cy (length past)
+      → TraceFacts X Y (data_frame Y key' bytes' course' ∷ data_frame X key bytes course ∷ past) cx cy (length past)
   traced_tick_two {key'} {bytes'} {course'} fx fy gx gy apart traced x_in y_in newest_x newest_y fault there back there' back' =
       let mid = data_frame X key bytes course ∷ past in
       let all = release_two apart newest_x newest_y traced.x_release traced.y_release x_in y_in traced.faults fault in

@@ -1,7 +1,7 @@
 -- Whose turn it is, the first state, the last try, and the acknowledgements that were taken.
 use Rattle.line_laws.proofs.Names.{rules, ◌≡◌, ℕ, ◌+◌, ◌-◌, ◌<◌, ◌≤◌, Bool, true, false, List, ◌∷◌, length, sym, ap, ◌∙◌, arith, inl, inr, Key, piece_count}
-use Rattle.line_laws.proofs.Names.{ReceiverValue, faulted, count, Sent, first, data_of, said, acked, at, End, Timed, Side, Waiting, taken_count, Core, Blocked}
-use Rattle.line_laws.proofs.Names.{NoAck, Acknowledged}
+use Rattle.line_laws.proofs.Names.{ReceiverValue, faulted, count, PastFrame, first, data_of, said, acked, at, End, EndTime, Side, Waiting, taken_count, Core, IsBlocked}
+use Rattle.line_laws.proofs.Names.{NoAck, IsAcknowledged}
 use Rattle.line_laws.proofs.PastLaws.{at_push, keys_below}
 use Rattle.line_laws.proofs.BudgetLaws.{ten_faults}
 
@@ -27,20 +27,20 @@ active_goes_on false active none = active.due
 
 -- ---- the first state and the last try
 
-pub tenth_try : {X Y : End} {past : List Sent} {cx cy released : ℕ} {x y : Side} {rx ry : ReceiverValue} {fx fy : Bool}
-    → Core X Y past cx cy x y rx ry fx fy → Timed X Y past cx cy released x 10 → Waiting x → Blocked X past cx released → Blocked Y past cy released
+pub tenth_try : {X Y : End} {past : List PastFrame} {cx cy released : ℕ} {x y : Side} {rx ry : ReceiverValue} {fx fy : Bool}
+    → Core X Y past cx cy x y rx ry fx fy → EndTime X Y past cx cy released x 10 → Waiting x → IsBlocked X past cx released → IsBlocked Y past cy released
     → (f : ℕ) × (0 < f) × (length past < f + 53) × (10 + count faulted (at (f - 1) past) ≤ count faulted past)
 tenth_try core time waits bx by = ten_faults core.back (time.progress waits) bx by (time.tried waits)
 
 -- ---- no acknowledgement was taken
 
-pub no_ack-push : (X Y : End) (frame : Sent) (past : List Sent) {cy : ℕ} {key : Key} → NoAck X Y past cy key → cy ≤ length past
+pub no_ack-push : (X Y : End) (frame : PastFrame) (past : List PastFrame) {cy : ℕ} {key : Key} → NoAck X Y past cy key → cy ≤ length past
     → said X (frame ∷ past) ≡ said X past → NoAck X Y (frame ∷ past) cy key
 no_ack-push X Y frame past none inside same n found older before here is came newest key_is =
     let e = at_push frame past (omega (arith, before, inside)) in
     none n found older before (sym e ∙ here) is came (ap (λ s. length (said X s)) (sym e) ∙ newest ∙ ap length same) key_is
 
-pub no_ack-begins : (X Y : End) (frame : Sent) (past : List Sent) {cy : ℕ} {begun key : Key} → cy ≤ length past
+pub no_ack-begins : (X Y : End) (frame : PastFrame) (past : List PastFrame) {cy : ℕ} {begun key : Key} → cy ≤ length past
     → said X (frame ∷ past) ≡ begun ∷ said X past → NoAck X Y (frame ∷ past) cy key
 no_ack-begins X Y frame past inside more n found older before here is came newest key_is =
     let e = at_push {n = n} frame past (omega (arith, before, inside)) in
@@ -48,8 +48,8 @@ no_ack-begins X Y frame past inside more n found older before here is came newes
 
 -- ---- what was acknowledged
 
-pub acknowledged-push : {X Y : End} {frame : Sent} {past : List Sent} {cy : ℕ} → Acknowledged X Y past cy → cy ≤ length past
-    → said X (frame ∷ past) ≡ said X past → Acknowledged X Y (frame ∷ past) cy
+pub acknowledged-push : {X Y : End} {frame : PastFrame} {past : List PastFrame} {cy : ℕ} → IsAcknowledged X Y past cy → cy ≤ length past
+    → said X (frame ∷ past) ≡ said X past → IsAcknowledged X Y (frame ∷ past) cy
 acknowledged-push {X} {Y} {frame} {past} was inside same =
     let e = at_push frame past (omega (arith, was.before, inside)) in
     let length_is = ap length same in
@@ -67,5 +67,5 @@ acknowledged-push {X} {Y} {frame} {past} was inside same =
       ];
     }
 
-pub acknowledged-moves : {X Y : End} {past : List Sent} {cy later : ℕ} → Acknowledged X Y past cy → cy ≤ later → Acknowledged X Y past later
+pub acknowledged-moves : {X Y : End} {past : List PastFrame} {cy later : ℕ} → IsAcknowledged X Y past cy → cy ≤ later → IsAcknowledged X Y past later
 acknowledged-moves was more = search rules

@@ -6,7 +6,7 @@ use Rattle.padp_link.specs.FragmentText.{FragmentValue}
 use Rattle.padp_link.specs.Pieces.{piece_count, piece_of, fragment_of}
 use Rattle.padp_link.specs.Collecting.{taken_pieces}
 use Rattle.padp_link.specs.Receivers.{ReceiverValue}
-use Rattle.trace_text.specs.Past.{Course, Sent, is_end, first, said, acked, at, IsDataOf}
+use Rattle.trace_text.specs.Past.{FrameCourse, PastFrame, is_end, first, said, acked, at, IsDataOf}
 use Rattle.trace_text.specs.declared.frame.End.{End}
 
 -- two ends
@@ -23,17 +23,17 @@ Follows said acked true = (key : Key) × (said ≡ key ∷ acked)
 -- of X is older than the last that was taken, no
 -- acknowledgement by X is older than the one before the last that the other said, and it isn't that
 -- one behind a fragment that wasn't taken.
-pub record Fits (X : End) (a s : ℕ) (past : List Sent) : Type 0 where
+pub record Fits (X : End) (a s : ℕ) (past : List PastFrame) : Type 0 where
   pub taken : a ≤ length (said X past)
   pub known : s ≤ length (acked X past) + 1
   pub begun : a < length (said X past) → s ≤ length (acked X past)
 
 -- so at each frame from the cursor on
-abbrev pub AllFit : End → ℕ → ℕ → ℕ → List Sent → Type 0
+abbrev pub AllFit : End → ℕ → ℕ → ℕ → List PastFrame → Type 0
 AllFit X a s cur past = (n : ℕ) → cur ≤ n → n ≤ length past → Fits X a s (at n past)
 
 -- one direction of the line, from X to Y
-pub record Counts (X Y : End) (past : List Sent) (fresh : Bool) (cur : ℕ) : Type 0 where
+pub record Counts (X Y : End) (past : List PastFrame) (fresh : Bool) (cur : ℕ) : Type 0 where
   pub follows : Follows (said X past) (acked Y past) fresh
   pub cur_in : cur ≤ length past
   pub fits : AllFit X (length (acked Y past)) (length (said Y past)) cur past
@@ -56,14 +56,14 @@ abbrev pub part_now : Side → FragmentValue
 part_now side = fragment_of side.message (piece_of side.id (length side.message) side.acknowledged)
 
 -- each data frame of its newest fragment bears this part
-abbrev pub AllBear : End → List Sent → List ℕ → Type 0
+abbrev pub AllBear : End → List PastFrame → List ℕ → Type 0
 AllBear X past bytes =
-    (n : ℕ) (frame : Sent) (older : List Sent) → n ≤ length past → at n past ≡ frame ∷ older
+    (n : ℕ) (frame : PastFrame) (older : List PastFrame) → n ≤ length past → at n past ≡ frame ∷ older
     → IsDataOf X frame
     → length (said X (frame ∷ older)) ≡ length (said X past) → frame.bytes ≡ bytes
 
 -- an end that sends
-pub record Speaks (X : End) (past : List Sent) (fresh : Bool) (side : Side) : Type 0 where
+pub record Speaks (X : End) (past : List PastFrame) (fresh : Bool) (side : Side) : Type 0 where
   pub waits : fresh ≡ true → Waiting side
   pub newest : Waiting side → first (said X past) ≡ Some (key_now side)
   pub newest_id : (key : Key) → first (said X past) ≡ Some key → key.id ≡ side.id
@@ -78,7 +78,7 @@ pub record Awaits (id count : ℕ) (message : List ℕ) (receiver : ReceiverValu
   pub pieces : receiver.pieces ≡ taken_pieces (length message) count message
 
 -- the other end, Y, that receives
-pub record Hears (Y : End) (past : List Sent) (fresh : Bool) (side : Side)
+pub record Hears (Y : End) (past : List PastFrame) (fresh : Bool) (side : Side)
     (receiver : ReceiverValue) : Type 0 where
   pub last_is : receiver.last ≡ first (acked Y past)
   pub receives : taken_count fresh side < piece_count (length side.message)
@@ -94,7 +94,7 @@ pub record Answering (fresh : Bool) (x y : Side) : Type 0 where
 -- both send and receive, and whether their newest
 -- fragment wasn't
 -- taken yet.
-pub record Core (X Y : End) (past : List Sent) (cx cy : ℕ) (x y : Side) (rx ry : ReceiverValue)
+pub record Core (X Y : End) (past : List PastFrame) (cx cy : ℕ) (x y : Side) (rx ry : ReceiverValue)
     (fx fy : Bool) : Type 0 where
   pub there : Counts X Y past fx cx
   pub back : Counts Y X past fy cy
@@ -106,7 +106,7 @@ pub record Core (X Y : End) (past : List Sent) (cx cy : ℕ) (x y : Side) (rx ry
   pub both : Waiting x → Waiting y → Answering fx x y ⊎ Answering fy y x
 
 -- the frames that are pushed
-abbrev pub data_frame : End → Key → List ℕ → Course → Sent
+abbrev pub data_frame : End → Key → List ℕ → FrameCourse → PastFrame
 data_frame X key bytes course = record {
   from = X;
   is_data = true;
@@ -115,7 +115,7 @@ data_frame X key bytes course = record {
   course = course;
 }
 
-abbrev pub ack_frame : End → Key → Course → Sent
+abbrev pub ack_frame : End → Key → FrameCourse → PastFrame
 ack_frame X key course = record {
   from = X;
   is_data = false;

@@ -4,7 +4,7 @@ use Rattle.std.specs.Prelude.{◌≡◌, ℕ, zero, suc, ◌+◌, false, ◌&&�
 use Rattle.std.specs.List.{AllByRecursion}
 use Rattle.trace_text.specs.Fates.{FateValue, arrives, ends_run}
 use Rattle.trace_text.specs.Frames.{BearsFragment, fragment_in, is_abort, past_of}
-use Rattle.trace_text.specs.Past.{Sent, is_end}
+use Rattle.trace_text.specs.Past.{PastFrame, is_end}
 use Rattle.trace_text.specs.Proper.{AreNumbered}
 use Rattle.trace_text.specs.TraceLines.{FrameValue}
 use Rattle.trace_text.specs.declared.frame.End.{End}
@@ -20,8 +20,8 @@ CameByCursor number cursor (frame ∷ later) =
 abbrev pub IsNoAbort : FrameValue → Type 0
 IsNoAbort frame = is_abort (fragment_in frame).kind ≡ false
 
-pub record Framed (script : ℕ → FateValue) (cursor : End → ℕ) (frames : List FrameValue)
-    (past : List Sent) : Type 0 where
+pub record FrameFacts (script : ℕ → FateValue) (cursor : End → ℕ) (frames : List FrameValue)
+    (past : List PastFrame) : Type 0 where
   pub numbered : AreNumbered 1 script frames
   pub bear : AllByRecursion BearsFragment frames
   pub whole : AllByRecursion IsNoAbort frames

@@ -3,35 +3,35 @@ use Rattle.std.specs.Prelude.{ℕ, ◌+◌, ◌-◌, ◌≤◌, ◌<◌, Bool, L
 use Rattle.padp_link.specs.Receivers.{ReceiverValue}
 use Rattle.trace_text.specs.Fates.{FateValue}
 use Rattle.trace_text.specs.Faults.{faulted, count}
-use Rattle.trace_text.specs.Past.{Sent, at}
+use Rattle.trace_text.specs.Past.{PastFrame, at}
 use Rattle.trace_text.specs.Proper.{IsProper}
 use Rattle.trace_text.specs.Talks.{Talk}
 use Rattle.trace_text.specs.TraceLines.{FrameValue}
 use Rattle.trace_text.specs.declared.frame.End.{End}
 use Rattle.trace_text.specs.declared.frame.End.TheVariants.{Handheld, Desktop}
 use Rattle.line_laws.specs.Core.{Side, Waiting}
-use Rattle.line_laws.specs.Framing.{Framed}
+use Rattle.line_laws.specs.Framing.{FrameFacts}
 use Rattle.line_laws.specs.Line.{Line}
-use Rattle.line_laws.specs.Progress.{Blocked}
+use Rattle.line_laws.specs.Progress.{IsBlocked}
 use Rattle.line_laws.specs.Talking.{Talking}
 
 -- its frames are a proper trace
 abbrev pub HasProperTrace : Type 0
 HasProperTrace =
     (script : ℕ → FateValue) (talk : Talk) (cursor : End → ℕ) (frames : List FrameValue)
-    (past : List Sent) (released : ℕ) (h d : Side) (rh rd : ReceiverValue)
+    (past : List PastFrame) (released : ℕ) (h d : Side) (rh rd : ReceiverValue)
     (fh fd : Bool) (th td : ℕ)
     → Line Handheld Desktop past (cursor Handheld) (cursor Desktop) released h d rh rd fh fd th td
     → Talking Handheld Desktop talk cursor past h d fh fd
-    → Framed script cursor frames past → IsProper script talk frames
+    → FrameFacts script cursor frames past → IsProper script talk frames
 
 -- where an end waits with its last try and nothing can be delivered, ten faults stand among the
 -- last 53 frames
 abbrev pub HasTenFaults : Type 0
 HasTenFaults =
-    (X Y : End) (past : List Sent) (cx cy released : ℕ) (x y : Side) (rx ry : ReceiverValue)
+    (X Y : End) (past : List PastFrame) (cx cy released : ℕ) (x y : Side) (rx ry : ReceiverValue)
     (fx fy : Bool) (ty : ℕ)
-    → Line X Y past cx cy released x y rx ry fx fy 10 ty → Waiting x → Blocked X past cx released
-    → Blocked Y past cy released
+    → Line X Y past cx cy released x y rx ry fx fy 10 ty → Waiting x → IsBlocked X past cx released
+    → IsBlocked Y past cy released
     → (first : ℕ) × (0 < first) × (length past < first + 53)
     × (10 + count faulted (at (first - 1) past) ≤ count faulted past)

@@ -4,7 +4,7 @@
 use Rattle.std.specs.Prelude.{◌≡◌, ℕ, ◌+◌, ◌-◌, ◌<◌, Bool, true, List, [], ◌∷◌, ◌++◌, length, drop, reverse, Some}
 use Rattle.padp_link.specs.Pieces.{piece_count, piece_of, fragment_of}
 use Rattle.trace_text.specs.Parts.{Part, spoken, message_parts, session_parts}
-use Rattle.trace_text.specs.Past.{Sent, said, acked}
+use Rattle.trace_text.specs.Past.{PastFrame, said, acked}
 use Rattle.trace_text.specs.Proper.{Reaches, BearsNumber, IsKnown, BeginInTurn, AtMostTen}
 use Rattle.trace_text.specs.Talks.{Talk, messages_of, pieces_before, answer_to}
 use Rattle.trace_text.specs.declared.frame.End.{End}
@@ -44,13 +44,13 @@ say Desktop message talk = record {
 }
 
 -- a frame with the newest fragment of X that Y took
-pub record TookNewest (X Y : End) (came : ℕ → Bool) (past : List Sent) : Type 0 where
+pub record TookNewest (X Y : End) (came : ℕ → Bool) (past : List PastFrame) : Type 0 where
   pub n : ℕ
   pub reaches : Reaches came n past
   pub bears : BearsNumber X past n reaches.frame (length (acked Y past))
 
 -- what X sent
-pub record Speech (X Y : End) (talk : Talk) (cursor : End → ℕ) (past : List Sent)
+pub record Speech (X Y : End) (talk : Talk) (cursor : End → ℕ) (past : List PastFrame)
     (x : Side) : Type 0 where
   pub begun : length (said X past) + left x
       ≡ pieces_before (messages_of X talk) (count_messages X talk)
@@ -73,7 +73,7 @@ AnswersIt X Y talk fresh x y =
     → (0 < count_messages X talk) × (0 < count_messages Y talk)
     × (answer_to Y (count_messages Y talk - 1) ≡ Some (count_messages X talk - 1))
 
-pub record Talking (X Y : End) (talk : Talk) (cursor : End → ℕ) (past : List Sent) (x y : Side)
+pub record Talking (X Y : End) (talk : Talk) (cursor : End → ℕ) (past : List PastFrame) (x y : Side)
     (fx fy : Bool) : Type 0 where
   pub x_speech : Speech X Y talk cursor past x
   pub y_speech : Speech Y X talk cursor past y

@@ -1,11 +1,11 @@
 //! Laws of the line. Each function here does nothing: its contract is the law.
 ghost use Rattle.std.specs.Prelude.{◌≡◌, ◌≤◌, ℕ, List, length};
 ghost use Rattle.line_laws.specs.Promises.{HasProperTrace, HasTenFaults};
-ghost use Rattle.trace_text.specs.Past.{Sent, at};
+ghost use Rattle.trace_text.specs.Past.{PastFrame, at};
 
 /// The past when so many frames had been sent has so many frames.
 pub fn past_grows()
-    ensures { (n : ℕ) (past : List Sent) → n ≤ length past → length (at n past) ≡ n }
+    ensures { (n : ℕ) (past : List PastFrame) → n ≤ length past → length (at n past) ≡ n }
 {}
 
 /// The frames of a running line are a proper trace, whatever the script did with them.

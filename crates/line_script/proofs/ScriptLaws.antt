@@ -3,7 +3,7 @@ use Rattle.std.proofs.Common.{◌≡◌, ℕ, zero, suc, ◌+◌, List, [], ◌�
 use Rattle.std.proofs.lemmas.List.{append-nil, length-append}
 use Rattle.line_script.specs.Rules.{RuleValue, IsLine}
 use Rattle.line_script.specs.Lines.{lines_of}
-use Rattle.line_script.specs.Scripts.{Rise, AreLines, IsFirstBad, IsReading}
+use Rattle.line_script.specs.Scripts.{Rise, AreRuleLines, IsFirstBadRule, IsReading}
 use Rattle.line_script.specs.declared.fault.ScriptFault.{ScriptFault}
 use Rattle.line_script.specs.declared.fault.ScriptFault.TheVariants.{TooLong, BadLine, NoMemory}
 use Rattle.line_script.proofs.WordLaws.{some_is}
@@ -12,7 +12,7 @@ use Rattle.line_script.proofs.FateLaws.{line_in-only}
 same_rule : (before : ℕ) (x y : RuleValue) (line : List ℕ) → IsLine before x line → IsLine before y line → x ≡ y
 same_rule before x y line a b = some_is x y (sym (line_in-only before line x a) ∙ line_in-only before line y b)
 
-same_lines : (before : ℕ) (xs ys : List RuleValue) (lines : List (List ℕ)) → AreLines before xs lines → AreLines before ys lines → xs ≡ ys
+same_lines : (before : ℕ) (xs ys : List RuleValue) (lines : List (List ℕ)) → AreRuleLines before xs lines → AreRuleLines before ys lines → xs ≡ ys
 same_lines before [] [] [] a b = refl
 same_lines before [] (y ∷ ys) [] a b = absurd b
 same_lines before (x ∷ xs) ys [] a b = absurd a
@@ -23,7 +23,7 @@ same_lines before (x ∷ xs) (y ∷ ys) (line ∷ lines) a b =
     let rest = same_lines y.number xs ys lines (rw (← is) a.1) b.1 in
     cc
 
-none_bad : (before : ℕ) (xs : List RuleValue) (lines : List (List ℕ)) (number : ℕ) → AreLines before xs lines → IsFirstBad before lines number → ⊥
+none_bad : (before : ℕ) (xs : List RuleValue) (lines : List (List ℕ)) (number : ℕ) → AreRuleLines before xs lines → IsFirstBadRule before lines number → ⊥
 none_bad before xs [] number a bad = bad
 none_bad before [] (line ∷ lines) number a bad = a
 none_bad before (x ∷ xs) (line ∷ lines) zero a bad = bad
@@ -32,7 +32,7 @@ none_bad before (x ∷ xs) (line ∷ lines) (suc (suc number)) a bad =
     let is = same_rule before x bad.0 line a.0 bad.1 in
     none_bad bad.0.number xs lines (suc number) (rw (← is) a.1) bad.2
 
-one_bad : (before : ℕ) (lines : List (List ℕ)) (m n : ℕ) → IsFirstBad before lines m → IsFirstBad before lines n → m ≡ n
+one_bad : (before : ℕ) (lines : List (List ℕ)) (m n : ℕ) → IsFirstBadRule before lines m → IsFirstBadRule before lines n → m ≡ n
 one_bad before [] m n a b = absurd a
 one_bad before (line ∷ lines) zero n a b = absurd a
 one_bad before (line ∷ lines) (suc m) zero a b = absurd b
@@ -64,8 +64,8 @@ one_reading bytes (Err NoMemory) y a b none_x none_y = absurd (none_x refl)
 
 -- Where the lines of these rules were read and the rest is left: what the rest says goes behind them, and its first bad line is that of all.
 pub record Goes (bytes : List ℕ) (rules : List RuleValue) (before : ℕ) (rest : List ℕ) : Type 0 where
-  pub lines : (more : List RuleValue) → AreLines before more (lines_of rest) → AreLines 0 (rules ++ more) (lines_of bytes)
-  pub bad : (number : ℕ) → IsFirstBad before (lines_of rest) (suc number) → IsFirstBad 0 (lines_of bytes) (length rules + suc number)
+  pub lines : (more : List RuleValue) → AreRuleLines before more (lines_of rest) → AreRuleLines 0 (rules ++ more) (lines_of bytes)
+  pub bad : (number : ℕ) → IsFirstBadRule before (lines_of rest) (suc number) → IsFirstBadRule 0 (lines_of bytes) (length rules + suc number)
   pub count : length rules + length (lines_of rest) ≡ length (lines_of bytes)
 
 append_rule : (rules more : List RuleValue) (rule : RuleValue) → (rules ++ rule ∷ []) ++ more ≡ rules ++ rule ∷ more
@@ -82,29 +82,29 @@ pub goes-on : {bytes : List ℕ} {rules : List RuleValue} {before : ℕ} {rest l
 goes-on {bytes} {rules} {before} {rest} {line} {behind} {rule} goes split says =
     let len = length_one rules rule in
     record {
-      lines = λ more are. subst (λ (rs : List RuleValue). AreLines 0 rs (lines_of bytes))
-          (sym (append_rule rules more rule)) (goes.lines (rule ∷ more) (subst (AreLines before (rule ∷ more)) (sym split) (says, are)));
+      lines = λ more are. subst (λ (rs : List RuleValue). AreRuleLines 0 rs (lines_of bytes))
+          (sym (append_rule rules more rule)) (goes.lines (rule ∷ more) (subst (AreRuleLines before (rule ∷ more)) (sym split) (says, are)));
       bad = λ number bad.
-          let there = goes.bad (suc number) (subst (λ (ls : List (List ℕ)). IsFirstBad before ls (suc (suc number))) (sym split) (rule, says, bad)) in
+          let there = goes.bad (suc number) (subst (λ (ls : List (List ℕ)). IsFirstBadRule before ls (suc (suc number))) (sym split) (rule, says, bad)) in
           let place : length rules + suc (suc number) ≡ length (rules ++ rule ∷ []) + suc number = omega arith in
-          subst (IsFirstBad 0 (lines_of bytes)) place there;
+          subst (IsFirstBadRule 0 (lines_of bytes)) place there;
       count = omega (arith, goes.count, counted (lines_of rest) (lines_of behind) line split);
     }
 
 pub goes-bad : {bytes : List ℕ} {rules : List RuleValue} {before : ℕ} {rest line : List ℕ} (behind : List ℕ) → Goes bytes rules before rest
-    → lines_of rest ≡ line ∷ lines_of behind → ((rule : RuleValue) → ¬ (IsLine before rule line)) → IsFirstBad 0 (lines_of bytes) (length rules + 1)
+    → lines_of rest ≡ line ∷ lines_of behind → ((rule : RuleValue) → ¬ (IsLine before rule line)) → IsFirstBadRule 0 (lines_of bytes) (length rules + 1)
 goes-bad {before} behind goes split none =
-    goes.bad 0 (subst (λ (ls : List (List ℕ)). IsFirstBad before ls 1) (sym split) none)
+    goes.bad 0 (subst (λ (ls : List (List ℕ)). IsFirstBadRule before ls 1) (sym split) none)
 
 pub goes-end : {bytes : List ℕ} {rules : List RuleValue} {before : ℕ} {rest : List ℕ}
-    → Goes bytes rules before rest → rest ≡ [] → AreLines 0 rules (lines_of bytes)
+    → Goes bytes rules before rest → rest ≡ [] → AreRuleLines 0 rules (lines_of bytes)
 goes-end {bytes} {rules} {before} {rest} goes end =
     let none : lines_of rest ≡ [] = ap lines_of end in
-    rw (← append-nil rules) (goes.lines [] (subst (AreLines before []) (sym none) tt))
+    rw (← append-nil rules) (goes.lines [] (subst (AreRuleLines before []) (sym none) tt))
 
 -- ---- the numbers rise
 
-pub lines-rise : (before : ℕ) (rules : List RuleValue) (lines : List (List ℕ)) → AreLines before rules lines → Rise before rules
+pub lines-rise : (before : ℕ) (rules : List RuleValue) (lines : List (List ℕ)) → AreRuleLines before rules lines → Rise before rules
 lines-rise before [] lines are = tt
 lines-rise before (rule ∷ rules) [] are = absurd are
 lines-rise before (rule ∷ rules) (line ∷ lines) are = (are.0.rises, lines-rise rule.number rules lines are.1)

@@ -17,20 +17,20 @@ fate_by [] number = Untouched
 fate_by (rule ∷ later) number = if rule.number == number then rule.fate else fate_by later number
 
 -- the lines say this, one each
-abbrev pub AreLines : ℕ → List RuleValue → List (List ℕ) → Type 0
-AreLines before [] [] = ⊤
-AreLines before [] (line ∷ later) = ⊥
-AreLines before (rule ∷ rules) [] = ⊥
-AreLines before (rule ∷ rules) (line ∷ later) =
-    IsLine before rule line × AreLines rule.number rules later
+abbrev pub AreRuleLines : ℕ → List RuleValue → List (List ℕ) → Type 0
+AreRuleLines before [] [] = ⊤
+AreRuleLines before [] (line ∷ later) = ⊥
+AreRuleLines before (rule ∷ rules) [] = ⊥
+AreRuleLines before (rule ∷ rules) (line ∷ later) =
+    IsLine before rule line × AreRuleLines rule.number rules later
 
 -- the line of this number, from 1 on, is the first that says nothing
-abbrev pub IsFirstBad : ℕ → List (List ℕ) → ℕ → Type 0
-IsFirstBad before [] number = ⊥
-IsFirstBad before (line ∷ later) zero = ⊥
-IsFirstBad before (line ∷ later) (suc zero) = (rule : RuleValue) → ¬ (IsLine before rule line)
-IsFirstBad before (line ∷ later) (suc (suc number)) =
-    (rule : RuleValue) × IsLine before rule line × IsFirstBad rule.number later (suc number)
+abbrev pub IsFirstBadRule : ℕ → List (List ℕ) → ℕ → Type 0
+IsFirstBadRule before [] number = ⊥
+IsFirstBadRule before (line ∷ later) zero = ⊥
+IsFirstBadRule before (line ∷ later) (suc zero) = (rule : RuleValue) → ¬ (IsLine before rule line)
+IsFirstBadRule before (line ∷ later) (suc (suc number)) =
+    (rule : RuleValue) × IsLine before rule line × IsFirstBadRule rule.number later (suc number)
 
 -- how many lines a script has at most
 abbrev pub most_lines : ℕ
@@ -40,8 +40,8 @@ most_lines = 100000
 -- said
 abbrev pub IsReading : List ℕ → Result (List RuleValue) ScriptFault → Type 0
 IsReading bytes (Ok rules) =
-    (length (lines_of bytes) ≤ most_lines) × AreLines 0 rules (lines_of bytes)
+    (length (lines_of bytes) ≤ most_lines) × AreRuleLines 0 rules (lines_of bytes)
 IsReading bytes (Err TooLong) = most_lines < length (lines_of bytes)
 IsReading bytes (Err (BadLine number)) =
-    (length (lines_of bytes) ≤ most_lines) × IsFirstBad 0 (lines_of bytes) number
+    (length (lines_of bytes) ≤ most_lines) × IsFirstBadRule 0 (lines_of bytes) number
 IsReading bytes (Err NoMemory) = ⊤

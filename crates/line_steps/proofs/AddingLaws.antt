@@ -1,10 +1,10 @@
 -- What a step adds has the fates of the script.
 use Rattle.line_steps.proofs.Names.{rules, Result, Ok, Err, OnOk, IfErr, ◌≡◌, ℕ, ◌+◌, List, [], ◌∷◌, ◌++◌, length, append_assoc, None, refl, sym, ap, subst, ◌∙◌, arith, inl}
-use Rattle.line_steps.proofs.Names.{inr, FragmentValue, End, Frame, FateValue, fate_value, RuleValue, fate_by, Half, Wire, Halt, NoMemory, Stopped, Down, Added}
+use Rattle.line_steps.proofs.Names.{inr, FragmentValue, End, Frame, FateValue, fate_value, RuleValue, fate_by, Half, Wire, Halt, NoMemory, Stopped, Down, AddsFrame}
 use Rattle.line_steps.proofs.Names.{AddsOne, AddsTwo, AllBy, IsFirst, StartsWith, Sends, Halts, SendsAgain}
 
 added : {old new : List Frame} {from : End} {id : ℕ} {fragment : FragmentValue} {given : FateValue} {stop : _} → Sends old from id fragment given stop new
-    → Added given old new
+    → AddsFrame given old new
 added sends = search rules
 
 pub adds_of : {T : Type 0} (r : Result T Halt) {old new : List Frame} (from : End) (id : ℕ) (fragment : FragmentValue) {given : FateValue}
@@ -17,7 +17,7 @@ adds_of (Err (Down end)) from id fragment sends halts = absurd halts
 -- the second frame of a tick
 pub adds_two : {wire new : Wire} {half later : Half} {given other : FateValue} {last : List Frame} → SendsAgain wire half given new later
     → AddsOne other new.frames.items last → AddsTwo given other wire.frames.items last
-adds_two {wire} {given} sent (inl same) = inl (inr (subst (λ l. Added given wire.frames.items l) (sym same) (added sent.sends)))
+adds_two {wire} {given} sent (inl same) = inl (inr (subst (λ l. AddsFrame given wire.frames.items l) (sym same) (added sent.sends)))
 adds_two {new} sent (inr more) = inr (new.frames.items, added sent.sends, more)
 
 -- ---- of an end
@@ -52,7 +52,7 @@ by_push script number (first ∷ later) frame all number_is fate_is =
     let e : number + length (first ∷ later) ≡ number + 1 + length later = omega arith in
     (all.0, all.1, by_push script (number + 1) later frame all.2 (number_is ∙ e) (subst (λ n. fate_value frame.fate ≡ fate_by script n) e fate_is))
 
-by_added : (script : List RuleValue) {given : FateValue} {old new : List Frame} → given ≡ fate_by script (length old + 1) → Added given old new
+by_added : (script : List RuleValue) {given : FateValue} {old new : List Frame} → given ≡ fate_by script (length old + 1) → AddsFrame given old new
     → AllBy script 1 old → AllBy script 1 new
 by_added script {old} is more all =
     let e : length old + 1 ≡ 1 + length old = omega arith in

@@ -1,8 +1,8 @@
 -- How many of its fragments were taken of an end, over each step.
 use Rattle.line_steps.proofs.Names.{rules, if◌then◌else◌, ◌≡◌, ◌⊎◌, ℕ, zero, suc, ◌+◌, ◌-◌, ◌<◌, ◌≤◌, Bool, true, false, List, [], ◌∷◌, ◌++◌, length, map, refl}
 use Rattle.line_steps.proofs.Names.{sym, ap, subst, ◌∙◌, arith, inl, inr, append_assoc, length-append, map-append, slice_get_within, piece_count, FragmentValue}
-use Rattle.line_steps.proofs.Names.{End, Frame, FateValue, fragment_in, is_abort, past_behind, Sent, said, acked, at, Talk, frame_value, Side, Follows, heard}
-use Rattle.line_steps.proofs.Names.{Speech, at_at, at_push, Half, Wire, Halt, NoMemory, Stopped, Down, Added, AddsOne, AddsTwo, took_count, piece_total}
+use Rattle.line_steps.proofs.Names.{End, Frame, FateValue, fragment_in, is_abort, past_behind, PastFrame, said, acked, at, Talk, frame_value, Side, Follows, heard}
+use Rattle.line_steps.proofs.Names.{Speech, at_at, at_push, Half, Wire, Halt, NoMemory, Stopped, Down, AddsFrame, AddsOne, AddsTwo, took_count, piece_total}
 use Rattle.line_steps.proofs.Names.{Advances, WhereDown, IsUp, StandsStill, FallsShort, marked, past_now, sent_of, side_of, Holds, SamePlace, Stays, Halts}
 use Rattle.line_steps.proofs.Names.{HeardOf, Delivers, Talks, Turn, Underway}
 use Rattle.std.specs.Prelude.{drop}
@@ -14,26 +14,26 @@ use Rattle.line_steps.proofs.TalkedLaws.{cursor_own, x_heard_as, y_heard_as}
 
 -- ---- a longer past
 
-heard_push : (X : End) (frame : Sent) (past : List Sent) → length (heard X past) ≤ length (heard X (frame ∷ past))
+heard_push : (X : End) (frame : PastFrame) (past : List PastFrame) → length (heard X past) ≤ length (heard X (frame ∷ past))
 heard_push X frame past = search rules
 
-heard_drop : (X : End) (k : ℕ) (past : List Sent) → length (heard X (drop k past)) ≤ length (heard X past)
+heard_drop : (X : End) (k : ℕ) (past : List PastFrame) → length (heard X (drop k past)) ≤ length (heard X past)
 heard_drop X zero past = omega arith
 heard_drop X (suc k) [] = omega arith
 heard_drop X (suc k) (frame ∷ past) = omega (arith, heard_drop X k past, heard_push X frame past)
 
-heard_later : (X : End) {m n : ℕ} (past : List Sent) → m ≤ n → n ≤ length past → length (heard X (at m past)) ≤ length (heard X (at n past))
+heard_later : (X : End) {m n : ℕ} (past : List PastFrame) → m ≤ n → n ≤ length past → length (heard X (at m past)) ≤ length (heard X (at n past))
 heard_later X {m} {n} past le inside = omega (arith, heard_drop X (n - m) (at n past), ap (λ p. length (heard X p)) (at_at past le inside))
 
-at_more : {n : ℕ} (more past : List Sent) → n ≤ length past → at n (more ++ past) ≡ at n past
+at_more : {n : ℕ} (more past : List PastFrame) → n ≤ length past → at n (more ++ past) ≡ at n past
 at_more [] past inside = refl
 at_more (frame ∷ more) past inside = at_push frame (more ++ past) (omega (arith, inside, length-append more past)) ∙ at_more more past inside
 
 -- the frames of the one are those of the other and perhaps more
 abbrev Longer : List Frame → List Frame → Type 0
-Longer old new = (more : List Sent) × (past_now new ≡ more ++ past_now old)
+Longer old new = (more : List PastFrame) × (past_now new ≡ more ++ past_now old)
 
-longer_added : {given : FateValue} {old new : List Frame} → Added given old new → Longer old new
+longer_added : {given : FateValue} {old new : List Frame} → AddsFrame given old new → Longer old new
 longer_added {old} {new} it =
     go (is_abort (fragment_in (frame_value it.frame)).kind)
     (ap past_now it.is ∙ (ap (λ fs. past_behind [] fs) (map-append frame_value old (it.frame ∷ []))
@@ -143,7 +143,7 @@ where_weaker (Stopped stop) f it = tt
 where_weaker (Down end) f it = f it
 
 -- what is taken of a message on its way isn't all
-heard_short : {X Y : End} {talk : Talk} {cursor : End → ℕ} {past : List Sent} (cx : ℕ) {x : Side} (fx : Bool) → Speech X Y talk cursor past x
+heard_short : {X Y : End} {talk : Talk} {cursor : End → ℕ} {past : List PastFrame} (cx : ℕ) {x : Side} (fx : Bool) → Speech X Y talk cursor past x
     → Follows (said X past) (acked Y past) fx → HeardOf X past cx fx x
     → (length (acked Y past) < length (said X past)) ⊎ (x.acknowledged + 1 < piece_count (length x.message))
     → length (heard X (at cx past)) < piece_total X talk

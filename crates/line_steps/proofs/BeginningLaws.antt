@@ -1,10 +1,10 @@
 -- What the frames tell of the messages, where a message begins and where a piece goes again.
 use Rattle.line_steps.proofs.Names.{rules, ◌≡◌, ℕ, zero, suc, ◌-◌, ◌<◌, ◌≤◌, true, false, List, [], ◌∷◌, length, Some, None, refl, sym, ap, subst, ◌∙◌}
-use Rattle.line_steps.proofs.Names.{arith, inl, inr, ◌&&◌, Key, piece_count, Waits, End, Handheld, Desktop, FateValue, course_of, Sent, first, said}
+use Rattle.line_steps.proofs.Names.{arith, inl, inr, ◌&&◌, Key, piece_count, Waits, End, Handheld, Desktop, FateValue, course_of, PastFrame, first, said}
 use Rattle.line_steps.proofs.Names.{acked, EndReached, IfAnswers, Talk, messages_of, pieces_before, answered_by, answer_to, came_by, Apart, Side, Waiting}
 use Rattle.line_steps.proofs.Names.{key_now, part_now, data_frame, left, count_messages, say, Speech, Talking, first_is, running_starts, turned, beginning}
 use Rattle.line_steps.proofs.Names.{end_taken, talking_starts, talking_tick_one, talking_tick_two, Half, Wire, past_now, side_of, Holds, Sends, cursor_of}
-use Rattle.line_steps.proofs.Names.{Talked, Talks, IsInTurn, IsNextTo, SendsAgain, Turn, HeardOf}
+use Rattle.line_steps.proofs.Names.{TellsTalk, Talks, IsInTurn, IsNextTo, SendsAgain, Turn, HeardOf}
 use Rattle.line_laws.proofs.StepLaws.{again as once_more}
 use Rattle.line_steps.proofs.SendingLaws.{extends}
 use Rattle.line_steps.proofs.StartingLaws.{begun, again, waits_now}
@@ -57,7 +57,7 @@ answers_of Desktop Desktop apart turn = absurd (let e = apart.there in cc)
 
 -- ---- what it answers was taken
 
-module _ {X Y : End} {talk : Talk} {cursor : End → ℕ} {past : List Sent} {x : Side} where
+module _ {X Y : End} {talk : Talk} {cursor : End → ℕ} {past : List PastFrame} {x : Side} where
   -- an end that began a message said something
   some_said : Speech X Y talk cursor past x → left x ≡ 0 → 0 < count_messages X talk → 0 < length (said X past)
   some_said speech none some = search rules
@@ -75,15 +75,15 @@ module _ {X Y : End} {talk : Talk} {cursor : End → ℕ} {past : List Sent} {x 
 -- ---- a message begins
 
 -- the first piece stands on the line
-abbrev pub first_frame : Half → ℕ → List ℕ → FateValue → Sent
+abbrev pub first_frame : Half → ℕ → List ℕ → FateValue → PastFrame
 first_frame x id message given = data_frame x.end (key_now (beginning id message)) ((part_now (beginning id message)).bytes) (course_of given)
 
 pub starts-told : {talk : Talk} {wire : Wire} {x y : Half} {id : ℕ} (message : List ℕ) (given : FateValue) → Turn wire x y → (id ≡ x.sender.id → ⊥)
     → y.receiver.awaited ≡ Some id → y.receiver.pieces ≡ [] → IsNextTo talk x y id → Talks talk wire x y
-    → Talked x.end y.end (say x.end message talk) (cursor_of x y) (first_frame x id message given ∷ past_now wire.frames.items)
+    → TellsTalk x.end y.end (say x.end message talk) (cursor_of x y) (first_frame x id message given ∷ past_now wire.frames.items)
     (beginning id message) (side_of y)
 starts-told {talk} {wire} {x} {y} {id} message given turn different awaited none next talks = go (answers_of x.end y.end turn.settled.apart next.turn) where
-  past : List Sent
+  past : List PastFrame
   past = past_now wire.frames.items
 
   side : Side
@@ -100,7 +100,7 @@ starts-told {talk} {wire} {x} {y} {id} message given turn different awaited none
 
   told : IfAnswers (answered_by x.end (count_messages x.end talk)) talk (came_by (cursor_of x y) (past_now wire.frames.items)) (past_now wire.frames.items)
       → (Waiting (side_of y) → (0 < count_messages y.end talk) × (answer_to y.end (count_messages y.end talk - 1) ≡ Some (count_messages x.end talk)))
-      → Talked x.end y.end (say x.end message talk) (cursor_of x y) (first_frame x id message given ∷ past_now wire.frames.items)
+      → TellsTalk x.end y.end (say x.end message talk) (cursor_of x y) (first_frame x id message given ∷ past_now wire.frames.items)
       (beginning id message) (side_of y)
   told answers waits =
       let line = running_starts (course_of given) turn.settled.apart turn.settled.line turn.knows different awaited none (λ w. omega (arith, w, turn.last)) in
@@ -121,7 +121,7 @@ starts-told {talk} {wire} {x} {y} {id} message given turn different awaited none
       }
 
   go : Answers x.end y.end talk y
-      → Talked x.end y.end (say x.end message talk) (cursor_of x y) (first_frame x id message given ∷ past_now wire.frames.items)
+      → TellsTalk x.end y.end (say x.end message talk) (cursor_of x y) (first_frame x id message given ∷ past_now wire.frames.items)
       (beginning id message) (side_of y)
   go (answers_nothing answers zero_is) = told (subst (λ o. IfAnswers o talk (came_by (cursor_of x y) past) past) (sym answers) tt)
       (λ w. absurd (none_waits talking.y_speech zero_is (turn.settled.line.core.y_speaks.newest w)))
@@ -141,18 +141,18 @@ pub starts-talks : {talk : Talk} {wire : Wire} (new : Wire) {x y : Half} {id : �
     → Talks (say x.end message talk) new (record x { sender = begun id size; message = message }) y
 starts-talks {talk} {wire} new {x} {y} {id} size message {given} turn different awaited none sends released next talks =
     let longer = extends wire new x.end id (part_now (beginning id message)) given turn.settled.go sends tt released in
-    subst (λ p. Talked x.end y.end (say x.end message talk) (cursor_of x y) p (beginning id message) (side_of y)) (sym longer.past)
+    subst (λ p. TellsTalk x.end y.end (say x.end message talk) (cursor_of x y) p (beginning id message) (side_of y)) (sym longer.past)
     (starts-told message given turn different awaited none next talks)
 
 -- ---- a tick
 
 -- the waiting piece stands on the line again
-abbrev pub again_frame : Half → FateValue → Sent
+abbrev pub again_frame : Half → FateValue → PastFrame
 again_frame x given = data_frame x.end (key_now (side_of x)) ((part_now (side_of x)).bytes) (course_of given)
 
 -- x sends its piece again, whether y waits or not
 pub one_again-told : {talk : Talk} {wire : Wire} {x y : Half} (given : FateValue) → Holds wire x y → Waits x.sender → x.sender.tries < 10 → Talks talk wire x y
-    → Talked x.end y.end talk (cursor_of x y) (again_frame x given ∷ past_now wire.frames.items) (side_of x) (side_of y)
+    → TellsTalk x.end y.end talk (cursor_of x y) (again_frame x given ∷ past_now wire.frames.items) (side_of x) (side_of y)
 one_again-told {wire} {x} {y} given holds waits few talks =
     let past = past_now wire.frames.items in
     let now = waits_now holds.x_half waits in
@@ -176,12 +176,12 @@ pub one_again-talks : {talk : Talk} {wire new : Wire} {r : ℕ} {x y : Half} {gi
     → SendsAgain (record wire { released = r }) x given new (again x) → Talks talk wire x y → Talks talk new x y
 one_again-talks {talk} {wire} {new} {r} {x} {y} {given} holds waits sent talks =
     let longer = extends (record wire { released = r }) new x.end x.sender.id (part_now (side_of x)) given holds.go sent.sends tt sent.released in
-    subst (λ p. Talked x.end y.end talk (cursor_of x y) p (side_of x) (side_of y)) (sym longer.past) (one_again-told given holds waits sent.few talks)
+    subst (λ p. TellsTalk x.end y.end talk (cursor_of x y) p (side_of x) (side_of y)) (sym longer.past) (one_again-told given holds waits sent.few talks)
 
 -- x does, and then y
 pub two_again-told : {talk : Talk} {wire : Wire} {x y : Half} (given next : FateValue) → Holds wire x y → Waits x.sender → Waits y.sender → x.sender.tries < 10
     → y.sender.tries < 10 → Talks talk wire x y
-    → Talked x.end y.end talk (cursor_of x y) (again_frame y next ∷ again_frame x given ∷ past_now wire.frames.items) (side_of x) (side_of y)
+    → TellsTalk x.end y.end talk (cursor_of x y) (again_frame y next ∷ again_frame x given ∷ past_now wire.frames.items) (side_of x) (side_of y)
 two_again-told {wire} {x} {y} given next holds x_waits y_waits x_few y_few talks =
     let past = past_now wire.frames.items in
     let x_now = waits_now holds.x_half x_waits in
@@ -212,8 +212,8 @@ pub two_again-talks : {talk : Talk} {wire mid new : Wire} {r : ℕ} {x y : Half}
 two_again-talks {talk} {wire} {mid} {new} {r} {x} {y} {given} {next} holds x_waits y_waits x_sent y_sent talks =
     let one = extends (record wire { released = r }) mid x.end x.sender.id (part_now (side_of x)) given holds.go x_sent.sends tt x_sent.released in
     let two = extends mid new y.end y.sender.id (part_now (side_of y)) next one.go y_sent.sends tt y_sent.released in
-    subst (λ p. Talked x.end y.end talk (cursor_of x y) p (side_of x) (side_of y)) (sym two.past)
-    (subst (λ p. Talked x.end y.end talk (cursor_of x y) (again_frame y next ∷ p) (side_of x) (side_of y)) (sym one.past)
+    subst (λ p. TellsTalk x.end y.end talk (cursor_of x y) p (side_of x) (side_of y)) (sym two.past)
+    (subst (λ p. TellsTalk x.end y.end talk (cursor_of x y) (again_frame y next ∷ p) (side_of x) (side_of y)) (sym one.past)
     (two_again-told given next holds x_waits y_waits x_sent.few y_sent.few talks))
 
 -- ---- the first state

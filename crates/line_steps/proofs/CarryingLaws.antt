@@ -1,8 +1,8 @@
 -- The steps by which a message goes over.
 use Rattle.line_steps.proofs.Names.{rules, Result, Ok, Err, OnOk, ◌≡◌, ◌<◌, ◌≤◌, Bool, true, false, List, length, refl, sym, ap, subst, ◌∙◌, arith, Accepted}
 use Rattle.line_steps.proofs.Names.{Whole, Repeated, Dropped, piece_count, Waits, RuleValue, Apart, Side, Waiting, Half, Wire, Heard, Nothing, Ack, took_count}
-use Rattle.line_steps.proofs.Names.{SameMessage, Carried, Reaches, StepTo, makes_whole, side_of, Holds, Moved, Read, Stays, AllTaken, Turn, TurnBehind}
-use Rattle.line_steps.proofs.Names.{Underway, UnderwayBehind, StillUnderway, work_left, KeepsTalk, KeepsAll, Recorded}
+use Rattle.line_steps.proofs.Names.{SameMessage, HasMessage, Reaches, StepTo, makes_whole, side_of, Holds, MovesCursor, MovesReader, Stays, AllTaken, Turn, TurnBehind}
+use Rattle.line_steps.proofs.Names.{Underway, UnderwayBehind, StillUnderway, work_left, KeepsTalk, KeepsAll, RecordsFrames}
 use Rattle.line_steps.specs.declared.hearing.Heard.TheVariants.{Data}
 use Rattle.line_steps.proofs.HoldsLaws.{moved}
 use Rattle.line_steps.proofs.StartingLaws.{waits_now, waits_then}
@@ -29,18 +29,18 @@ moved_same is = search rules
 
 -- x skipped to x1 while y read as y1, and then y to y2 while x read as x2
 pub record Skipped (wire : Wire) (x y x1 y1 x2 y2 : Half) : Type 0 where
-  pub x_moved : Moved x x1
-  pub y_read : Read y y1
-  pub y_moved : Moved y1 y2
-  pub x_read : Read x1 x2
+  pub x_moved : MovesCursor x x1
+  pub y_read : MovesReader y y1
+  pub y_moved : MovesCursor y1 y2
+  pub x_read : MovesReader x1 x2
   pub first : work_left wire x1 y1 ≤ work_left wire x y
   pub second : work_left wire y2 x2 ≤ work_left wire y1 x1
   pub talks : KeepsTalk wire x y wire x2 y2
 
-skip_same : {x x1 x2 : Half} → Moved x x1 → Read x1 x2 → SameMessage x x2
+skip_same : {x x1 x2 : Half} → MovesCursor x x1 → MovesReader x1 x2 → SameMessage x x2
 skip_same moved read = search rules
 
-read_same : {y y1 y2 : Half} → Read y y1 → Moved y1 y2 → SameMessage y y2
+read_same : {y y1 y2 : Half} → MovesReader y y1 → MovesCursor y1 y2 → SameMessage y y2
 read_same read moved = search rules
 
 pub skipped-underway : {wire : Wire} {x y x1 y1 x2 y2 : Half} → Skipped wire x y x1 y1 x2 y2 → Underway wire x y → Underway wire x2 y2
@@ -50,7 +50,7 @@ skipped-underway it on = search rules
 pub still_apart : (x y later_x later_y : Half) → later_x.end ≡ x.end → later_y.end ≡ y.end → Apart x.end y.end → Apart later_x.end later_y.end
 still_apart x y later_x later_y x_end y_end apart = search rules
 
-pub skipped-talks : (wire : Wire) (x y : Half) {x1 y1 x2 y2 : Half} → Apart x.end y.end → Moved x x1 → Read y y1 → Moved y1 y2 → Read x1 x2
+pub skipped-talks : (wire : Wire) (x y : Half) {x1 y1 x2 y2 : Half} → Apart x.end y.end → MovesCursor x x1 → MovesReader y y1 → MovesCursor y1 y2 → MovesReader x1 x2
     → KeepsTalk wire x y wire x1 y1 → KeepsTalk wire y1 x1 wire y2 x2 → KeepsTalk wire x y wire x2 y2
 skipped-talks wire x y {x1} {y1} {x2} {y2} apart x_moved y_read y_moved x_read first second =
     let x_mid = ap (λ h. h.end) x_moved in
@@ -60,12 +60,12 @@ skipped-talks wire x y {x1} {y1} {x2} {y2} apart x_moved y_read y_moved x_read f
     λ talk talks. talks_turned wire y2 x2 (apart_turned later) (second talk (talks_turned wire x1 y1 mid (first talk talks)))
 
 module _ {wire : Wire} {x y x1 y1 x2 y2 : Half} where
-  pub skipped-recorded : {script : List RuleValue} → Apart x.end y.end → Moved x x1 → Read y y1 → Moved y1 y2 → Read x1 x2 → KeepsAll wire x y x1 y1
-      → KeepsAll wire y1 x1 y2 x2 → Recorded script wire x y → Recorded script wire x2 y2
+  pub skipped-recorded : {script : List RuleValue} → Apart x.end y.end → MovesCursor x x1 → MovesReader y y1 → MovesCursor y1 y2 → MovesReader x1 x2 → KeepsAll wire x y x1 y1
+      → KeepsAll wire y1 x1 y2 x2 → RecordsFrames script wire x y → RecordsFrames script wire x2 y2
   skipped-recorded apart x_moved y_read y_moved x_read first second was = search rules
 
   -- and as much of both ends is taken
-  pub skipped-took : Moved x x1 → Read y y1 → Moved y1 y2 → Read x1 x2 → KeepsAll wire x y x1 y1 → KeepsAll wire y1 x1 y2 x2
+  pub skipped-took : MovesCursor x x1 → MovesReader y y1 → MovesCursor y1 y2 → MovesReader x1 x2 → KeepsAll wire x y x1 y1 → KeepsAll wire y1 x1 y2 x2
       → (took_count wire x2 ≡ took_count wire x) × (took_count wire y2 ≡ took_count wire y)
   skipped-took x_moved y_read y_moved x_read first second = search rules
 
@@ -90,7 +90,7 @@ module _ {wire : Wire} {x y x1 y1 x2 y2 : Half} where
   }
 
 -- x waits there, too
-pub skipped-waits : (x : Half) {x1 x2 : Half} → Moved x x1 → Read x1 x2 → Waits x.sender → Waits x2.sender
+pub skipped-waits : (x : Half) {x1 x2 : Half} → MovesCursor x x1 → MovesReader x1 x2 → Waits x.sender → Waits x2.sender
 skipped-waits x moved read waits = search rules
 
 -- ---- a step
@@ -169,7 +169,7 @@ module _ {wire : Wire} {x y : Half} where
   pub not_over : {whole : Bool} → whole ≡ false → Reaches whole wire x y → Underway wire x y
   not_over is reached = search rules
 
-  pub is_over : {whole : Bool} → whole ≡ true → Reaches whole wire x y → Carried wire x y
+  pub is_over : {whole : Bool} → whole ≡ true → Reaches whole wire x y → HasMessage wire x y
   is_over is reached = search rules
 
   -- ---- an end that waits until all was acknowledged

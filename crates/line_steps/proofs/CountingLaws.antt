@@ -4,7 +4,7 @@ use Rattle.line_steps.proofs.Names.{rules, ◌≡◌, ℕ, zero, suc, ◌+◌, �
 use Rattle.line_steps.proofs.Names.{sym, ap, subst, ◌∙◌, arith, inl, inr, slice_get, if◌then◌else◌, cond-true, cond-false, length-append, length-take}
 use Rattle.line_steps.proofs.Names.{length-drop, slice_get_within, raised, scan, packet_at, TallyValue, End, Frame, FateValue, Untouched, Lost, Late, Cut, Hit}
 use Rattle.line_steps.proofs.Names.{Noise, Unplug, fate_value, arrives, landing, xored, hit_at, strange_bytes, ends_run, BearsFragment, fragment_in, is_end}
-use Rattle.line_steps.proofs.Names.{FrameValue, frame_value, Half, Wire, AddsOne, AddsTwo, landed, counts, Lands, Counted, Holds, SamePlace, Stays, Delivers}
+use Rattle.line_steps.proofs.Names.{FrameValue, frame_value, Half, Wire, AddsOne, AddsTwo, landed, counts, Lands, CountsTaken, Holds, SamePlace, Stays, Delivers}
 use Rattle.line_steps.proofs.Names.{counted, tally_after, marked, Marks}
 use Rattle.trace_text.specs.Fates.{Abort}
 use Rattle.line_steps.proofs.FrameLaws.{length-past}
@@ -116,7 +116,7 @@ none_yet = record { bytes = 0; packets = 0 }
 -- the cursor of x goes past a frame
 pub counted_moves : {wire : Wire} {x y later_y : Half} {frame : Frame} → slice_get wire.frames.items x.taken ≡ Some frame
     → later_y.reader.tally ≡ (if is_end x.end frame.from then landed (frame_value frame) y.reader.tally else y.reader.tally) → SamePlace y later_y
-    → Counted wire x y → Counted wire (moved x) later_y
+    → CountsTaken wire x y → CountsTaken wire (moved x) later_y
 counted_moves {wire} {x} {y} {later_y} {frame} here tally y_same was =
     let next : suc x.taken ≡ x.taken + 1 = omega arith in
     record {
@@ -144,7 +144,7 @@ SameReader old new = new.reader ≡ old.reader
 
 pub counted_two : {given other : FateValue} {wire new : Wire} {x y later_x later_y : Half} → Holds wire x y
     → AddsTwo given other wire.frames.items new.frames.items → SamePlace x later_x → SamePlace y later_y → SameReader x later_x → SameReader y later_y
-    → Counted wire x y → Counted new later_x later_y
+    → CountsTaken wire x y → CountsTaken new later_x later_y
 counted_two {wire} {new} {x} {y} {later_x} {later_y} holds adds x_same y_same x_reader y_reader was =
     let size = length-past wire.frames.items holds.go in
     record {
@@ -157,7 +157,7 @@ counted_two {wire} {new} {x} {y} {later_x} {later_y} holds adds x_same y_same x_
 -- the next frame of x is taken, marked, and answered
 pub counted_own : {given : FateValue} {wire new : Wire} {x y later_x later_y : Half} → Holds wire x y → Delivers x.end wire x.taken
     → AddsOne given (marked x.taken wire.frames.items) new.frames.items → later_x ≡ moved x → Stays y later_y → Lands x.taken wire y later_y
-    → Counted wire x y → Counted new later_x later_y
+    → CountsTaken wire x y → CountsTaken new later_x later_y
 counted_own {wire} {new} {x} {y} {later_y} holds next adds passed stays lands was =
     let old = wire.frames.items in
     let size = length-marked x.taken old in
@@ -165,18 +165,18 @@ counted_own {wire} {new} {x} {y} {later_y} holds next adds passed stays lands wa
     let tally : later_y.reader.tally ≡ (if is_end x.end next.frame.from then landed (frame_value next.frame) y.reader.tally else y.reader.tally) =
     lands next.frame next.here ∙ sym (cond-true _ _ _ next.from_is) in
     let here = counted_moves {later_y = later_y} next.here tally (stays.end_is, stays.taken_is) was in
-    subst (λ h. Counted new h later_y) (sym passed) (record {
+    subst (λ h. CountsTaken new h later_y) (sym passed) (record {
       by_y = here.by_y ∙ (sym (counts_marked x.end (x.taken + 1) x.taken old none_yet) ∙ counts_one x.end (omega (arith, inside, size)) adds);
       by_x = here.by_x ∙ (sym (counts_marked later_y.end later_y.taken x.taken old none_yet)
           ∙ counts_one later_y.end (omega (arith, stays.taken_is, holds.line.core.back.cur_in, length-past old holds.go, size)) adds);
     })
 
-pub counted_turned : {wire : Wire} {x y : Half} → Counted wire x y → Counted wire y x
+pub counted_turned : {wire : Wire} {x y : Half} → CountsTaken wire x y → CountsTaken wire y x
 counted_turned was = record { by_y = was.by_x; by_x = was.by_y }
 
 pub counted_other : {given : FateValue} {wire new : Wire} {x y later_x later_y : Half} → Holds wire y x → Delivers y.end wire y.taken
     → AddsOne given (marked y.taken wire.frames.items) new.frames.items → later_y ≡ moved y → Stays x later_x → Lands y.taken wire x later_x
-    → Counted wire x y → Counted new later_x later_y
+    → CountsTaken wire x y → CountsTaken new later_x later_y
 counted_other holds next adds passed stays lands was =
     counted_turned (counted_own holds next adds passed stays lands (counted_turned was))
 

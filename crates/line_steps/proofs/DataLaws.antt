@@ -2,10 +2,10 @@
 use Rattle.line_steps.proofs.Names.{rules, ◌≡◌, ◌⊎◌, ℕ, ◌+◌, ◌<◌, ◌≤◌, Bool, true, false, ◌&&◌, List, ◌∷◌, length, Some, None, refl, sym, ap, subst, ◌∙◌, arith}
 use Rattle.line_steps.proofs.Names.{inl, inr, both_ways, and_parts, eqb-true, PadpKind, Data, Tickle, Abort, Key, Taken, Accepted, Whole, Repeated, Dropped}
 use Rattle.line_steps.proofs.Names.{data_fragment, IsFragment, piece_count, ReceiverValue, Answers, after_answer, SenderValue, Waits, WaitsOnLast}
-use Rattle.line_steps.proofs.Names.{ack-IsFragment, End, FateValue, is_data_kind, fragment_in, course_of, Sent, is_end, first, said, acked, at, data_of}
+use Rattle.line_steps.proofs.Names.{ack-IsFragment, End, FateValue, is_data_kind, fragment_in, course_of, PastFrame, is_end, first, said, acked, at, data_of}
 use Rattle.line_steps.proofs.Names.{frame_value, Side, Follows, Core, ack_frame, Line, keys_apart, at_push, said_ack, IsCopy, IsNewest, pending_data, AfterData}
 use Rattle.line_steps.proofs.Names.{Accepting, take_data, running_copy, running_newest, Half, Wire, sent_of, past_now, side_of, Holds, Sends, ack_fragment}
-use Rattle.line_steps.proofs.Names.{DataHeard, Settled, Turn}
+use Rattle.line_steps.proofs.Names.{DataHeard, IsAllTaken, Turn}
 use Rattle.padp_link.specs.declared.fragment.PadpKind.TheVariants.{Ack}
 use Rattle.line_steps.proofs.HoldsLaws.{moved, going}
 use Rattle.line_steps.proofs.SendingLaws.{extends, lined}
@@ -14,14 +14,14 @@ use Rattle.line_steps.proofs.TurnLaws.{settled_turned, settled_holds}
 
 -- ---- a copy is one of what was taken last
 
-newest_was_new : {X Y : End} {past : List Sent} (fx : Bool) {n : ℕ} {frame : Sent} → Follows (said X past) (acked Y past) fx → IsNewest X Y frame n past fx
+newest_was_new : {X Y : End} {past : List PastFrame} (fx : Bool) {n : ℕ} {frame : PastFrame} → Follows (said X past) (acked Y past) fx → IsNewest X Y frame n past fx
     → first (acked Y past) ≡ Some frame.key → ⊥
 newest_was_new false follows newest copy = absurd (let e = newest.is_fresh in cc)
 newest_was_new {X} {past} true {frame} follows newest copy =
     let e : Some follows.0 ≡ Some frame.key = sym (ap first follows.1) ∙ newest.key in
     keys_apart (data_of X) past follows.1 (copy ∙ sym e)
 
-pub copy_is : {X Y : End} {past : List Sent} {cx cy : ℕ} {x y : Side} {rx ry : ReceiverValue} {fx fy : Bool} {n : ℕ} {frame : Sent} {older : List Sent}
+pub copy_is : {X Y : End} {past : List PastFrame} {cx cy : ℕ} {x y : Side} {rx ry : ReceiverValue} {fx fy : Bool} {n : ℕ} {frame : PastFrame} {older : List PastFrame}
     → Core X Y past cx cy x y rx ry fx fy → cx ≤ n → n ≤ length past → at n past ≡ frame ∷ older → (is_end X frame.from && frame.is_data) ≡ true
     → ry.last ≡ Some frame.key → IsCopy X Y frame n past
 copy_is {fx} core from inside here is last = elim (pending_data fx core.there from inside here is) [
@@ -31,7 +31,7 @@ copy_is {fx} core from inside here is last = elim (pending_data fx core.there fr
 
 -- ---- what was heard, by its answer
 
-abbrev AfterHeard : (wire : Wire) (x y : Half) (before : ReceiverValue) (fx fy : Bool) (sent : Sent) → Taken → Type 0
+abbrev AfterHeard : (wire : Wire) (x y : Half) (before : ReceiverValue) (fx fy : Bool) (sent : PastFrame) → Taken → Type 0
 AfterHeard wire x y before fx fy sent taken =
     AfterData x.end y.end (past_now wire.frames.items) y.taken (x.taken + 1) (side_of x) (side_of y) x.receiver before fx fy sent.key sent.bytes taken
 
@@ -121,7 +121,7 @@ module _ {wire new : Wire} {x y : Half} {key : Key} {sender : SenderValue} where
       (sent_of heard.next.frame).bytes taken whole
       → sender ≡ record y.sender { acknowledged = sender.acknowledged } → piece_count sender.length ≤ sender.acknowledged
       → Sends wire.frames.items y.end key.id (ack_fragment key) given None new.frames.items → new.released ≡ wire.released
-      → Settled new (moved x) (record y { sender = sender })
+      → IsAllTaken new (moved x) (record y { sender = sender })
   accepted {taken} {given} heard accepting rest idle sends released =
       let holds = heard.holds in
       let sent = sent_of heard.next.frame in
@@ -134,8 +134,8 @@ module _ {wire new : Wire} {x y : Half} {key : Key} {sender : SenderValue} where
       let keyed = subst (λ key. Line x.end y.end (ack_frame y.end key (course_of given) ∷ past) (x.taken + 1) y.taken wire.released (side_of x)
       (record (side_of y) { acknowledged = k }) x.receiver (after_answer heard.before key.id (data_fragment key sent.bytes) taken) false false x.sender.tries
       y.sender.tries) heard.key_is line in
-      subst (λ s. Settled new (moved x) (record y { sender = s })) (sym rest)
-      (subst (λ r. Settled new (moved x) (record y { sender = record y.sender { acknowledged = k }; receiver = r })) (sym heard.after) (record {
+      subst (λ s. IsAllTaken new (moved x) (record y { sender = s })) (sym rest)
+      (subst (λ r. IsAllTaken new (moved x) (record y { sender = record y.sender { acknowledged = k }; receiver = r })) (sym heard.after) (record {
         apart = holds.apart;
         go = longer.go;
         x_half = record { length_is = holds.x_half.length_is; gap = holds.x_half.gap };

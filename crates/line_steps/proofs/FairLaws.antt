@@ -2,7 +2,7 @@
 use Rattle.line_steps.proofs.Names.{◌≡◌, ℕ, suc, ◌+◌, ◌-◌, ◌≤◌, Bool, true, false, List, [], ◌∷◌, ◌++◌, length, map, take, drop, refl, sym, ap, subst, ◌∙◌}
 use Rattle.line_steps.proofs.Names.{arith, inl, inr, if◌then◌else◌, cases_lt, take-append-drop, length-take, length-drop, RuleValue, fate_by, Frame, FateValue}
 use Rattle.line_steps.proofs.Names.{Untouched, Lost, Late, Cut, Hit, Noise, Unplug, fate_value, is_fault, ends_run, faulted, is_faulty, count, course_of}
-use Rattle.line_steps.proofs.Names.{past_behind, add_frame, Sent, at, faults_from, frame_value, at_all, at_push, AllBy, FairIsNeverDown, sent_of, past_now}
+use Rattle.line_steps.proofs.Names.{past_behind, add_frame, PastFrame, at, faults_from, frame_value, at_all, at_push, AllBy, FairIsNeverDown, sent_of, past_now}
 use Rattle.line_steps.proofs.Names.{AllGo}
 use Rattle.trace_text.specs.Fates.{Abort}
 use Rattle.line_steps.proofs.FrameLaws.{added, length-past}
@@ -23,7 +23,7 @@ one_more true n m = omega arith
 one_more false n m = omega arith
 
 -- the faults behind a past
-count_behind : (script : List RuleValue) (number : ℕ) (past : List Sent) (frames : List Frame) → AllBy script number frames → AllGo number frames
+count_behind : (script : List RuleValue) (number : ℕ) (past : List PastFrame) (frames : List Frame) → AllBy script number frames → AllGo number frames
     → count faulted (past_behind past (map frame_value frames)) ≡ count faulted past + faults_from (fate_by script) number (length frames)
 count_behind script number past [] all go = omega arith
 count_behind script number past (frame ∷ later) all go =
@@ -36,7 +36,7 @@ count_behind script number past (frame ∷ later) all go =
 
 -- ---- the frames up to a number, and those behind
 
-behind_both : (past : List Sent) (front back : List Frame)
+behind_both : (past : List PastFrame) (front back : List Frame)
     → past_behind past (map frame_value (front ++ back)) ≡ past_behind (past_behind past (map frame_value front)) (map frame_value back)
 behind_both past [] back = refl
 behind_both past (frame ∷ front) back = behind_both (add_frame (frame_value frame) past) front back
@@ -62,7 +62,7 @@ whole_front front back go =
     ∙ (at_behind (1 + length front) (past_now front) back (length front) (go_back 1 front back go) (omega (arith, length-past front first_part))
     ∙ (ap (λ k. at k (past_now front)) (sym (length-past front first_part)) ∙ at_all (past_now front)))
   where
-    at_behind : (number : ℕ) (past : List Sent) (frames : List Frame) (n : ℕ) → AllGo number frames → n ≤ length past
+    at_behind : (number : ℕ) (past : List PastFrame) (frames : List Frame) (n : ℕ) → AllGo number frames → n ≤ length past
         → at n (past_behind past (map frame_value frames)) ≡ at n past
     at_behind number past [] n go inside = refl
     at_behind number past (frame ∷ later) n go inside =

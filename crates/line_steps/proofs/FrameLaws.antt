@@ -2,19 +2,19 @@
 use Rattle.line_steps.proofs.Names.{common_steps, rules, ◌≡◌, ℕ, zero, suc, ◌+◌, ◌-◌, false, List, [], ◌∷◌, ◌++◌, length, map, reverse, take, drop, Some, refl}
 use Rattle.line_steps.proofs.Names.{sym, ap, subst, ◌∙◌, arith, slice_get, drop-append_seam, drop-append-add, drop-cons, cond-false, append_assoc, append-nil}
 use Rattle.line_steps.proofs.Names.{map-append, reverse-append, take-append-drop, length-drop, get_or_from_slice_get, slice_get_within, Frame, is_abort}
-use Rattle.line_steps.proofs.Names.{fragment_in, sent_in, add_frame, past_behind, Sent, at, FrameValue, frame_value, sent_of, past_now, Goes, AllGo}
+use Rattle.line_steps.proofs.Names.{fragment_in, sent_in, add_frame, past_behind, PastFrame, at, FrameValue, frame_value, sent_of, past_now, Goes, AllGo}
 
 -- ---- no frame of a running line bears an abort
 
 pub not_abort : {number : ℕ} {frame : FrameValue} → Goes number frame → is_abort (fragment_in frame).kind ≡ false
 not_abort goes = search rules
 
-pub added : {number : ℕ} {frame : FrameValue} {past : List Sent} → Goes number frame → add_frame frame past ≡ sent_in frame ∷ past
+pub added : {number : ℕ} {frame : FrameValue} {past : List PastFrame} → Goes number frame → add_frame frame past ≡ sent_in frame ∷ past
 added goes = cond-false _ _ _ (not_abort goes)
 
 -- ---- the past
 
-pub behind_push : (past : List Sent) (frames : List FrameValue) (frame : FrameValue)
+pub behind_push : (past : List PastFrame) (frames : List FrameValue) (frame : FrameValue)
     → past_behind past (frames ++ frame ∷ []) ≡ add_frame frame (past_behind past frames)
 behind_push past [] frame = refl
 behind_push past (older ∷ frames) frame = behind_push (add_frame older past) frames frame
@@ -24,10 +24,10 @@ pub past_push : (frames : List Frame) (frame : Frame) {number : ℕ} → Goes nu
 past_push frames frame goes =
     ap (λ fs. past_behind [] fs) (map-append frame_value frames (frame ∷ [])) ∙ behind_push [] (map frame_value frames) (frame_value frame) ∙ added goes
 
-abbrev turned_round : List Frame → List Sent
+abbrev turned_round : List Frame → List PastFrame
 turned_round frames = reverse (map sent_of frames)
 
-behind_is : (past : List Sent) (number : ℕ) (frames : List Frame) → AllGo number frames
+behind_is : (past : List PastFrame) (number : ℕ) (frames : List Frame) → AllGo number frames
     → past_behind past (map frame_value frames) ≡ turned_round frames ++ past
 behind_is past number [] go = refl
 behind_is past number (frame ∷ later) go =
@@ -44,7 +44,7 @@ length-turned frames = grind (arith, common_steps)
 pub length-past : (frames : List Frame) → AllGo 1 frames → length (past_now frames) ≡ length frames
 length-past frames go = ap length (past_is frames go) ∙ length-turned frames
 
-drop_two : (front : List Sent) {x : Sent} (back : List Sent) → drop (length front) (front ++ x ∷ back) ≡ x ∷ drop (length front + 1) (front ++ x ∷ back)
+drop_two : (front : List PastFrame) {x : PastFrame} (back : List PastFrame) → drop (length front) (front ++ x ∷ back) ≡ x ∷ drop (length front + 1) (front ++ x ∷ back)
 drop_two front {x} back = drop-append_seam front (x ∷ back) ∙ ap (λ s. x ∷ s) (sym (drop-append-add front (x ∷ back) 1))
 
 turned_at : (frames : List Frame) (n : ℕ) {frame : Frame} → slice_get frames n ≡ Some frame

@@ -3,12 +3,12 @@ use Rattle.line_steps.proofs.Names.{rules, Accepted, Whole, Repeated, Dropped, H
 use Rattle.line_steps.proofs.Names.{map, Some, refl, sym, ap, subst, ◌∙◌, arith, inl, inr, Bool, true, cases_lt, cond-true, cond-false, and_from}
 use Rattle.line_steps.proofs.Names.{map-append, PadpKind, Key, Taken, FragmentValue, piece_count, Waits, waiting_key, End, Frame, FateValue, holds_packet}
 use Rattle.line_steps.proofs.Names.{strange_bytes, comes, RepeatsHaveFaults, MayBear, is_abort, fragment_in, add_frame, past_behind, padp_packet, course_of}
-use Rattle.line_steps.proofs.Names.{Sent, is_data_of, at, Talk, frame_value, is_taken, data_taken, Apart, Side, part_now, ack_frame, say, running_next_piece}
+use Rattle.line_steps.proofs.Names.{PastFrame, is_data_of, at, Talk, frame_value, is_taken, data_taken, Apart, Side, part_now, ack_frame, say, running_next_piece}
 use Rattle.line_steps.proofs.Names.{running_starts, running_tick_one, running_tick_two, speech-moves, speaks-more, speaks-beside, speaks-unacked, beginning}
-use Rattle.line_steps.proofs.Names.{Accepting, moves-more, speaks_properly, ack_is_no_data, other_no_repeat, faults_push, Blocked, Half, Wire, Stop, Unplugged}
-use Rattle.line_steps.proofs.Names.{Aborted, Undetected, Halt, NoMemory, Stopped, Down, IsSpent, is_aborted, EndsWith, HaltsBy, Spoken, Spoke, Halted, NotAgain}
-use Rattle.line_steps.proofs.Names.{sent_of, past_now, side_of, AllGo, Heeded, Holds, Stays, Sends, Halts, StopsBy, in_place, ack_fragment, AckNext, DataHeard}
-use Rattle.line_steps.proofs.Names.{cursor_of, Talked, Talks, KeepsTalk, IsNextTo, SendsAgain, Turn}
+use Rattle.line_steps.proofs.Names.{Accepting, moves-more, speaks_properly, ack_is_no_data, other_no_repeat, faults_push, IsBlocked, Half, Wire, Stop, Unplugged}
+use Rattle.line_steps.proofs.Names.{Aborted, Undetected, Halt, NoMemory, Stopped, Down, IsSpent, is_aborted, EndsWith, HaltsBy, HasProperPast, Spoke, HaltsBetween, NotAgain}
+use Rattle.line_steps.proofs.Names.{sent_of, past_now, side_of, AllGo, MovesReceiver, Holds, Stays, Sends, Halts, StopsBy, in_place, ack_fragment, AckNext, DataHeard}
+use Rattle.line_steps.proofs.Names.{cursor_of, TellsTalk, Talks, KeepsTalk, IsNextTo, SendsAgain, Turn}
 use Rattle.line_steps.proofs.StoryLaws.{heard_again, heard_new, took_of, took_more, took_beside}
 use Rattle.padp_link.specs.declared.fragment.PadpKind.TheVariants as kinds
 use Rattle.line_steps.proofs.BeginningLaws.{again_frame, starts-told, one_again-told, two_again-told}
@@ -78,7 +78,7 @@ halts_by old new from id fragment given (Stopped stop) cursor plain go halts = e
 halts_by old new from id fragment given (Down end) cursor plain go halts = absurd halts
 
 -- what holds of the past without the frame and with it holds of the past behind a run that halted
-same_stop : (stop : Stop) (P : List Sent → Type 0) {from : End} {id : ℕ} {fragment : FragmentValue} (given : FateValue) (frame : Frame) {past : List Sent}
+same_stop : (stop : Stop) (P : List PastFrame → Type 0) {from : End} {id : ℕ} {fragment : FragmentValue} (given : FateValue) (frame : Frame) {past : List PastFrame}
     → Plain fragment.kind → fragment_in (frame_value frame) ≡ in_place (Some stop) fragment
     → sent_of frame ≡ sends_in from id (in_place (Some stop) fragment) given → P past → P (sends_in from id fragment given ∷ past)
     → P (add_frame (frame_value frame) past)
@@ -89,7 +89,7 @@ same_stop Aborted P given frame plain is sent without with_it =
 same_stop Undetected P given frame {past} plain is sent without with_it =
     subst P (sym (cond-false _ _ _ (ap (λ f. is_abort f.kind) is ∙ plain.no_abort) ∙ ap (λ s. s ∷ past) sent)) with_it
 
-pub behind_halt : (P : List Sent → Type 0) (old new : List Frame) {from : End} {id : ℕ} {fragment : FragmentValue} (given : FateValue) (halt : Halt)
+pub behind_halt : (P : List PastFrame → Type 0) (old new : List Frame) {from : End} {id : ℕ} {fragment : FragmentValue} (given : FateValue) (halt : Halt)
     → Plain fragment.kind → Halts old from id fragment given halt new
     → P (past_now old) → P (sends_in from id fragment given ∷ past_now old) → P (past_now new)
 behind_halt P old new given NoMemory plain halts without with_it = subst (λ fs. P (past_now fs)) (sym halts) without
@@ -102,8 +102,8 @@ behind_halt P old new given (Down end) plain halts without with_it = absurd halt
 
 -- ---- what they tell
 
-pub spoken_of : {X Y : End} {talk : Talk} {cursor : End → ℕ} {past : List Sent} {x y : Side} → RepeatsHaveFaults past → cursor X ≤ length past
-    → cursor Y ≤ length past → Talked X Y talk cursor past x y → Spoken X Y talk cursor past
+pub spoken_of : {X Y : End} {talk : Talk} {cursor : End → ℕ} {past : List PastFrame} {x y : Side} → RepeatsHaveFaults past → cursor X ≤ length past
+    → cursor Y ≤ length past → TellsTalk X Y talk cursor past x y → HasProperPast X Y talk cursor past
 spoken_of faults x_in y_in talked = record {
   faults = faults;
   x_speaks = speaks_properly x_in talked.talking.x_speech;
@@ -120,9 +120,9 @@ spoken_now {x} {y} holds talks =
     (omega (arith, cursor_other x.end y.end x.taken y.taken holds.apart.there, holds.line.core.back.cur_in)) talks
 
 -- with the cursor of x behind the next frame, and a frame more
-spoken_next : {talk : Talk} {wire : Wire} {x y : Half} {sent : Sent} {sx sy : Side} → Holds wire x y → x.taken < length (past_now wire.frames.items)
-    → RepeatsHaveFaults (sent ∷ past_now wire.frames.items) → Talked x.end y.end talk (cursor_of (moved x) y) (sent ∷ past_now wire.frames.items) sx sy
-    → Spoken x.end y.end talk (cursor_of (moved x) y) (sent ∷ past_now wire.frames.items)
+spoken_next : {talk : Talk} {wire : Wire} {x y : Half} {sent : PastFrame} {sx sy : Side} → Holds wire x y → x.taken < length (past_now wire.frames.items)
+    → RepeatsHaveFaults (sent ∷ past_now wire.frames.items) → TellsTalk x.end y.end talk (cursor_of (moved x) y) (sent ∷ past_now wire.frames.items) sx sy
+    → HasProperPast x.end y.end talk (cursor_of (moved x) y) (sent ∷ past_now wire.frames.items)
 spoken_next {x} {y} holds inside faults talked =
     spoken_of faults (omega (arith, cursor_own x.end (x.taken + 1) y.taken, inside))
     (omega (arith, cursor_other x.end y.end (x.taken + 1) y.taken holds.apart.there, holds.line.core.back.cur_in)) talked
@@ -143,7 +143,7 @@ module _ {wire : Wire} {x y : Half} where
   pub halted_ack : {new : Wire} {key : Key} (given : FateValue) {halt : Halt} → Holds wire x y → AckNext x.end wire x.taken key
       → waiting_key y.sender ≡ Some key → y.sender.acknowledged + 1 < piece_count y.sender.length
       → Halts wire.frames.items y.end y.sender.id (part_now (side_of (advanced y))) given halt new.frames.items
-      → Halted halt wire x y new (moved x) (advanced y)
+      → HaltsBetween halt wire x y new (moved x) (advanced y)
   halted_ack {new} given {halt} holds it is more halts =
       let at_head = head holds.go it.next in
       let part = part_now (side_of (advanced y)) in
@@ -151,7 +151,7 @@ module _ {wire : Wire} {x y : Half} where
         x_end = refl;
         y_end = refl;
         by = halts_by wire.frames.items new.frames.items y.end y.sender.id part given halt (cursor_of (moved x) y) data_plain holds.go halts;
-        talks = λ talk talks. behind_halt (Spoken x.end y.end talk (cursor_of (moved x) y)) wire.frames.items new.frames.items given halt data_plain halts
+        talks = λ talk talks. behind_halt (HasProperPast x.end y.end talk (cursor_of (moved x) y)) wire.frames.items new.frames.items given halt data_plain halts
             (spoken_of holds.line.traced.faults (omega (arith, cursor_own x.end (x.taken + 1) y.taken, at_head.inside))
             (omega (arith, cursor_other x.end y.end (x.taken + 1) y.taken holds.apart.there, holds.line.core.back.cur_in)) (ack_other-talks holds it talks))
             (spoken_next holds at_head.inside (ack_faults given holds it is more) (ack_more-told given holds it is more talks));
@@ -190,7 +190,7 @@ module _ {wire : Wire} {x y : Half} where
     go Dropped it = absurd (never_dropped it refl)
 
   unacked : {talk : Talk} {key : Key} {taken : Taken} → DataHeard wire x y key taken → Talks talk wire x y
-      → Spoken x.end y.end talk (cursor_of (moved x) y) (past_now wire.frames.items)
+      → HasProperPast x.end y.end talk (cursor_of (moved x) y) (past_now wire.frames.items)
   unacked {talk} heard talks =
       let holds = heard.holds in
       let past = past_now wire.frames.items in
@@ -217,7 +217,7 @@ module _ {wire : Wire} {x y : Half} where
 
   pub halted_data : {new : Wire} {key : Key} {taken : Taken} (given : FateValue) {halt : Halt} {sender : _} → DataHeard wire x y key taken
       → NewSender taken y.sender sender → Halts wire.frames.items y.end key.id (ack_fragment key) given halt new.frames.items
-      → Halted halt wire x y new (moved x) (record y { sender = sender })
+      → HaltsBetween halt wire x y new (moved x) (record y { sender = sender })
   halted_data {new} {key} {taken} given {halt} {sender} heard after halts =
       let holds = heard.holds in
       let past = past_now wire.frames.items in
@@ -227,7 +227,7 @@ module _ {wire : Wire} {x y : Half} where
         x_end = refl;
         y_end = refl;
         by = halts_by wire.frames.items new.frames.items y.end key.id (ack_fragment key) given halt (cursor_of (moved x) y) ack_plain holds.go halts;
-        talks = λ talk talks. behind_halt (Spoken x.end y.end talk (cursor_of (moved x) y)) wire.frames.items new.frames.items given halt
+        talks = λ talk talks. behind_halt (HasProperPast x.end y.end talk (cursor_of (moved x) y)) wire.frames.items new.frames.items given halt
             ack_plain halts (unacked heard talks)
             (spoken_next holds at_head.inside (faults_push ack past holds.line.traced.faults
             (λ Z. other_no_repeat Z ack past (ack_is_no_data Z y.end key (course_of given))))
@@ -237,7 +237,7 @@ module _ {wire : Wire} {x y : Half} where
   -- ---- a message was to begin
 
   more_spoken : {talk : Talk} (message : List ℕ) → Turn wire x y → Talks talk wire x y
-      → Spoken x.end y.end (say x.end message talk) (cursor_of x y) (past_now wire.frames.items)
+      → HasProperPast x.end y.end (say x.end message talk) (cursor_of x y) (past_now wire.frames.items)
   more_spoken {talk} message turn talks =
       let past = past_now wire.frames.items in
       let cursor = cursor_of x y in
@@ -266,7 +266,7 @@ module _ {wire : Wire} {x y : Half} where
   start_speaks {talk} new message given halt turn different awaited none halts next talks =
       let line = turn.settled.line in
       let after = running_starts (course_of given) turn.settled.apart line turn.knows different awaited none (λ w. omega (arith, w, turn.last)) in
-      behind_halt (Spoken x.end y.end (say x.end message talk) (cursor_of x y)) wire.frames.items new.frames.items given halt data_plain halts
+      behind_halt (HasProperPast x.end y.end (say x.end message talk) (cursor_of x y)) wire.frames.items new.frames.items given halt data_plain halts
       (more_spoken message turn talks)
       (spoken_of after.traced.faults (omega (arith, cursor_own x.end x.taken y.taken, line.core.there.cur_in))
       (omega (arith, cursor_other x.end y.end x.taken y.taken turn.settled.apart.there, line.core.back.cur_in))
@@ -274,8 +274,8 @@ module _ {wire : Wire} {x y : Half} where
 
   -- ---- a piece was to be sent again
 
-  again_faults : (given : FateValue) → Holds wire x y → Blocked x.end (past_now wire.frames.items) x.taken wire.released
-      → Blocked y.end (past_now wire.frames.items) y.taken wire.released → Waits x.sender → RepeatsHaveFaults (again_frame x given ∷ past_now wire.frames.items)
+  again_faults : (given : FateValue) → Holds wire x y → IsBlocked x.end (past_now wire.frames.items) x.taken wire.released
+      → IsBlocked y.end (past_now wire.frames.items) y.taken wire.released → Waits x.sender → RepeatsHaveFaults (again_frame x given ∷ past_now wire.frames.items)
   again_faults given holds x_blocked y_blocked waits =
       let now = waits_now holds.x_half waits in
       elim (cases_lt y.sender.acknowledged (piece_count (length y.message))) [
@@ -283,39 +283,39 @@ module _ {wire : Wire} {x y : Half} where
         | inr idle ↦ (running_tick_one {course = course_of given} holds.apart holds.line x_blocked y_blocked now (λ w. omega (arith, w, idle))).traced.faults
       ]
 
-  both_faults : (given next : FateValue) → Holds wire x y → Blocked x.end (past_now wire.frames.items) x.taken wire.released
-      → Blocked y.end (past_now wire.frames.items) y.taken wire.released → Waits x.sender → Waits y.sender
+  both_faults : (given next : FateValue) → Holds wire x y → IsBlocked x.end (past_now wire.frames.items) x.taken wire.released
+      → IsBlocked y.end (past_now wire.frames.items) y.taken wire.released → Waits x.sender → Waits y.sender
       → RepeatsHaveFaults (again_frame y next ∷ again_frame x given ∷ past_now wire.frames.items)
   both_faults given next holds x_blocked y_blocked x_waits y_waits =
       (running_tick_two (course_of next) holds.apart holds.line x_blocked y_blocked
       (waits_now holds.x_half x_waits) (waits_now holds.y_half y_waits)).traced.faults
 
-  again_spoken : {talk : Talk} (given : FateValue) → Holds wire x y → Blocked x.end (past_now wire.frames.items) x.taken wire.released
-      → Blocked y.end (past_now wire.frames.items) y.taken wire.released → Waits x.sender → x.sender.tries < 10 → Talks talk wire x y
-      → Spoken x.end y.end talk (cursor_of x y) (again_frame x given ∷ past_now wire.frames.items)
+  again_spoken : {talk : Talk} (given : FateValue) → Holds wire x y → IsBlocked x.end (past_now wire.frames.items) x.taken wire.released
+      → IsBlocked y.end (past_now wire.frames.items) y.taken wire.released → Waits x.sender → x.sender.tries < 10 → Talks talk wire x y
+      → HasProperPast x.end y.end talk (cursor_of x y) (again_frame x given ∷ past_now wire.frames.items)
   again_spoken given holds x_blocked y_blocked waits few talks =
       spoken_of (again_faults given holds x_blocked y_blocked waits) (omega (arith, cursor_own x.end x.taken y.taken, holds.line.core.there.cur_in))
       (omega (arith, cursor_other x.end y.end x.taken y.taken holds.apart.there, holds.line.core.back.cur_in)) (one_again-told given holds waits few talks)
 
-  first_sends : {new : Wire} (given : FateValue) {halt : Halt} → Holds wire x y → Blocked x.end (past_now wire.frames.items) x.taken wire.released
-      → Blocked y.end (past_now wire.frames.items) y.taken wire.released → Waits x.sender → x.sender.tries < 10
-      → Halts wire.frames.items x.end x.sender.id (part_now (side_of x)) given halt new.frames.items → Halted halt wire x y new x y
+  first_sends : {new : Wire} (given : FateValue) {halt : Halt} → Holds wire x y → IsBlocked x.end (past_now wire.frames.items) x.taken wire.released
+      → IsBlocked y.end (past_now wire.frames.items) y.taken wire.released → Waits x.sender → x.sender.tries < 10
+      → Halts wire.frames.items x.end x.sender.id (part_now (side_of x)) given halt new.frames.items → HaltsBetween halt wire x y new x y
   first_sends {new} given {halt} holds x_blocked y_blocked waits few halts = record {
     x_end = refl;
     y_end = refl;
     by = halts_by wire.frames.items new.frames.items x.end x.sender.id (part_now (side_of x)) given halt (cursor_of x y) data_plain holds.go halts;
-    talks = λ talk talks. behind_halt (Spoken x.end y.end talk (cursor_of x y)) wire.frames.items new.frames.items given halt
+    talks = λ talk talks. behind_halt (HasProperPast x.end y.end talk (cursor_of x y)) wire.frames.items new.frames.items given halt
         data_plain halts (spoken_now holds talks)
         (again_spoken given holds x_blocked y_blocked waits few talks);
   }
 
-  pub first_halts : {new : Wire} (r : ℕ) (given : FateValue) (halt : Halt) → Holds wire x y → Blocked x.end (past_now wire.frames.items) x.taken wire.released
-      → Blocked y.end (past_now wire.frames.items) y.taken wire.released → Waits x.sender
-      → NotAgain halt given x (record wire { released = r }) new → Halted halt wire x y new x y
+  pub first_halts : {new : Wire} (r : ℕ) (given : FateValue) (halt : Halt) → Holds wire x y → IsBlocked x.end (past_now wire.frames.items) x.taken wire.released
+      → IsBlocked y.end (past_now wire.frames.items) y.taken wire.released → Waits x.sender
+      → NotAgain halt given x (record wire { released = r }) new → HaltsBetween halt wire x y new x y
   first_halts r given NoMemory holds x_blocked y_blocked waits it = first_sends given holds x_blocked y_blocked waits it.0 it.1
   first_halts r given (Stopped stop) holds x_blocked y_blocked waits it = first_sends given holds x_blocked y_blocked waits it.0 it.1
   first_halts r given (Down end) holds x_blocked y_blocked waits it =
-      subst (λ w. Halted (Down end) wire x y w x y) (sym it.2) (subst (λ X. Halted (Down X) wire x y (record wire { released = r }) x y) (sym it.0) (record {
+      subst (λ w. HaltsBetween (Down end) wire x y w x y) (sym it.2) (subst (λ X. HaltsBetween (Down X) wire x y (record wire { released = r }) x y) (sym it.0) (record {
         x_end = refl;
         y_end = refl;
         by = (holds.go, first_spent holds x_blocked y_blocked waits it.1);
@@ -323,33 +323,33 @@ module _ {wire : Wire} {x y : Half} where
       }))
 
 module _ {wire mid new : Wire} {r : ℕ} {x y : Half} {given : FateValue} where
-  second_sends : (next : FateValue) {halt : Halt} → Holds wire x y → Blocked x.end (past_now wire.frames.items) x.taken wire.released
-      → Blocked y.end (past_now wire.frames.items) y.taken wire.released → Waits x.sender → Waits y.sender
+  second_sends : (next : FateValue) {halt : Halt} → Holds wire x y → IsBlocked x.end (past_now wire.frames.items) x.taken wire.released
+      → IsBlocked y.end (past_now wire.frames.items) y.taken wire.released → Waits x.sender → Waits y.sender
       → SendsAgain (record wire { released = r }) x given mid (again x) → y.sender.tries < 10
-      → Halts mid.frames.items y.end y.sender.id (part_now (side_of y)) next halt new.frames.items → Halted halt wire x y new x y
+      → Halts mid.frames.items y.end y.sender.id (part_now (side_of y)) next halt new.frames.items → HaltsBetween halt wire x y new x y
   second_sends next {halt} holds x_blocked y_blocked x_waits y_waits sent few halts =
       let longer = extends (record wire { released = r }) mid x.end x.sender.id (part_now (side_of x)) given holds.go sent.sends tt sent.released in
       record {
         x_end = refl;
         y_end = refl;
         by = halts_by mid.frames.items new.frames.items y.end y.sender.id (part_now (side_of y)) next halt (cursor_of x y) data_plain longer.go halts;
-        talks = λ talk talks. behind_halt (Spoken x.end y.end talk (cursor_of x y)) mid.frames.items new.frames.items next halt data_plain halts
-            (subst (λ p. Spoken x.end y.end talk (cursor_of x y) p) (sym longer.past) (again_spoken given holds x_blocked y_blocked x_waits sent.few talks))
-            (subst (λ p. Spoken x.end y.end talk (cursor_of x y) (again_frame y next ∷ p)) (sym longer.past)
+        talks = λ talk talks. behind_halt (HasProperPast x.end y.end talk (cursor_of x y)) mid.frames.items new.frames.items next halt data_plain halts
+            (subst (λ p. HasProperPast x.end y.end talk (cursor_of x y) p) (sym longer.past) (again_spoken given holds x_blocked y_blocked x_waits sent.few talks))
+            (subst (λ p. HasProperPast x.end y.end talk (cursor_of x y) (again_frame y next ∷ p)) (sym longer.past)
             (spoken_of (both_faults given next holds x_blocked y_blocked x_waits y_waits)
             (omega (arith, cursor_own x.end x.taken y.taken, holds.line.core.there.cur_in))
             (omega (arith, cursor_other x.end y.end x.taken y.taken holds.apart.there, holds.line.core.back.cur_in))
             (two_again-told given next holds x_waits y_waits sent.few few talks)));
       }
 
-  second_now : (next : FateValue) (halt : Halt) → Holds wire x y → Blocked x.end (past_now wire.frames.items) x.taken wire.released
-      → Blocked y.end (past_now wire.frames.items) y.taken wire.released → Waits x.sender → Waits y.sender
-      → SendsAgain (record wire { released = r }) x given mid (again x) → NotAgain halt next y mid new → Halted halt wire x y new x y
+  second_now : (next : FateValue) (halt : Halt) → Holds wire x y → IsBlocked x.end (past_now wire.frames.items) x.taken wire.released
+      → IsBlocked y.end (past_now wire.frames.items) y.taken wire.released → Waits x.sender → Waits y.sender
+      → SendsAgain (record wire { released = r }) x given mid (again x) → NotAgain halt next y mid new → HaltsBetween halt wire x y new x y
   second_now next NoMemory holds x_blocked y_blocked x_waits y_waits sent it = second_sends next holds x_blocked y_blocked x_waits y_waits sent it.0 it.1
   second_now next (Stopped stop) holds x_blocked y_blocked x_waits y_waits sent it = second_sends next holds x_blocked y_blocked x_waits y_waits sent it.0 it.1
   second_now next (Down end) holds x_blocked y_blocked x_waits y_waits sent it =
       let longer = extends (record wire { released = r }) mid x.end x.sender.id (part_now (side_of x)) given holds.go sent.sends tt sent.released in
-      subst (λ w. Halted (Down end) wire x y w x y) (sym it.2) (subst (λ X. Halted (Down X) wire x y mid x y) (sym it.0) (record {
+      subst (λ w. HaltsBetween (Down end) wire x y w x y) (sym it.2) (subst (λ X. HaltsBetween (Down X) wire x y mid x y) (sym it.0) (record {
         x_end = refl;
         y_end = refl;
         by = (
@@ -358,56 +358,56 @@ module _ {wire mid new : Wire} {r : ℕ} {x y : Half} {given : FateValue} where
               (subst (λ c. IsSpent y.end c (again_frame x given ∷ past_now wire.frames.items)) (cursor_turned y.end x.end y.taken x.taken holds.apart.back)
               (second_spent given holds x_blocked y_blocked y_waits it.1)),
         );
-        talks = λ talk talks. subst (λ p. Spoken x.end y.end talk (cursor_of x y) p) (sym longer.past)
+        talks = λ talk talks. subst (λ p. HasProperPast x.end y.end talk (cursor_of x y) p) (sym longer.past)
             (again_spoken given holds x_blocked y_blocked x_waits sent.few talks);
       }))
 
-  pub second_halts : {x_later : Half} (next : FateValue) {halt : Halt} → Holds wire x y → Blocked x.end (past_now wire.frames.items) x.taken wire.released
-      → Blocked y.end (past_now wire.frames.items) y.taken wire.released → Waits x.sender → Waits y.sender
-      → SendsAgain (record wire { released = r }) x given mid x_later → NotAgain halt next y mid new → Halted halt wire x y new x y
+  pub second_halts : {x_later : Half} (next : FateValue) {halt : Halt} → Holds wire x y → IsBlocked x.end (past_now wire.frames.items) x.taken wire.released
+      → IsBlocked y.end (past_now wire.frames.items) y.taken wire.released → Waits x.sender → Waits y.sender
+      → SendsAgain (record wire { released = r }) x given mid x_later → NotAgain halt next y mid new → HaltsBetween halt wire x y new x y
   second_halts next {halt} holds x_blocked y_blocked x_waits y_waits sent it =
       second_now next halt holds x_blocked y_blocked x_waits y_waits (subst (λ h. SendsAgain (record wire { released = r }) x given mid h) sent.counted sent) it
 
 -- ---- the same from elsewhere
 
-spoken_turned : {X Y : End} {talk : Talk} {cursor : End → ℕ} {past : List Sent} → Spoken X Y talk cursor past → Spoken Y X talk cursor past
+spoken_turned : {X Y : End} {talk : Talk} {cursor : End → ℕ} {past : List PastFrame} → HasProperPast X Y talk cursor past → HasProperPast Y X talk cursor past
 spoken_turned it = search rules
 
 module _ {halt : Halt} {wire : Wire} {x y : Half} {new : Wire} {later_x later_y : Half} where
-  pub halted_turned : Apart x.end y.end → Apart later_x.end later_y.end → Halted halt wire x y new later_x later_y → Halted halt wire y x new later_y later_x
+  pub halted_turned : Apart x.end y.end → Apart later_x.end later_y.end → HaltsBetween halt wire x y new later_x later_y → HaltsBetween halt wire y x new later_y later_x
   halted_turned apart later_apart it =
       let cursor = cursor_turned later_x.end later_y.end later_x.taken later_y.taken later_apart.there in
       record {
         x_end = it.y_end;
         y_end = it.x_end;
         by = subst (λ c. HaltsBy halt c new.frames.items) cursor it.by;
-        talks = λ talk talks. subst (λ c. Spoken later_y.end later_x.end talk c (past_now new.frames.items)) cursor
+        talks = λ talk talks. subst (λ c. HasProperPast later_y.end later_x.end talk c (past_now new.frames.items)) cursor
             (spoken_turned (it.talks talk (talks_turned wire y x (apart_turned apart) talks)));
       }
 
   -- where both ends are where they were
-  pub halted_there : Stays x later_x → Stays y later_y → Halted halt wire x y new x y → Halted halt wire x y new later_x later_y
+  pub halted_there : Stays x later_x → Stays y later_y → HaltsBetween halt wire x y new x y → HaltsBetween halt wire x y new later_x later_y
   halted_there x_same y_same it =
       let cursor = same_cursors x y later_x later_y (x_same.end_is, x_same.taken_is) (y_same.end_is, y_same.taken_is) in
       record {
         x_end = x_same.end_is;
         y_end = y_same.end_is;
         by = subst (λ c. HaltsBy halt c new.frames.items) cursor it.by;
-        talks = λ talk talks. subst (λ c. Spoken later_x.end later_y.end talk c (past_now new.frames.items)) cursor
-            (subst (λ X. Spoken X later_y.end talk (cursor_of x y) (past_now new.frames.items)) (sym x_same.end_is)
-            (subst (λ Y. Spoken x.end Y talk (cursor_of x y) (past_now new.frames.items)) (sym y_same.end_is) (it.talks talk talks)));
+        talks = λ talk talks. subst (λ c. HasProperPast later_x.end later_y.end talk c (past_now new.frames.items)) cursor
+            (subst (λ X. HasProperPast X later_y.end talk (cursor_of x y) (past_now new.frames.items)) (sym x_same.end_is)
+            (subst (λ Y. HasProperPast x.end Y talk (cursor_of x y) (past_now new.frames.items)) (sym y_same.end_is) (it.talks talk talks)));
       }
 
   pub halted_behind : {wire0 : Wire} {x0 y0 : Half} → x.end ≡ x0.end → y.end ≡ y0.end → KeepsTalk wire0 x0 y0 wire x y
-      → Halted halt wire x y new later_x later_y → Halted halt wire0 x0 y0 new later_x later_y
+      → HaltsBetween halt wire x y new later_x later_y → HaltsBetween halt wire0 x0 y0 new later_x later_y
   halted_behind x_same y_same keeps it =
       record { x_end = it.x_end ∙ x_same; y_end = it.y_end ∙ y_same; by = it.by; talks = λ talk talks. it.talks talk (keeps talk talks) }
 
-  pub halted_heeded : {h : Half} → Heeded y h → Halted halt wire x h new later_x later_y → Halted halt wire x y new later_x later_y
+  pub halted_heeded : {h : Half} → MovesReceiver y h → HaltsBetween halt wire x h new later_x later_y → HaltsBetween halt wire x y new later_x later_y
   halted_heeded heeded it =
-      let now = subst (λ k. Halted halt wire x k new later_x later_y) heeded it in
+      let now = subst (λ k. HaltsBetween halt wire x k new later_x later_y) heeded it in
       record { x_end = now.x_end; y_end = now.y_end; by = now.by; talks = now.talks }
 
 -- memory ran out before anything was sent
-pub no_memory : {wire : Wire} {x y : Half} → Holds wire x y → Halted NoMemory wire x y wire x y
+pub no_memory : {wire : Wire} {x y : Half} → Holds wire x y → HaltsBetween NoMemory wire x y wire x y
 no_memory holds = record { x_end = refl; y_end = refl; by = holds.go; talks = λ talk talks. spoken_now holds talks }

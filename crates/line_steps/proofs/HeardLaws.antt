@@ -1,7 +1,7 @@
 -- What an end heard of the other one's next frame.
 use Rattle.line_steps.proofs.Names.{rules, ◌≡◌, ℕ, not, [], Some, sym, ap, subst, ◌∙◌, slice_get, and_from, packet_at, ReaderValue, Key, Taken, data_fragment}
 use Rattle.line_steps.proofs.Names.{FragmentValue, key_of, ReceiverValue, Answers, after_answer, Frame, is_data_kind, fragment_in, is_end, frame_value, Half}
-use Rattle.line_steps.proofs.Names.{List, FrameValue, IsFrameAt, Wire, Heard, Nothing, Ack, Hears, Goes, Holds, Heeded, Delivers, AckNext, DataHeard}
+use Rattle.line_steps.proofs.Names.{List, FrameValue, IsFrameAt, Wire, Heard, Nothing, Ack, Hears, Goes, Holds, MovesReceiver, Delivers, AckNext, DataHeard}
 use Rattle.padp_link.specs.declared.fragment.PadpKind.TheVariants as kind
 use Rattle.line_steps.specs.declared.hearing.Heard.TheVariants.{Data}
 use Rattle.line_steps.proofs.HoldsLaws.{with_reader}
@@ -20,7 +20,7 @@ read_on wire x y reader holds gap = search rules
 same_frame : (wire : Wire) (n : ℕ) (frame next : Frame) → slice_get wire.frames.items n ≡ Some frame → slice_get wire.frames.items n ≡ Some next → frame ≡ next
 same_frame wire n frame next here there = cc
 
-pub heard_ack-holds : {wire : Wire} {x y new : Half} → Holds wire x y → new.receiver ≡ y.receiver → Heeded y new → new.reader.held ≡ [] → Holds wire x new
+pub heard_ack-holds : {wire : Wire} {x y new : Half} → Holds wire x y → new.receiver ≡ y.receiver → MovesReceiver y new → new.reader.held ≡ [] → Holds wire x new
 heard_ack-holds holds same heeded gap = search rules
 
 pub heard_ack-next : {wire : Wire} (x y : Half) {frame : Frame} {key : Key} (later : ReceiverValue) → Delivers x.end wire x.taken
@@ -37,7 +37,7 @@ whole_fragment : {fragment : FragmentValue} (id : ℕ) → fragment.kind ≡ kin
 whole_fragment id is = search rules
 
 pub heard_data : {wire : Wire} {x y new : Half} {frame : Frame} {key : Key} {taken : Taken} → Holds wire x y → Delivers x.end wire x.taken
-    → slice_get wire.frames.items x.taken ≡ Some frame → HearsFrame frame y.receiver (Data key taken) new.receiver → Heeded y new → new.reader.held ≡ []
+    → slice_get wire.frames.items x.taken ≡ Some frame → HearsFrame frame y.receiver (Data key taken) new.receiver → MovesReceiver y new → new.reader.held ≡ []
     → DataHeard wire x new key taken
 heard_data {wire} {x} {y} {new} {frame} {key} {taken} holds next here hears heeded gap =
     let h = subst (λ f. HearsFrame f y.receiver (Data key taken) new.receiver) (same_frame wire x.taken frame next.frame here next.here) hears in

@@ -1,7 +1,7 @@
 -- The steps over the values of the program.
 use Rattle.line_steps.proofs.Names.{common_steps, rules, ◌≡◌, ℕ, ◌+◌, ◌<◌, ◌≤◌, Bool, true, false, ◌&&◌, [], length, Some, refl, sym, ap, subst, ◌∙◌, arith}
 use Rattle.line_steps.proofs.Names.{slice_get, ReaderValue, Frame, FateValue, Untouched, Lost, Late, Cut, Hit, Noise, Unplug, fate_value, arrives, comes}
-use Rattle.line_steps.proofs.Names.{course_of, is_end, frame_value, running_skips, Half, Wire, IsHalf, Goes, Holds, Moved, Read}
+use Rattle.line_steps.proofs.Names.{course_of, is_end, frame_value, running_skips, Half, Wire, IsHalf, Goes, Holds, MovesCursor, MovesReader}
 use Rattle.trace_text.specs.Fates.{Abort}
 use Rattle.line_steps.proofs.FrameLaws.{past_at, length-past, go_at}
 
@@ -45,11 +45,11 @@ skipped {wire} {x} {frame} holds inside here gone gap =
 
 -- what the loop over skipped frames keeps
 abbrev pub Skips : Wire → Half → Half → Half → Half → Type 0
-Skips wire x0 y0 x y = Holds wire x y × Moved x0 x × Read y0 y × (x.taken ≤ length wire.frames.items)
+Skips wire x0 y0 x y = Holds wire x y × MovesCursor x0 x × MovesReader y0 y × (x.taken ≤ length wire.frames.items)
 
 pub skip_step : {wire : Wire} (x0 y0 : Half) {x y new : Half} {frame : Frame} → Skips wire x0 y0 x y → x.taken < length wire.frames.items
     → slice_get wire.frames.items x.taken ≡ Some frame
-    → (is_end x.end frame.from && arrives (fate_value frame.fate)) ≡ false → Read y new → new.reader.held ≡ [] → Skips wire x0 y0 (moved x) new
+    → (is_end x.end frame.from && arrives (fate_value frame.fate)) ≡ false → MovesReader y new → new.reader.held ≡ [] → Skips wire x0 y0 (moved x) new
 skip_step {wire} x0 y0 {x} {new} skips inside here gone read gap = (
   subst (λ (h : Half). Holds wire (moved x) h) (sym read) (skipped skips.0 inside here gone gap),
   ap (λ (h : Half). record h { taken = x.taken + 1 }) skips.1,

@@ -1,7 +1,7 @@
 -- A frame is marked: nothing else of it changes, nor of what is told of the line.
 use Rattle.line_steps.proofs.Names.{◌≡◌, ℕ, zero, suc, ◌⊎◌, ◌+◌, ◌<◌, ◌≤◌, true, List, [], ◌∷◌, length, map, Some, refl, sym, ap, subst, ◌∙◌, slice_get}
-use Rattle.line_steps.proofs.Names.{slice_set, Frame, add_frame, past_behind, piece_count, Sent, said, acked, at, Talk, frame_value, Line, measure, Half, Wire}
-use Rattle.line_steps.proofs.Names.{Heard, marked, Marks, past_now, side_of, AllGo, Holds, AllTaken, Delivers, cursor_of, Talked, Talks, Underway}
+use Rattle.line_steps.proofs.Names.{slice_set, Frame, add_frame, past_behind, piece_count, PastFrame, said, acked, at, Talk, frame_value, Line, measure, Half, Wire}
+use Rattle.line_steps.proofs.Names.{Heard, marked, Marks, past_now, side_of, AllGo, Holds, AllTaken, Delivers, cursor_of, TellsTalk, Talks, Underway}
 use Rattle.line_steps.proofs.Names.{StillUnderway, work_left}
 
 -- ---- frames
@@ -23,7 +23,7 @@ length-marked n [] = refl
 length-marked zero (frame ∷ later) = refl
 length-marked (suc n) (frame ∷ later) = ap suc (length-marked n later)
 
-pub past_marked : (past : List Sent) (n : ℕ) (frames : List Frame)
+pub past_marked : (past : List PastFrame) (n : ℕ) (frames : List Frame)
     → past_behind past (map frame_value (marked n frames)) ≡ past_behind past (map frame_value frames)
 past_marked past n [] = refl
 past_marked past zero (frame ∷ later) = refl
@@ -93,7 +93,7 @@ module _ {n : ℕ} {wire new : Wire} where
   }
 
   pub talks_marked : {talk : Talk} (x y : Half) → Marks n wire new → Talks talk wire x y → Talks talk new x y
-  talks_marked {talk} x y marks talks = subst (λ p. Talked x.end y.end talk (cursor_of x y) p (side_of x) (side_of y)) (sym (past-marks marks)) talks
+  talks_marked {talk} x y marks talks = subst (λ p. TellsTalk x.end y.end talk (cursor_of x y) p (side_of x) (side_of y)) (sym (past-marks marks)) talks
 
   pub still_marked : {heard : Heard} {x y : Half} {later : Wire} {later_x later_y : Half} → Marks n wire new → StillUnderway heard new x y later later_x later_y
       → StillUnderway heard wire x y later later_x later_y

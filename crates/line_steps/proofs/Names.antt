@@ -28,29 +28,29 @@ pub use Rattle.line_laws.specs.Framing.{CameByCursor, IsNoAbort, PassesFrame}
 pub use Rattle.line_laws.specs.Hearing.{heard}
 pub use Rattle.line_laws.specs.Line.{Line}
 pub use Rattle.line_laws.specs.Measure.{measure}
-pub use Rattle.line_laws.specs.Progress.{Blocked}
+pub use Rattle.line_laws.specs.Progress.{IsBlocked}
 pub use Rattle.line_laws.specs.Talking.{Moves, Speech, Talking, count_messages, left, part_at, say, unsaid}
 pub use Rattle.line_laws.specs.Trace.{AcksFollow, NoAck}
 pub use Rattle.line_script.specs.Rules.{RuleValue}
 pub use Rattle.line_script.specs.Scripts.{fate_by}
 pub use Rattle.line_steps.specs.Acknowledging.{EndsAcknowledging, last_key}
-pub use Rattle.line_steps.specs.Adding.{Added, AddsOne, AddsTwo, AllBy, IsFirst, StartsWith}
+pub use Rattle.line_steps.specs.Adding.{AddsFrame, AddsOne, AddsTwo, AllBy, IsFirst, StartsWith}
 pub use Rattle.line_steps.specs.Advancing.{Advances, FallsShort, IsUp, StandsStill, WhereDown, piece_total, took_count}
-pub use Rattle.line_steps.specs.Carrying.{Carried, Reaches, SameMessage, StepTo, makes_whole}
-pub use Rattle.line_steps.specs.Counting.{Counted, Lands, counts, landed}
-pub use Rattle.line_steps.specs.Halting.{EndsWith, Halted, HaltsBy, IsSpent, NotAgain, Spoke, Spoken, TenFaults, is_aborted, other_end}
+pub use Rattle.line_steps.specs.Carrying.{HasMessage, Reaches, SameMessage, StepTo, makes_whole}
+pub use Rattle.line_steps.specs.Counting.{CountsTaken, Lands, counts, landed}
+pub use Rattle.line_steps.specs.Halting.{EndsWith, HaltsBetween, HaltsBy, IsSpent, NotAgain, Spoke, HasProperPast, TenFaults, is_aborted, other_end}
 pub use Rattle.line_steps.specs.Hearing.{Hears, counted, tally_after}
 pub use Rattle.line_steps.specs.Marking.{Marks}
 pub use Rattle.line_steps.specs.Promising.{FairIsNeverDown, HaltedIsProper, HaltedTells, RunningIsProper, TellsOf, TurnTellsAll}
 pub use Rattle.line_steps.specs.Resting.{IsNew}
-pub use Rattle.line_steps.specs.Running.{AllGo, AtHead, ComesNext, Goes, Heeded, Holds, IsHalf, Moved, Read, SamePlace, Stays, past_now, sent_of, side_of}
+pub use Rattle.line_steps.specs.Running.{AllGo, AtHead, ComesNext, Goes, MovesReceiver, Holds, IsHalf, MovesCursor, MovesReader, SamePlace, Stays, past_now, sent_of, side_of}
 pub use Rattle.line_steps.specs.Sending.{Halts, Sends, StopsBy, ack_fragment, in_place}
 pub use Rattle.line_steps.specs.Settling.{AllTaken}
 pub use Rattle.line_steps.specs.Stories.{HeardOf, TookMessages, part_of_now, told_from}
 pub use Rattle.line_steps.specs.Taking.{AckNext, DataHeard, Delivers}
-pub use Rattle.line_steps.specs.Telling.{IsInTurn, IsNextTo, KeepsAll, KeepsTalk, Recorded, Talked, Talks, cursor_of, cursors}
+pub use Rattle.line_steps.specs.Telling.{IsInTurn, IsNextTo, KeepsAll, KeepsTalk, RecordsFrames, TellsTalk, Talks, cursor_of, cursors}
 pub use Rattle.line_steps.specs.Ticking.{SendsAgain}
-pub use Rattle.line_steps.specs.Turning.{Settled, Turn, TurnAfter, TurnBehind}
+pub use Rattle.line_steps.specs.Turning.{IsAllTaken, Turn, TurnAfter, TurnBehind}
 pub use Rattle.line_steps.specs.Underway.{StillUnderway, Underway, UnderwayBehind}
 pub use Rattle.line_steps.specs.Working.{work_left}
 pub use Rattle.line_steps.specs.declared.half.Half.{Half}
@@ -110,9 +110,9 @@ pub use Rattle.trace_text.specs.Faults.{RepeatsHaveFaults, comes, count, data_co
 pub use Rattle.trace_text.specs.Frames.{BearsFragment, MayBear, add_frame, came_in, course_of, fields_of, fragment_in, is_abort, is_data_kind, padp_packet}
 pub use Rattle.trace_text.specs.Frames.{past_behind, past_of, sent_in}
 pub use Rattle.trace_text.specs.Parts.{Part, add_part, key_of_part, message_parts, part_of, session_parts, spoken, taken}
-pub use Rattle.trace_text.specs.Past.{Course, IsAckOf, IsDataOf, Sent, acked, at, data_of, first, is_data_of, is_end, run, said}
+pub use Rattle.trace_text.specs.Past.{FrameCourse, IsAckOf, IsDataOf, PastFrame, acked, at, data_of, first, is_data_of, is_end, run, said}
 pub use Rattle.trace_text.specs.Proper.{AcksAreFor, AreNumbered, DataIsAcked, EndReached, IfAnswers, IsProper, SpeaksProperly, data_that_came}
-pub use Rattle.trace_text.specs.Stories.{IsStory, IsStoryOf, Told, told_parts}
+pub use Rattle.trace_text.specs.Stories.{IsStory, IsStoryOf, IdMessage, told_parts}
 pub use Rattle.trace_text.specs.Talks.{Talk, answer_to, answered_by, messages_of, pieces_before}
 pub use Rattle.trace_text.specs.Tallies.{faults_from}
 pub use Rattle.trace_text.specs.TraceLines.{FrameValue, frame_value}

@@ -1,10 +1,10 @@
 -- The frames of a line are a proper trace, while it runs and where it halted.
 use Rattle.line_steps.proofs.Names.{◌≡◌, ℕ, ◌+◌, ◌≤◌, Bool, true, false, List, [], ◌∷◌, ◌++◌, length, map, refl, sym, ap, subst, ◌∙◌, inl, inr, AllByRecursion}
 use Rattle.line_steps.proofs.Names.{both_ways, cond-true, map-append, length-map, RuleValue, fate_by, End, Handheld, Desktop, Frame, FateValue, BearsFragment}
-use Rattle.line_steps.proofs.Names.{fragment_in, is_abort, past_of, came_in, Sent, AcksAreFor, AreNumbered, DataIsAcked, SpeaksProperly, IsProper}
+use Rattle.line_steps.proofs.Names.{fragment_in, is_abort, past_of, came_in, PastFrame, AcksAreFor, AreNumbered, DataIsAcked, SpeaksProperly, IsProper}
 use Rattle.line_steps.proofs.Names.{data_that_came, Talk, FrameValue, frame_value, came_by, CameByCursor, IsNoAbort, Grows, begins-grow, acks-grow}
 use Rattle.line_steps.proofs.Names.{data_that_came-taken, data_that_came-by, all-push, IsByCursor, grows-by, came_in-is, come-in-order, came-still, Stop, Halt}
-use Rattle.line_steps.proofs.Names.{NoMemory, Stopped, Down, AllBy, other_end, is_aborted, EndsWith, HaltsBy, Spoken, RunningIsProper, HaltedIsProper, past_now}
+use Rattle.line_steps.proofs.Names.{NoMemory, Stopped, Down, AllBy, other_end, is_aborted, EndsWith, HaltsBy, HasProperPast, RunningIsProper, HaltedIsProper, past_now}
 use Rattle.line_steps.proofs.Names.{AllGo, cursor_of}
 use Rattle.line_steps.proofs.FrameLaws.{behind_push, length-past, not_abort}
 use Rattle.line_steps.proofs.HaltedLaws.{spoken_now}
@@ -12,7 +12,7 @@ use Rattle.line_steps.proofs.HaltingLaws.{other_is}
 
 -- ---- what each end said, by what came in the frames
 
-speaks_came : {X Y : End} {talk : Talk} (cursor : End → ℕ) {came : ℕ → Bool} {past : List Sent} → IsByCursor cursor came past → cursor X ≤ length past
+speaks_came : {X Y : End} {talk : Talk} (cursor : End → ℕ) {came : ℕ → Bool} {past : List PastFrame} → IsByCursor cursor came past → cursor X ≤ length past
     → SpeaksProperly X Y talk (came_by cursor past) past → SpeaksProperly X Y talk came past
 speaks_came {X} {Y} {talk} cursor {came} {past} is inside was = record {
   says = was.says;
@@ -32,7 +32,7 @@ speaks_came {X} {Y} {talk} cursor {came} {past} is inside was = record {
 
 spoken_proper : {script : ℕ → FateValue} {talk : Talk} {cursor : End → ℕ} {frames : List FrameValue} → AreNumbered 1 script frames
     → AllByRecursion BearsFragment frames → CameByCursor 1 cursor frames → IsByCursor cursor (came_in frames) (past_of frames)
-    → Spoken Handheld Desktop talk cursor (past_of frames) → IsProper script talk frames
+    → HasProperPast Handheld Desktop talk cursor (past_of frames) → IsProper script talk frames
 spoken_proper {cursor} {frames} numbered bear came is spoken = record {
   numbered = numbered;
   bear = bear;
@@ -59,7 +59,7 @@ whole_go number [] go = tt
 whole_go number (frame ∷ later) go = (not_abort go.0, whole_go (number + 1) later go.1)
 
 going_proper : (script : List RuleValue) {talk : Talk} {cursor : End → ℕ} (frames : List Frame) → AllBy script 1 frames → AllGo 1 frames
-    → CameByCursor 1 cursor (map frame_value frames) → Spoken Handheld Desktop talk cursor (past_now frames)
+    → CameByCursor 1 cursor (map frame_value frames) → HasProperPast Handheld Desktop talk cursor (past_now frames)
     → IsProper (fate_by script) talk (map frame_value frames)
 going_proper script {cursor} frames all go came spoken =
     spoken_proper (numbered_go script 1 frames all go) (bear_go 1 frames go) came
@@ -88,7 +88,7 @@ last_by cursor before last true is whole came same =
     (came-still cursor before last (past_of before) same (came_in-is cursor before whole (came_before 1 cursor before last came)))
 
 ended_proper : (script : List RuleValue) {talk : Talk} {cursor : End → ℕ} {frames : List Frame} {stop : Stop} → EndsWith stop frames → AllBy script 1 frames
-    → CameByCursor 1 cursor (map frame_value frames) → Spoken Handheld Desktop talk cursor (past_now frames)
+    → CameByCursor 1 cursor (map frame_value frames) → HasProperPast Handheld Desktop talk cursor (past_now frames)
     → IsProper (fate_by script) talk (map frame_value frames)
 ended_proper script {talk} {cursor} {frames} {stop} it all came spoken =
     let list : map frame_value frames ≡ map frame_value it.before ++ frame_value it.last ∷ [] =
@@ -100,12 +100,12 @@ ended_proper script {talk} {cursor} {frames} {stop} it all came spoken =
     (spoken_proper (numbered_last script 1 it.before it.last (subst (AllBy script 1) it.is all) it.go)
     (all-push BearsFragment (map frame_value it.before) (bear_go 1 it.before it.go) it.bears)
     came_last (last_by cursor (map frame_value it.before) (frame_value it.last) (is_aborted stop) it.aborts whole came_last size)
-    (subst (λ fs. Spoken Handheld Desktop talk cursor (past_of fs)) list spoken))
+    (subst (λ fs. HasProperPast Handheld Desktop talk cursor (past_of fs)) list spoken))
 
 -- ---- a line
 
 halts_proper : (halt : Halt) (script : List RuleValue) {talk : Talk} {cursor : End → ℕ} (frames : List Frame) → HaltsBy halt cursor frames
-    → AllBy script 1 frames → CameByCursor 1 cursor (map frame_value frames) → Spoken Handheld Desktop talk cursor (past_now frames)
+    → AllBy script 1 frames → CameByCursor 1 cursor (map frame_value frames) → HasProperPast Handheld Desktop talk cursor (past_now frames)
     → IsProper (fate_by script) talk (map frame_value frames)
 halts_proper NoMemory script frames by all came spoken = going_proper script frames all by came spoken
 halts_proper (Stopped stop) script frames by all came spoken = ended_proper script by all came spoken
@@ -114,8 +114,8 @@ halts_proper (Down end) script frames by all came spoken = going_proper script f
 pub halted_is_proper : HaltedIsProper
 halted_is_proper halt script talk wire x y handheld desktop by spoke recorded =
     halts_proper halt script wire.frames.items by recorded.by recorded.came
-    (subst (λ X. Spoken X Desktop talk (cursor_of x y) (past_now wire.frames.items)) handheld
-    (subst (λ Y. Spoken x.end Y talk (cursor_of x y) (past_now wire.frames.items)) desktop spoke))
+    (subst (λ X. HasProperPast X Desktop talk (cursor_of x y) (past_now wire.frames.items)) handheld
+    (subst (λ Y. HasProperPast x.end Y talk (cursor_of x y) (past_now wire.frames.items)) desktop spoke))
 
 pub running_is_proper : RunningIsProper
 running_is_proper script talk wire x y handheld holds talks recorded =

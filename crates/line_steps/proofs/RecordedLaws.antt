@@ -3,8 +3,8 @@ use Rattle.line_steps.proofs.Names.{rules, ◌≡◌, ℕ, zero, suc, ◌+◌, �
 use Rattle.line_steps.proofs.Names.{subst, ◌∙◌, arith, inl, inr, slice_get, if◌then◌else◌, cases_Bool, both_ways, cond-false, slice_get_within, map-append}
 use Rattle.line_steps.proofs.Names.{length-map, length-append, RuleValue, fate_by, End, Handheld, Desktop, Frame, FateValue, fate_value, arrives, comes}
 use Rattle.line_steps.proofs.Names.{data_comes, is_end, Talk, frame_value, Apart, CameByCursor, PassesFrame, heard, same_end, talking_passes, came-push-one}
-use Rattle.line_steps.proofs.Names.{OthersStay, came-same, same-leb, leb-above, leb-below, came-takes, Half, Wire, Added, AddsOne, AddsTwo, AllBy, took_count}
-use Rattle.line_steps.proofs.Names.{landed, marked, sent_of, past_now, side_of, Holds, Read, SamePlace, Stays, Delivers, cursors, cursor_of, Talks, Recorded}
+use Rattle.line_steps.proofs.Names.{OthersStay, came-same, same-leb, leb-above, leb-below, came-takes, Half, Wire, AddsFrame, AddsOne, AddsTwo, AllBy, took_count}
+use Rattle.line_steps.proofs.Names.{landed, marked, sent_of, past_now, side_of, Holds, MovesReader, SamePlace, Stays, Delivers, cursors, cursor_of, Talks, RecordsFrames}
 use Rattle.line_steps.proofs.Names.{KeepsAll}
 use Rattle.line_steps.proofs.CountingLaws.{counted_moves}
 use Rattle.line_steps.proofs.AddingLaws.{by_one, by_two}
@@ -19,7 +19,7 @@ use Rattle.line_steps.proofs.TalkedLaws.{x_heard_now, y_heard_now, at_own, at_ot
 each_cursor : (X : End) {own other size : ℕ} → own ≤ size → other ≤ size → (Z : End) → cursors X own other Z ≤ size
 each_cursor X own_in other_in Z = search rules
 
-came_added : {cursor : End → ℕ} {given : FateValue} {old new : List Frame} → ((Z : End) → cursor Z ≤ length old) → Added given old new
+came_added : {cursor : End → ℕ} {given : FateValue} {old new : List Frame} → ((Z : End) → cursor Z ≤ length old) → AddsFrame given old new
     → CameByCursor 1 cursor (map frame_value old) → CameByCursor 1 cursor (map frame_value new)
 came_added {cursor} {old} {new} inside more came =
     let e : map frame_value old ++ frame_value more.frame ∷ [] ≡ map frame_value new =
@@ -52,8 +52,8 @@ same_cursors x y later_x later_y x_same y_same = search rules
 module _ {script : List RuleValue} {given : FateValue} {wire new : Wire} {x y later_x later_y : Half} where
   pub recorded_two : {other : FateValue} → Holds wire x y → given ≡ fate_by script (length wire.frames.items + 1)
       → other ≡ fate_by script (length wire.frames.items + 1 + 1)
-      → AddsTwo given other wire.frames.items new.frames.items → SamePlace x later_x → SamePlace y later_y → Recorded script wire x y
-      → Recorded script new later_x later_y
+      → AddsTwo given other wire.frames.items new.frames.items → SamePlace x later_x → SamePlace y later_y → RecordsFrames script wire x y
+      → RecordsFrames script new later_x later_y
   recorded_two holds is next adds x_same y_same was = record {
     by = by_two script is next adds was.by;
     came = subst (λ c. CameByCursor 1 c (map frame_value new.frames.items)) (same_cursors x y later_x later_y x_same y_same)
@@ -61,7 +61,7 @@ module _ {script : List RuleValue} {given : FateValue} {wire new : Wire} {x y la
   }
 
   pub recorded_one : Holds wire x y → given ≡ fate_by script (length wire.frames.items + 1) → AddsOne given wire.frames.items new.frames.items
-      → SamePlace x later_x → SamePlace y later_y → Recorded script wire x y → Recorded script new later_x later_y
+      → SamePlace x later_x → SamePlace y later_y → RecordsFrames script wire x y → RecordsFrames script new later_x later_y
   recorded_one holds is adds x_same y_same =
       recorded_two holds is refl (inl adds) x_same y_same
 
@@ -91,7 +91,7 @@ passes X (suc n) (first ∷ later) here mine comes_here = (map frame_value (mark
 
 pub recorded_next : {script : List RuleValue} {given : FateValue} {wire new : Wire} {x y later_y : Half} → Holds wire x y → Delivers x.end wire x.taken
     → given ≡ fate_by script (length wire.frames.items + 1) → AddsOne given (marked x.taken wire.frames.items) new.frames.items
-    → SamePlace y later_y → Recorded script wire x y → Recorded script new (moved x) later_y
+    → SamePlace y later_y → RecordsFrames script wire x y → RecordsFrames script new (moved x) later_y
 recorded_next {script} {wire} {new} {x} {y} holds next is adds y_same was =
     let old = wire.frames.items in
     let size = length-marked x.taken old in
@@ -137,7 +137,7 @@ came_past number {X} {cursor} {later} (suc n) (first ∷ frames) {frame} others 
 
 pub recorded_past : {script : List RuleValue} {wire : Wire} {x y later_y : Half} {frame : Frame} → slice_get wire.frames.items x.taken ≡ Some frame
     → (is_end x.end frame.from && arrives (fate_value frame.fate)) ≡ false → SamePlace y later_y
-    → Recorded script wire x y → Recorded script wire (moved x) later_y
+    → RecordsFrames script wire x y → RecordsFrames script wire (moved x) later_y
 recorded_past {wire} {x} {y} here gone y_same was = record {
   by = was.by;
   came = subst (λ c. CameByCursor 1 c (map frame_value wire.frames.items)) (ap (λ n. cursors x.end (x.taken + 1) n) (sym y_same.1))
@@ -145,20 +145,20 @@ recorded_past {wire} {x} {y} here gone y_same was = record {
       (omega (arith, cursor_own x.end (x.taken + 1) y.taken)) here gone was.came);
 }
 
-pub recorded_turned : {script : List RuleValue} {wire : Wire} {x y : Half} → Apart x.end y.end → Recorded script wire x y → Recorded script wire y x
+pub recorded_turned : {script : List RuleValue} {wire : Wire} {x y : Half} → Apart x.end y.end → RecordsFrames script wire x y → RecordsFrames script wire y x
 recorded_turned apart was = search rules
 
 -- ---- by what a call promises
 
 pub recorded_own : {script : List RuleValue} {given : FateValue} {wire new : Wire} {x y later_x later_y : Half} → Holds wire x y → Delivers x.end wire x.taken
     → given ≡ fate_by script (length wire.frames.items + 1) → AddsOne given (marked x.taken wire.frames.items) new.frames.items
-    → later_x ≡ moved x → Stays y later_y → Recorded script wire x y → Recorded script new later_x later_y
+    → later_x ≡ moved x → Stays y later_y → RecordsFrames script wire x y → RecordsFrames script new later_x later_y
 recorded_own {script} {new} {later_y} holds next is adds passed stays was =
-    subst (λ h. Recorded script new h later_y) (sym passed) (recorded_next holds next is adds (stays.end_is, stays.taken_is) was)
+    subst (λ h. RecordsFrames script new h later_y) (sym passed) (recorded_next holds next is adds (stays.end_is, stays.taken_is) was)
 
 pub recorded_other : {script : List RuleValue} {given : FateValue} {wire new : Wire} {x y later_x later_y : Half} → Holds wire y x → Delivers y.end wire y.taken
     → given ≡ fate_by script (length wire.frames.items + 1) → AddsOne given (marked y.taken wire.frames.items) new.frames.items
-    → later_y ≡ moved y → Stays x later_x → Recorded script wire x y → Recorded script new later_x later_y
+    → later_y ≡ moved y → Stays x later_x → RecordsFrames script wire x y → RecordsFrames script new later_x later_y
 recorded_other {x} {later_x} {later_y} holds next is adds passed stays was =
     let later : Apart later_y.end later_x.end = subst (λ X. Apart later_y.end X) (sym stays.end_is) (subst (λ h. Apart h.end x.end) (sym passed) holds.apart) in
     recorded_turned later (recorded_own holds next is adds passed stays (recorded_turned (record { there = holds.apart.back; back = holds.apart.there }) was))
@@ -199,7 +199,7 @@ took_past {wire} {x} {frame} holds here gone =
     ap (λ p. length (heard x.end p)) (past_at wire.frames.items x.taken holds.go here) ∙ ap length (cond-false _ _ _ away)
 
 pub skip_keeps : {wire : Wire} {x0 y0 x y new : Half} {frame : Frame} → Holds wire x y → KeepsAll wire x0 y0 x y
-    → slice_get wire.frames.items x.taken ≡ Some frame → (is_end x.end frame.from && arrives (fate_value frame.fate)) ≡ false → Read y new
+    → slice_get wire.frames.items x.taken ≡ Some frame → (is_end x.end frame.from && arrives (fate_value frame.fate)) ≡ false → MovesReader y new
     → new.reader.tally ≡ (if is_end x.end frame.from then landed (frame_value frame) y.reader.tally else y.reader.tally) → KeepsAll wire x0 y0 (moved x) new
 skip_keeps {wire} {x} holds keeps here gone read tally = record {
   talks = λ talk talks. subst (λ h. Talks talk wire (moved x) h) (sym read) (talks_past holds here gone (keeps.talks talk talks));

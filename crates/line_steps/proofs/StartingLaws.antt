@@ -1,7 +1,7 @@
 -- A message begins, and a waiting piece goes again, over the values of the program.
 use Rattle.line_steps.proofs.Names.{rules, ◌≡◌, ◌⊎◌, ℕ, suc, ◌+◌, ◌<◌, ◌≤◌, true, false, List, [], ◌∷◌, length, Some, None, sym, ap, subst, ◌∙◌, arith}
 use Rattle.line_steps.proofs.Names.{inl, inr, slice_get, and_parts, and_from, SenderValue, Waits, End, Frame, FateValue, fate_value, is_late, course_of}
-use Rattle.line_steps.proofs.Names.{is_end, at, Waiting, key_now, part_now, data_frame, Line, Blocked, beginning, running_starts, running_tick_one}
+use Rattle.line_steps.proofs.Names.{is_end, at, Waiting, key_now, part_now, data_frame, Line, IsBlocked, beginning, running_starts, running_tick_one}
 use Rattle.line_steps.proofs.Names.{running_tick_two, Half, Wire, sent_of, past_now, side_of, IsHalf, AllGo, Holds, ComesNext, AtHead, Sends, Delivers}
 use Rattle.line_steps.proofs.Names.{SendsAgain, Turn, fate_with, refl}
 use Rattle.trace_text.specs.Fates as fates
@@ -72,7 +72,7 @@ module _ {X : End} {wire : Wire} {n : ℕ} {frame : Frame} where
 
 pub held_back : {X : End} (wire : Wire) {n : ℕ} {frame : Frame} → AllGo 1 wire.frames.items → ComesNext X wire.frames.items n
     → slice_get wire.frames.items n ≡ Some frame → fate_value frame.fate ≡ fates.Late → wire.released ≤ n
-    → Blocked X (past_now wire.frames.items) n wire.released
+    → IsBlocked X (past_now wire.frames.items) n wire.released
 held_back {X} wire {n} {frame} go comes here late above =
     let parts = and_parts (is_end X frame.from) _ (comes.is frame here) in
     inr (record {
@@ -100,8 +100,8 @@ abbrev pub again : Half → Half
 again half = record half { sender = record half.sender { tries = half.sender.tries + 1 } }
 
 module _ {wire new : Wire} {given : FateValue} where
-  one_again : {x y : Half} → Holds wire x y → Blocked x.end (past_now wire.frames.items) x.taken wire.released
-      → Blocked y.end (past_now wire.frames.items) y.taken wire.released → Waits x.sender → (Waits y.sender → ⊥)
+  one_again : {x y : Half} → Holds wire x y → IsBlocked x.end (past_now wire.frames.items) x.taken wire.released
+      → IsBlocked y.end (past_now wire.frames.items) y.taken wire.released → Waits x.sender → (Waits y.sender → ⊥)
       → Sends wire.frames.items x.end x.sender.id (part_now (side_of x)) given None new.frames.items → new.released ≡ length wire.frames.items
       → Holds new (again x) y
   one_again {x} {y} holds x_blocked y_blocked waits idle sends released =
@@ -125,22 +125,22 @@ module _ {wire new : Wire} {given : FateValue} where
         line = lined longer timed;
       }
 
-  pub ticks_one : {r : ℕ} {x y later : Half} → r ≡ length wire.frames.items → Holds wire x y → Blocked x.end (past_now wire.frames.items) x.taken wire.released
-      → Blocked y.end (past_now wire.frames.items) y.taken wire.released → Waits x.sender → (Waits y.sender → ⊥)
+  pub ticks_one : {r : ℕ} {x y later : Half} → r ≡ length wire.frames.items → Holds wire x y → IsBlocked x.end (past_now wire.frames.items) x.taken wire.released
+      → IsBlocked y.end (past_now wire.frames.items) y.taken wire.released → Waits x.sender → (Waits y.sender → ⊥)
       → SendsAgain (record wire { released = r }) x given new later → Holds new later y
   ticks_one {y} size holds x_blocked y_blocked waits idle sent =
       subst (λ h. Holds new h y) (sym sent.counted) (one_again holds x_blocked y_blocked waits idle sent.sends (sent.released ∙ size))
 
   pub ticks_other : {r : ℕ} {x y later : Half} → r ≡ length wire.frames.items → Holds wire x y
-      → Blocked x.end (past_now wire.frames.items) x.taken wire.released → Blocked y.end (past_now wire.frames.items) y.taken wire.released
+      → IsBlocked x.end (past_now wire.frames.items) x.taken wire.released → IsBlocked y.end (past_now wire.frames.items) y.taken wire.released
       → (Waits x.sender → ⊥) → Waits x.sender ⊎ Waits y.sender
       → SendsAgain (record wire { released = r }) y given new later → Holds new x later
   ticks_other size holds x_blocked y_blocked idle (inl waits) sent = absurd (idle waits)
   ticks_other size holds x_blocked y_blocked idle (inr waits) sent =
       holds_turned (ticks_one size (holds_turned holds) y_blocked x_blocked waits idle sent)
 
-  two_again : (first : Wire) {x y : Half} {other : FateValue} → Holds wire x y → Blocked x.end (past_now wire.frames.items) x.taken wire.released
-      → Blocked y.end (past_now wire.frames.items) y.taken wire.released → Waits x.sender → Waits y.sender
+  two_again : (first : Wire) {x y : Half} {other : FateValue} → Holds wire x y → IsBlocked x.end (past_now wire.frames.items) x.taken wire.released
+      → IsBlocked y.end (past_now wire.frames.items) y.taken wire.released → Waits x.sender → Waits y.sender
       → Sends wire.frames.items x.end x.sender.id (part_now (side_of x)) given None first.frames.items → first.released ≡ length wire.frames.items
       → Sends first.frames.items y.end y.sender.id (part_now (side_of y)) other None new.frames.items → new.released ≡ first.released
       → Holds new (again x) (again y)
@@ -174,7 +174,7 @@ module _ {wire new : Wire} {given : FateValue} where
       }
 
   pub ticks_two : {first : Wire} {r : ℕ} {x y x_later y_later : Half} {other : FateValue} → r ≡ length wire.frames.items → Holds wire x y
-      → Blocked x.end (past_now wire.frames.items) x.taken wire.released → Blocked y.end (past_now wire.frames.items) y.taken wire.released → Waits x.sender
+      → IsBlocked x.end (past_now wire.frames.items) x.taken wire.released → IsBlocked y.end (past_now wire.frames.items) y.taken wire.released → Waits x.sender
       → Waits y.sender
       → SendsAgain (record wire { released = r }) x given first x_later → SendsAgain first y other new y_later → Holds new x_later y_later
   ticks_two {first} {y} {x_later} size holds x_blocked y_blocked x_waits y_waits x_sent y_sent =

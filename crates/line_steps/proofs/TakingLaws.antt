@@ -1,7 +1,7 @@
 -- The steps in which an end takes the other one's next frame, over the values of the program.
 use Rattle.line_steps.proofs.Names.{rules, ◌≡◌, ℕ, ◌+◌, ◌<◌, ◌≤◌, Bool, true, false, List, ◌∷◌, length, Some, None, sym, ap, subst, ◌∙◌, arith, inl, inr}
 use Rattle.line_steps.proofs.Names.{option_map, is_some, cases_lt, both_ways, and_parts, slice_get_within, Key, piece_count, piece_of, ReceiverValue}
-use Rattle.line_steps.proofs.Names.{SenderValue, waiting, waiting_key, waiting_is, waiting_none, End, FateValue, late_of, Sent, is_end, at, Side, Waiting}
+use Rattle.line_steps.proofs.Names.{SenderValue, waiting, waiting_key, waiting_is, waiting_none, End, FateValue, late_of, PastFrame, is_end, at, Side, Waiting}
 use Rattle.line_steps.proofs.Names.{key_now, part_now, Line, running_other_ack, running_last_ack, running_next_piece, Half, Wire, sent_of, past_now, side_of}
 use Rattle.line_steps.proofs.Names.{IsHalf, AllGo, Holds, Sends, Delivers, AckNext}
 use Rattle.line_steps.proofs.FrameLaws.{past_at, length-past}
@@ -9,7 +9,7 @@ use Rattle.line_steps.proofs.HoldsLaws.{moved}
 use Rattle.line_steps.proofs.SendingLaws.{extends, lined}
 
 -- the head of the line from an end
-pub record Head (X : End) (wire : Wire) (n : ℕ) (frame : Sent) : Type 0 where
+pub record Head (X : End) (wire : Wire) (n : ℕ) (frame : PastFrame) : Type 0 where
   pub inside : n < length (past_now wire.frames.items)
   pub here : at (n + 1) (past_now wire.frames.items) ≡ frame ∷ at n (past_now wire.frames.items)
   pub late : late_of X frame ≡ true → n + 1 ≤ wire.released
@@ -57,7 +57,7 @@ abbrev pub advanced : Half → Half
 advanced y = record y { sender = record y.sender { acknowledged = y.sender.acknowledged + 1; tries = 1 } }
 
 -- where an end waits for nothing, its tries say nothing
-pub idle_tries : {X Y : End} {past : List Sent} {cx cy released : ℕ} {x y : Side} {rx ry : ReceiverValue} {fx fy : Bool} {tx ty other : ℕ} → (Waiting y → ⊥)
+pub idle_tries : {X Y : End} {past : List PastFrame} {cx cy released : ℕ} {x y : Side} {rx ry : ReceiverValue} {fx fy : Bool} {tx ty other : ℕ} → (Waiting y → ⊥)
     → Line X Y past cx cy released x y rx ry fx fy tx ty → Line X Y past cx cy released x y rx ry fx fy tx other
 idle_tries idle line = search rules
 

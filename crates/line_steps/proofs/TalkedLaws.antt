@@ -1,6 +1,6 @@
 -- What the frames tell of the messages, over each step.
-use Rattle.line_steps.proofs.Names.{rules, ◌≡◌, ℕ, ◌+◌, Bool, false, List, refl, subst, End, Handheld, Desktop, Sent, is_end, said, acked, Talk, Apart, Side}
-use Rattle.line_steps.proofs.Names.{Follows, Talking, Moves, Half, Wire, past_now, side_of, Holds, HeardOf, cursors, cursor_of, Talked, Talks, KeepsTalk}
+use Rattle.line_steps.proofs.Names.{rules, ◌≡◌, ℕ, ◌+◌, Bool, false, List, refl, subst, End, Handheld, Desktop, PastFrame, is_end, said, acked, Talk, Apart, Side}
+use Rattle.line_steps.proofs.Names.{Follows, Talking, Moves, Half, Wire, past_now, side_of, Holds, HeardOf, cursors, cursor_of, TellsTalk, Talks, KeepsTalk}
 
 -- ---- the cursors
 
@@ -30,9 +30,9 @@ cursor_turned X Y own other apart = λ i Z. cursor_same X Y own other apart Z i
 
 -- ---- whether the newest fragment wasn't taken yet is told by what was said and acknowledged
 
-pub talking_as : {X Y : End} {talk : Talk} {cursor : End → ℕ} {past : List Sent} {x y : Side} {fx fy : Bool} → Follows (said X past) (acked Y past) fx
+pub talking_as : {X Y : End} {talk : Talk} {cursor : End → ℕ} {past : List PastFrame} {x y : Side} {fx fy : Bool} → Follows (said X past) (acked Y past) fx
     → Follows (said Y past) (acked X past) fy
-    → Talked X Y talk cursor past x y → Talking X Y talk cursor past x y fx fy
+    → TellsTalk X Y talk cursor past x y → Talking X Y talk cursor past x y fx fy
 talking_as there back talked = search rules
 
 pub talking_now : {talk : Talk} {wire : Wire} {x y : Half} → (holds : Holds wire x y) → Talks talk wire x y
@@ -60,20 +60,20 @@ pub y_heard_now : {talk : Talk} {wire : Wire} {x y : Half} → (holds : Holds wi
 y_heard_now holds talked = search rules
 
 -- and the other way, for cursors that stand there
-pub at_own : (X Y : End) (own other : ℕ) (past : List Sent) (fx : Bool) (side : Side) → HeardOf X past own fx side
+pub at_own : (X Y : End) (own other : ℕ) (past : List PastFrame) (fx : Bool) (side : Side) → HeardOf X past own fx side
     → HeardOf X past (cursors X own other X) fx side
 at_own X Y own other past fx side heard = search rules
 
-pub at_other : (X Y : End) (own other : ℕ) (past : List Sent) (fy : Bool) (side : Side) → is_end X Y ≡ false → HeardOf Y past other fy side
+pub at_other : (X Y : End) (own other : ℕ) (past : List PastFrame) (fy : Bool) (side : Side) → is_end X Y ≡ false → HeardOf Y past other fy side
     → HeardOf Y past (cursors X own other Y) fy side
 at_other X Y own other past fy side apart heard = search rules
 
-talked_turned : {X Y : End} {talk : Talk} {cursor : End → ℕ} {past : List Sent} {x y : Side} → Talked X Y talk cursor past x y → Talked Y X talk cursor past y x
+talked_turned : {X Y : End} {talk : Talk} {cursor : End → ℕ} {past : List PastFrame} {x y : Side} → TellsTalk X Y talk cursor past x y → TellsTalk Y X talk cursor past y x
 talked_turned talked = search rules
 
 pub talks_turned : {talk : Talk} (wire : Wire) (x y : Half) → Apart x.end y.end → Talks talk wire x y → Talks talk wire y x
 talks_turned {talk} wire x y apart talked =
-    subst (λ c. Talked y.end x.end talk c (past_now wire.frames.items) (side_of y) (side_of x)) (cursor_turned x.end y.end x.taken y.taken apart.there)
+    subst (λ c. TellsTalk y.end x.end talk c (past_now wire.frames.items) (side_of y) (side_of x)) (cursor_turned x.end y.end x.taken y.taken apart.there)
     (talked_turned talked)
 
 pub talk_turned : (wire : Wire) (x y : Half) (new : Wire) (later_x later_y : Half) → Apart x.end y.end → Apart later_x.end later_y.end

@@ -1,9 +1,9 @@
 -- What the frames tell of the messages, where an end takes the other one's next frame.
 use Rattle.line_steps.proofs.Names.{rules, ◌≡◌, ◌+◌, ◌<◌, ◌≤◌, Bool, true, false, ◌&&◌, ◌∷◌, length, Some, None, sym, ap, subst, ◌∙◌, arith, Key, Taken}
 use Rattle.line_steps.proofs.Names.{Accepted, Whole, Repeated, Dropped, piece_count, SenderValue, waiting_key, End, FateValue, comes, data_comes, course_of}
-use Rattle.line_steps.proofs.Names.{Sent, first, said, acked, is_data_of, IsAckOf, Talk, Follows, ack_frame, part_now, data_frame, key_now, Side, Accepting}
+use Rattle.line_steps.proofs.Names.{PastFrame, first, said, acked, is_data_of, IsAckOf, Talk, Follows, ack_frame, part_now, data_frame, key_now, Side, Accepting}
 use Rattle.line_steps.proofs.Names.{acknowledged, take_ack, matched, talking_passes, talking_copy, talking_newest, talking_last_ack, talking_next_piece, Half}
-use Rattle.line_steps.proofs.Names.{Wire, sent_of, past_now, side_of, Holds, Sends, ack_fragment, AckNext, DataHeard, cursor_of, Talked, Talks, HeardOf}
+use Rattle.line_steps.proofs.Names.{Wire, sent_of, past_now, side_of, Holds, Sends, ack_fragment, AckNext, DataHeard, cursor_of, TellsTalk, Talks, HeardOf}
 use Rattle.line_steps.proofs.Names.{ack_is_no_data, and_from}
 use Rattle.line_steps.proofs.DataLaws.{NewSender, after_heard, copy_is}
 use Rattle.line_steps.proofs.HoldsLaws.{moved}
@@ -14,7 +14,7 @@ use Rattle.line_steps.proofs.TalkedLaws.{x_heard_now, y_heard_now, at_own, at_ot
 
 -- ---- an acknowledgement
 
-pub ack_comes_no_data : (X : End) (frame : Sent) → IsAckOf X frame → data_comes X frame ≡ false
+pub ack_comes_no_data : (X : End) (frame : PastFrame) → IsAckOf X frame → data_comes X frame ≡ false
 ack_comes_no_data X frame is = search rules
 
 pub ack_other-talks : {talk : Talk} {wire : Wire} {x y : Half} {key : Key} → Holds wire x y → AckNext x.end wire x.taken key → Talks talk wire x y
@@ -63,13 +63,13 @@ next_new : (side : Side) → side.acknowledged + 1 < piece_count (length side.me
 next_new side below same = search rules
 
 -- the next piece stands on the line
-abbrev pub next_frame : Half → FateValue → Sent
+abbrev pub next_frame : Half → FateValue → PastFrame
 next_frame y given = data_frame y.end (key_now (acknowledged (side_of y))) ((part_now (acknowledged (side_of y))).bytes) (course_of given)
 
 module _ {talk : Talk} {wire : Wire} {x y : Half} {key : Key} where
   pub ack_more-told : (given : FateValue) → Holds wire x y → AckNext x.end wire x.taken key → waiting_key y.sender ≡ Some key
       → y.sender.acknowledged + 1 < piece_count y.sender.length → Talks talk wire x y
-      → Talked x.end y.end talk (cursor_of (moved x) y) (next_frame y given ∷ past_now wire.frames.items) (side_of x) (acknowledged (side_of y))
+      → TellsTalk x.end y.end talk (cursor_of (moved x) y) (next_frame y given ∷ past_now wire.frames.items) (side_of x) (acknowledged (side_of y))
   ack_more-told given holds it is more talks =
       let past = past_now wire.frames.items in
       let sent = sent_of it.next.frame in
@@ -107,13 +107,13 @@ module _ {talk : Talk} {wire : Wire} {x y : Half} {key : Key} where
       → Talks talk wire x y → Talks talk new (moved x) (advanced y)
   ack_more-talks new {given} holds it is more sends released talks =
       let longer = extends wire new y.end y.sender.id (part_now (side_of (advanced y))) given holds.go sends tt released in
-      subst (λ p. Talked x.end y.end talk (cursor_of (moved x) y) p (side_of x) (acknowledged (side_of y))) (sym longer.past)
+      subst (λ p. TellsTalk x.end y.end talk (cursor_of (moved x) y) p (side_of x) (acknowledged (side_of y))) (sym longer.past)
       (ack_more-told given holds it is more talks)
 
   -- ---- data, by its answer
 
   copied-told : (given : FateValue) → (heard : DataHeard wire x y key Repeated) → Talks talk wire x y
-      → Talked x.end y.end talk (cursor_of (moved x) y) (ack_frame y.end key (course_of given) ∷ past_now wire.frames.items) (side_of x) (side_of y)
+      → TellsTalk x.end y.end talk (cursor_of (moved x) y) (ack_frame y.end key (course_of given) ∷ past_now wire.frames.items) (side_of x) (side_of y)
   copied-told given heard talks =
       let holds = heard.holds in
       let old = record y { receiver = heard.before } in
@@ -123,7 +123,7 @@ module _ {talk : Talk} {wire : Wire} {x y : Half} {key : Key} where
       let last : heard.before.last ≡ Some sent.key = heard.answers ∙ ap Some (sym heard.key_is) in
       let copy = copy_is holds.line.core (omega arith) (omega (arith, at_head.inside)) at_head.here heard.is last in
       let core = after_heard heard (course_of given) in
-      let told : Talked x.end y.end talk (cursor_of (moved x) y) (ack_frame y.end sent.key (course_of given) ∷ past) (side_of x) (side_of y) = record {
+      let told : TellsTalk x.end y.end talk (cursor_of (moved x) y) (ack_frame y.end sent.key (course_of given) ∷ past) (side_of x) (side_of y) = record {
         fx = holds.fx;
         fy = holds.fy;
         there = core.there.follows;
@@ -140,14 +140,14 @@ module _ {talk : Talk} {wire : Wire} {x y : Half} {key : Key} where
             (heard_beside y.end (ack_frame y.end sent.key (course_of given)) past holds.fy (side_of y) holds.line.core.back.cur_in
             (ack_is_no_data y.end y.end sent.key (course_of given)) (y_heard_now holds talks));
       } in
-      subst (λ k. Talked x.end y.end talk (cursor_of (moved x) y) (ack_frame y.end k (course_of given) ∷ past) (side_of x) (side_of y)) heard.key_is told
+      subst (λ k. TellsTalk x.end y.end talk (cursor_of (moved x) y) (ack_frame y.end k (course_of given) ∷ past) (side_of x) (side_of y)) heard.key_is told
 
   accepted-told : {taken : Taken} {whole : Bool} (given : FateValue) {sender : SenderValue} → (heard : DataHeard wire x y key taken)
       → Accepting x.end y.end (past_now wire.frames.items) y.taken (x.taken + 1) (side_of x) (side_of y) x.receiver heard.before (sent_of heard.next.frame).key
       (sent_of heard.next.frame).bytes taken whole
       → heard.holds.fx ≡ true → sender ≡ record y.sender { acknowledged = sender.acknowledged } → piece_count sender.length ≤ sender.acknowledged
       → Talks talk wire x y
-      → Talked x.end y.end talk (cursor_of (moved x) y) (ack_frame y.end key (course_of given) ∷ past_now wire.frames.items) (side_of x)
+      → TellsTalk x.end y.end talk (cursor_of (moved x) y) (ack_frame y.end key (course_of given) ∷ past_now wire.frames.items) (side_of x)
       (side_of (record y { sender = sender }))
   accepted-told given {sender} heard accepting fresh rest idle talks =
       let holds = heard.holds in
@@ -158,7 +158,7 @@ module _ {talk : Talk} {wire : Wire} {x y : Half} {key : Key} where
       let k = sender.acknowledged in
       let over : piece_count (length y.message) ≤ k = subst (λ n. piece_count n ≤ k) (ap (λ s. s.length) rest ∙ holds.y_half.length_is) idle in
       let core = accepting.core k (course_of given) over in
-      let told : Talked x.end y.end talk (cursor_of (moved x) y) (ack_frame y.end sent.key (course_of given) ∷ past)
+      let told : TellsTalk x.end y.end talk (cursor_of (moved x) y) (ack_frame y.end sent.key (course_of given) ∷ past)
       (side_of x) (record (side_of y) { acknowledged = k }) = record {
         fx = false;
         fy = false;
@@ -177,18 +177,18 @@ module _ {talk : Talk} {wire : Wire} {x y : Half} {key : Key} where
             (ack_is_no_data y.end y.end sent.key (course_of given))
             (subst (λ f. HeardOf y.end past y.taken f (side_of y)) (holds.line.core.one fresh) (y_heard_now holds talks)));
       } in
-      subst (λ s. Talked x.end y.end talk (cursor_of (moved x) y) (ack_frame y.end key (course_of given) ∷ past) (side_of x)
+      subst (λ s. TellsTalk x.end y.end talk (cursor_of (moved x) y) (ack_frame y.end key (course_of given) ∷ past) (side_of x)
       (side_of (record y { sender = s }))) (sym rest)
-      (subst (λ k'. Talked x.end y.end talk (cursor_of (moved x) y) (ack_frame y.end k' (course_of given) ∷ past) (side_of x)
+      (subst (λ k'. TellsTalk x.end y.end talk (cursor_of (moved x) y) (ack_frame y.end k' (course_of given) ∷ past) (side_of x)
       (record (side_of y) { acknowledged = k })) heard.key_is told)
 
   -- data is acknowledged
   pub took_data-told : (taken : Taken) (given : FateValue) (sender : SenderValue) → DataHeard wire x y key taken → NewSender taken y.sender sender
       → Talks talk wire x y
-      → Talked x.end y.end talk (cursor_of (moved x) y) (ack_frame y.end key (course_of given) ∷ past_now wire.frames.items) (side_of x)
+      → TellsTalk x.end y.end talk (cursor_of (moved x) y) (ack_frame y.end key (course_of given) ∷ past_now wire.frames.items) (side_of x)
       (side_of (record y { sender = sender }))
   took_data-told Repeated given sender heard same talks =
-      subst (λ s. Talked x.end y.end talk (cursor_of (moved x) y) (ack_frame y.end key (course_of given) ∷ past_now wire.frames.items) (side_of x)
+      subst (λ s. TellsTalk x.end y.end talk (cursor_of (moved x) y) (ack_frame y.end key (course_of given) ∷ past_now wire.frames.items) (side_of x)
       (side_of (record y { sender = s }))) (sym same) (copied-told given heard talks)
   took_data-told Accepted given sender heard idle talks = accepted-told given heard ((after_heard heard).1) ((after_heard heard).0) idle.0 idle.1 talks
   took_data-told Whole given sender heard idle talks = accepted-told given heard ((after_heard heard).1) ((after_heard heard).0) idle.0 idle.1 talks
@@ -199,5 +199,5 @@ module _ {talk : Talk} {wire : Wire} {x y : Half} {key : Key} where
       → Talks talk wire x y → Talks talk new (moved x) (record y { sender = sender })
   took_data-talks new {taken} {given} sender heard after sends released talks =
       let longer = extends wire new y.end key.id (ack_fragment key) given heard.holds.go sends tt released in
-      subst (λ p. Talked x.end y.end talk (cursor_of (moved x) y) p (side_of x) (side_of (record y { sender = sender }))) (sym longer.past)
+      subst (λ p. TellsTalk x.end y.end talk (cursor_of (moved x) y) p (side_of x) (side_of (record y { sender = sender }))) (sym longer.past)
       (took_data-told taken given sender heard after talks)

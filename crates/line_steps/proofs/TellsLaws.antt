@@ -1,9 +1,9 @@
 -- What the frames of a line tell both ends.
 use Rattle.line_steps.proofs.Names.{◌≡◌, ℕ, ◌≤◌, false, List, [], ◌∷◌, ◌++◌, length, map, reverse, sym, ap, subst, ◌∙◌, arith, inl, inr, append-nil, map-append}
-use Rattle.line_steps.proofs.Names.{length-map, End, Frame, past_of, came_in, spoken, session_parts, at, Told, IsStoryOf, IsStory, Talk, messages_of}
+use Rattle.line_steps.proofs.Names.{length-map, End, Frame, past_of, came_in, spoken, session_parts, at, IdMessage, IsStoryOf, IsStory, Talk, messages_of}
 use Rattle.line_steps.proofs.Names.{frame_value, Side, CameByCursor, heard, left, Speech, IsByCursor, came_in-is, unsaid-none, RuleValue, Half, Wire, Stop}
 use Rattle.line_steps.proofs.Names.{Halt, NoMemory, Stopped, Down, is_aborted, EndsWith, HaltsBy, TellsOf, HaltedTells, TurnTellsAll, past_now, side_of}
-use Rattle.line_steps.proofs.Names.{HeardOf, TookMessages, cursor_of, Recorded}
+use Rattle.line_steps.proofs.Names.{HeardOf, TookMessages, cursor_of, RecordsFrames}
 use Rattle.line_steps.proofs.FrameLaws.{length-past}
 use Rattle.line_steps.proofs.ProperLaws.{whole_go, last_by}
 use Rattle.line_steps.proofs.TalkedLaws.{cursor_own, cursor_other, x_heard_as, y_heard_as}
@@ -27,15 +27,15 @@ by_halt (Stopped stop) cursor frames by came = by_end cursor by came
 by_halt (Down end) cursor frames by came = came_in-is cursor (map frame_value frames) (whole_go 1 frames by.0) came
 
 -- so what was taken is told by the frames
-is_told : {X : End} (cursor : End → ℕ) (frames : List Frame) {story : List Told} → IsByCursor cursor (came_in (map frame_value frames)) (past_now frames)
+is_told : {X : End} (cursor : End → ℕ) (frames : List Frame) {story : List IdMessage} → IsByCursor cursor (came_in (map frame_value frames)) (past_now frames)
     → cursor X ≤ length (past_now frames) → IsStoryOf (reverse (heard X (at (cursor X) (past_now frames)))) story
     → IsStory X (map frame_value frames) story
 is_told cursor frames {story} is inside told =
     subst (λ ps. IsStoryOf (reverse ps) story) (sym (taken_heard cursor (past_now frames) is inside)) told
 
 -- so do those of a line that halted
-pub halted_story : (halt : Halt) {script : List RuleValue} {wire : Wire} {x y : Half} (X : End) {story : List Told}
-    → HaltsBy halt (cursor_of x y) wire.frames.items → Recorded script wire x y → cursor_of x y X ≤ length (past_now wire.frames.items)
+pub halted_story : (halt : Halt) {script : List RuleValue} {wire : Wire} {x y : Half} (X : End) {story : List IdMessage}
+    → HaltsBy halt (cursor_of x y) wire.frames.items → RecordsFrames script wire x y → cursor_of x y X ≤ length (past_now wire.frames.items)
     → IsStoryOf (reverse (heard X (at (cursor_of x y X) (past_now wire.frames.items)))) story → IsStory X (map frame_value wire.frames.items) story
 halted_story halt {wire} {x} {y} X by recorded inside told =
     is_told (cursor_of x y) wire.frames.items (by_halt halt (cursor_of x y) wire.frames.items by recorded.came) inside told

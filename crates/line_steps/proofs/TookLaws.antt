@@ -3,7 +3,7 @@ use Rattle.line_steps.proofs.Names.{common_steps, rules, ◌≡◌, ◌⊎◌, �
 use Rattle.line_steps.proofs.Names.{take, drop, reverse, refl, sym, ap, subst, ◌∙◌, arith, inl, inr, nat_eq, cases_lt, cond-false, both_ways, eq-eqb, ne_eqb}
 use Rattle.line_steps.proofs.Names.{append_assoc, append-nil, length-append, length-map, length-reverse, drop-append-le, length-map-range_with_len, has_flag}
 use Rattle.line_steps.proofs.Names.{session_id, piece_count, pieces, piece_of, piece_flags, fragment_of, flag_last, End, comes, data_comes, Part, add_part}
-use Rattle.line_steps.proofs.Names.{part_of, taken, message_parts, session_parts, Sent, is_end, at, is_data_of, Told, told_parts, IsStoryOf, Talk, messages_of}
+use Rattle.line_steps.proofs.Names.{part_of, taken, message_parts, session_parts, PastFrame, is_end, at, is_data_of, IdMessage, told_parts, IsStoryOf, Talk, messages_of}
 use Rattle.line_steps.proofs.Names.{pieces_before, heard, part_at, same_end, stays_in, leaves, IsByCursor, some_pieces, at_push, at_all, parts-from}
 use Rattle.line_steps.proofs.Names.{TookMessages, told_from}
 
@@ -13,14 +13,14 @@ and_none : (b : Bool) → (b && false) ≡ false
 and_none true = refl
 and_none false = refl
 
-newest_is : (cursor : End → ℕ) {came : ℕ → Bool} (frame : Sent) (past : List Sent) → IsByCursor cursor came (frame ∷ past)
+newest_is : (cursor : End → ℕ) {came : ℕ → Bool} (frame : PastFrame) (past : List PastFrame) → IsByCursor cursor came (frame ∷ past)
     → came (length past + 1) ≡ (comes frame.course && leb (length past + 1) (cursor frame.from))
 newest_is cursor frame past is = search rules
 
-older_is : (cursor : End → ℕ) {came : ℕ → Bool} (frame : Sent) (past : List Sent) → IsByCursor cursor came (frame ∷ past) → IsByCursor cursor came past
+older_is : (cursor : End → ℕ) {came : ℕ → Bool} (frame : PastFrame) (past : List PastFrame) → IsByCursor cursor came (frame ∷ past) → IsByCursor cursor came past
 older_is cursor frame past is n found older le there = is n found older (omega (arith, le)) (at_push frame past le ∙ there)
 
-taken_within : {X : End} (cursor : End → ℕ) {came : ℕ → Bool} (past : List Sent) → IsByCursor cursor came past → length past ≤ cursor X
+taken_within : {X : End} (cursor : End → ℕ) {came : ℕ → Bool} (past : List PastFrame) → IsByCursor cursor came past → length past ≤ cursor X
     → taken X came past ≡ heard X past
 taken_within cursor [] is inside = refl
 taken_within {X} cursor {came} (frame ∷ past) is inside =
@@ -35,7 +35,7 @@ taken_within {X} cursor {came} (frame ∷ past) is inside =
           ap (λ b. cond ((b && frame.is_data) && came (length past + 1)) (add_part (part_of frame) (taken X came past)) (taken X came past)) other
           ∙ (later ∙ ap (λ b. cond ((b && frame.is_data) && comes frame.course) (add_part (part_of frame) (heard X past)) (heard X past)) (sym other))
 
-pub taken_heard : {X : End} (cursor : End → ℕ) {came : ℕ → Bool} (past : List Sent) → IsByCursor cursor came past → cursor X ≤ length past
+pub taken_heard : {X : End} (cursor : End → ℕ) {came : ℕ → Bool} (past : List PastFrame) → IsByCursor cursor came past → cursor X ≤ length past
     → taken X came past ≡ heard X (at (cursor X) past)
 taken_heard {X} cursor [] is inside = ap (heard X) (sym (ap (λ k. at k []) (none (cursor X) inside) ∙ at_all [])) where
   none : (k : ℕ) → k ≤ 0 → k ≡ 0
@@ -100,7 +100,7 @@ abbrev pub Tells : ℕ → List (List ℕ) → List Part → Type 0
 Tells number messages front =
     IsStoryOf front (told_from number messages) ⊎ ((0 < length messages) × IsStoryOf front (told_from number (take (length messages - 1) messages)))
 
-one_more : (number : ℕ) {message : List ℕ} {story : List Told} {front behind : List Part} → front ≡ message_parts (session_id number) message ++ behind
+one_more : (number : ℕ) {message : List ℕ} {story : List IdMessage} {front behind : List Part} → front ≡ message_parts (session_id number) message ++ behind
     → IsStoryOf behind story → IsStoryOf front (record { id = session_id number; message = message } ∷ story)
 one_more number is told = grind (arith, common_steps)
 
@@ -150,7 +150,7 @@ tells number (message ∷ next ∷ later) front rest same most =
     ]
 
 -- of the messages of X
-pub took_tells : {X : End} {talk : Talk} {past : List Sent} {cx : ℕ} → TookMessages X talk past cx
+pub took_tells : {X : End} {talk : Talk} {past : List PastFrame} {cx : ℕ} → TookMessages X talk past cx
     → Tells 0 (messages_of X talk) (reverse (heard X (at cx past)))
 took_tells {X} {talk} {past} {cx} took =
     tells 0 (messages_of X talk) (reverse (heard X (at cx past))) took.rest took.is (omega (arith, took.most, length-reverse (heard X (at cx past))))
@@ -177,7 +177,7 @@ no_parts : (parts : List Part) → length parts ≡ 0 → parts ≡ []
 no_parts [] none = refl
 no_parts (part ∷ parts) none = absurd (omega (arith, none))
 
-pub took_whole : {X : End} {talk : Talk} {past : List Sent} {cx : ℕ} → TookMessages X talk past cx
+pub took_whole : {X : End} {talk : Talk} {past : List PastFrame} {cx : ℕ} → TookMessages X talk past cx
     → pieces_before (messages_of X talk) (length (messages_of X talk)) ≤ length (heard X (at cx past))
     → IsStoryOf (reverse (heard X (at cx past))) (told_from 0 (messages_of X talk))
 took_whole {X} {talk} {past} {cx} took whole =
@@ -186,7 +186,7 @@ took_whole {X} {talk} {past} {cx} took whole =
     let none = no_parts took.rest (omega (arith, sum, whole, length-reverse (heard X (at cx past)))) in
     all_told 0 (messages_of X talk) (sym (append-nil front) ∙ (ap (λ ps. front ++ ps) (sym none) ∙ took.is))
 
-pub took_but : {X : End} {talk : Talk} {past : List Sent} {cx : ℕ} → TookMessages X talk past cx
+pub took_but : {X : End} {talk : Talk} {past : List PastFrame} {cx : ℕ} → TookMessages X talk past cx
     → length (heard X (at cx past)) < pieces_before (messages_of X talk) (length (messages_of X talk))
     → IsStoryOf (reverse (heard X (at cx past))) (told_from 0 (take (length (messages_of X talk) - 1) (messages_of X talk)))
 took_but {X} {talk} {past} {cx} took short = elim (took_tells took) [

@@ -1,9 +1,9 @@
 -- A message stays on its way until it is whole.
 use Rattle.line_steps.proofs.Names.{rules, ◌≡◌, ℕ, ◌+◌, ◌<◌, ◌≤◌, Bool, true, false, List, [], ◌∷◌, length, Some, None, refl, sym, ap, subst, ◌∙◌, arith}
 use Rattle.line_steps.proofs.Names.{both_ways, eqb-false, Key, Taken, Accepted, Whole, Repeated, Dropped, piece_count, ReceiverValue, SenderValue}
-use Rattle.line_steps.proofs.Names.{Waits, waiting_key, FateValue, course_of, Sent, said, acked, Apart, Waiting, Follows, Core, part_now, ack_frame}
+use Rattle.line_steps.proofs.Names.{Waits, waiting_key, FateValue, course_of, PastFrame, said, acked, Apart, Waiting, Follows, Core, part_now, ack_frame}
 use Rattle.line_steps.proofs.Names.{running_starts, turned, acknowledged, beginning, matched, take_ack, Active, active_begun, active_taken, active_goes_on}
-use Rattle.line_steps.proofs.Names.{Half, Wire, Heard, Nothing, Ack, sent_of, past_now, side_of, IsHalf, AllGo, Holds, Heeded, AllTaken, Sends, ack_fragment}
+use Rattle.line_steps.proofs.Names.{Half, Wire, Heard, Nothing, Ack, sent_of, past_now, side_of, IsHalf, AllGo, Holds, MovesReceiver, AllTaken, Sends, ack_fragment}
 use Rattle.line_steps.proofs.Names.{AckNext, DataHeard, KeepsTalk, SendsAgain, Turn, Underway, StillUnderway}
 use Rattle.line_laws.proofs.StepLaws.{again as once_more}
 use Rattle.line_steps.specs.declared.hearing.Heard.TheVariants.{Data}
@@ -26,7 +26,7 @@ active_of holds it = search rules
 back_of : {wire : Wire} {x y : Half} → (holds : Holds wire x y) → Underway wire y x → Active holds.fy (side_of y)
 back_of holds it = search rules
 
-underway : {wire : Wire} {x y : Half} {past : List Sent} {fx : Bool} → past_now wire.frames.items ≡ past → Follows (said x.end past) (acked y.end past) fx
+underway : {wire : Wire} {x y : Half} {past : List PastFrame} {fx : Bool} → past_now wire.frames.items ≡ past → Follows (said x.end past) (acked y.end past) fx
     → Active fx (side_of x) → Underway wire x y
 underway same follows active = search rules
 
@@ -37,7 +37,7 @@ none_fresh false said acked follows all = refl
 none_fresh true said acked follows all = absurd (omega (arith, all, ap length follows.1))
 
 -- so it is behind more frames, while x waits
-all_taken : {wire new : Wire} {x y later_x later_y : Half} {past : List Sent} {fresh : Bool} → Waiting (side_of later_x) → AllTaken wire x y → fresh ≡ false
+all_taken : {wire new : Wire} {x y later_x later_y : Half} {past : List PastFrame} {fresh : Bool} → Waiting (side_of later_x) → AllTaken wire x y → fresh ≡ false
     → past_now new.frames.items ≡ past → Follows (said later_x.end past) (acked later_y.end past) fresh
     → side_of later_x ≡ side_of x → side_of later_y ≡ side_of y → AllTaken new later_x later_y
 all_taken waits it none same follows x_same y_same = search rules
@@ -173,7 +173,7 @@ module _ {wire new : Wire} {x y : Half} {key : Key} {sender : SenderValue} where
   took_data-underway Dropped given heard none sends released = absurd none
 
 -- an end heeds what it hears first
-pub heeded-underway : {heard : Heard} {wire : Wire} {x y h : Half} {new : Wire} {later_x later_y : Half} → Heeded y h
+pub heeded-underway : {heard : Heard} {wire : Wire} {x y h : Half} {new : Wire} {later_x later_y : Half} → MovesReceiver y h
     → StillUnderway heard wire x h new later_x later_y → StillUnderway heard wire x y new later_x later_y
 heeded-underway {heard} {wire} {x} {new} {later_x} {later_y} heeded still =
     let now = subst (λ k. StillUnderway heard wire x k new later_x later_y) heeded still in

@@ -1,9 +1,9 @@
 -- Each step leaves less to do.
 use Rattle.line_steps.proofs.Names.{rules, ◌≡◌, ◌⊎◌, inl, inr, ℕ, suc, ◌+◌, ◌<◌, ◌≤◌, true, false, ◌&&◌, List, ◌∷◌, length, Some, None, sym, ap, subst, ◌∙◌}
 use Rattle.line_steps.proofs.Names.{arith, Key, Taken, Accepted, Whole, Repeated, Dropped, piece_count, SenderValue, Waits, waiting_key, End, FateValue}
-use Rattle.line_steps.proofs.Names.{course_of, Sent, is_end, is_data_of, Apart, Waiting, key_now, part_now, data_frame, ack_frame, measure, acknowledged}
+use Rattle.line_steps.proofs.Names.{course_of, PastFrame, is_end, is_data_of, Apart, Waiting, key_now, part_now, data_frame, ack_frame, measure, acknowledged}
 use Rattle.line_steps.proofs.Names.{rest-idle, measure_passes, measure_copy, measure_newest, measure_last_ack, measure_next_piece, measure_again, Half, Wire}
-use Rattle.line_steps.proofs.Names.{sent_of, past_now, side_of, IsHalf, AllGo, Holds, Read, Sends, ack_fragment, AckNext, DataHeard, SendsAgain, work_left}
+use Rattle.line_steps.proofs.Names.{sent_of, past_now, side_of, IsHalf, AllGo, Holds, MovesReader, Sends, ack_fragment, AckNext, DataHeard, SendsAgain, work_left}
 use Rattle.line_steps.proofs.DataLaws.{NewSender}
 use Rattle.line_steps.proofs.FrameLaws.{length-past}
 use Rattle.line_steps.proofs.HoldsLaws.{moved}
@@ -16,7 +16,7 @@ other_data : {X Y : End} → Apart X Y → (key : Key) (bytes : List ℕ) (cours
 other_data apart key bytes course = ap (λ b. b && true) apart.there
 
 -- a frame is passed, and the reader of the other end may read
-pub skip_less : {wire : Wire} {x y new : Half} → Holds wire x y → x.taken < length wire.frames.items → Read y new
+pub skip_less : {wire : Wire} {x y new : Half} → Holds wire x y → x.taken < length wire.frames.items → MovesReader y new
     → work_left wire (moved x) new < work_left wire x y
 skip_less {wire} {x} {y} holds inside read =
     let past = past_now wire.frames.items in
@@ -59,10 +59,10 @@ pub took_data-less : {wire : Wire} (new : Wire) {x y : Half} {key : Key} {taken 
     → new.released ≡ wire.released
     → work_left new (moved x) (record y { sender = sender }) < work_left wire x y
 took_data-less {wire} new {x} {y} {key} {taken} given sender heard after sends released = go taken after where
-  past : List Sent
+  past : List PastFrame
   past = past_now wire.frames.items
 
-  sent : Sent
+  sent : PastFrame
   sent = sent_of heard.next.frame
 
   longer : Extends wire new (sends_in y.end key.id (ack_fragment key) given)
@@ -150,5 +150,5 @@ tick_two-less {wire} {first} {new} {r} {x} {y} {x_later} {y_later} {given} {othe
     omega (arith, one, two_later, work_turned new x_later y_later, work_turned first x_later y)
 
 pub skips_less : {wire : Wire} (x0 y0 : Half) {x y new : Half} → Holds wire x y → work_left wire x y ≤ work_left wire x0 y0 → x.taken < length wire.frames.items
-    → Read y new → work_left wire (moved x) new ≤ work_left wire x0 y0
+    → MovesReader y new → work_left wire (moved x) new ≤ work_left wire x0 y0
 skips_less x0 y0 holds before inside read = omega (arith, before, skip_less holds inside read)

@@ -7,7 +7,7 @@ use Rattle.line_script.specs.Rules.{RuleValue}
 use Rattle.line_script.specs.Scripts.{fate_by}
 
 -- one frame more, with the next number and this fate, that didn't come yet
-pub record Added (given : FateValue) (old new : List Frame) : Type 0 where
+pub record AddsFrame (given : FateValue) (old new : List Frame) : Type 0 where
   pub frame : Frame
   pub is : new ≡ old ++ frame ∷ []
   pub number_is : frame.number ≡ length old + 1
@@ -16,12 +16,12 @@ pub record Added (given : FateValue) (old new : List Frame) : Type 0 where
 
 -- one or none
 abbrev pub AddsOne : FateValue → List Frame → List Frame → Type 0
-AddsOne given old new = (new ≡ old) ⊎ Added given old new
+AddsOne given old new = (new ≡ old) ⊎ AddsFrame given old new
 
 -- two, one or none
 abbrev pub AddsTwo : FateValue → FateValue → List Frame → List Frame → Type 0
 AddsTwo given other old new =
-    AddsOne given old new ⊎ (mid : List Frame) × Added given old mid × Added other mid new
+    AddsOne given old new ⊎ (mid : List Frame) × AddsFrame given old mid × AddsFrame other mid new
 
 -- the first frame more, before any others, is of this end
 pub record StartsWith (X : End) (old new : List Frame) : Type 0 where

@@ -4,7 +4,7 @@ use Rattle.padp_link.specs.Receivers.{whole_of}
 use Rattle.padp_link.specs.Senders.{Waits}
 use Rattle.padp_link.specs.declared.receiver.Taken.TheVariants.{Whole}
 use Rattle.trace_text.specs.TraceLines.{frame_value}
-use Rattle.line_laws.specs.Progress.{Blocked}
+use Rattle.line_laws.specs.Progress.{IsBlocked}
 use Rattle.line_steps.specs.declared.carrying.Next.{Next}
 use Rattle.line_steps.specs.declared.carrying.Next.TheVariants.{Own, Other, Nothing}
 use Rattle.line_steps.specs.declared.half.Half.{Half}
@@ -28,7 +28,7 @@ pub record SameMessage (old new : Half) : Type 0 where
 
 -- y has the message of x, which it may answer, and sent the acknowledgement of its last piece last;
 -- x waits for that
-pub record Carried (wire : Wire) (x y : Half) : Type 0 where
+pub record HasMessage (wire : Wire) (x y : Half) : Type 0 where
   pub turn : Turn wire y x
   pub waits : Waits x.sender
   pub message : whole_of y.receiver.pieces ≡ Some x.message
@@ -37,7 +37,7 @@ pub record Carried (wire : Wire) (x y : Half) : Type 0 where
 
 -- the message is over, or on its way still
 abbrev pub Reaches : Bool → Wire → Half → Half → Type 0
-Reaches true wire x y = Carried wire x y
+Reaches true wire x y = HasMessage wire x y
 Reaches false wire x y = Underway wire x y
 
 -- A step while x waits leaves less to do. Where a message is on its way, it may be over; and what
@@ -61,10 +61,10 @@ makes_whole heard = false
 abbrev pub IsNext : Wire → Half → Half → Next → Type 0
 IsNext wire x y Own =
     Delivers x.end wire x.taken
-    × (Blocked y.end (past_now wire.frames.items) y.taken wire.released ⊎ (x.taken < y.taken))
+    × (IsBlocked y.end (past_now wire.frames.items) y.taken wire.released ⊎ (x.taken < y.taken))
 IsNext wire x y Other =
     Delivers y.end wire y.taken
-    × (Blocked x.end (past_now wire.frames.items) x.taken wire.released ⊎ (y.taken ≤ x.taken))
+    × (IsBlocked x.end (past_now wire.frames.items) x.taken wire.released ⊎ (y.taken ≤ x.taken))
 IsNext wire x y Nothing =
-    Blocked x.end (past_now wire.frames.items) x.taken wire.released
-    × Blocked y.end (past_now wire.frames.items) y.taken wire.released
+    IsBlocked x.end (past_now wire.frames.items) x.taken wire.released
+    × IsBlocked y.end (past_now wire.frames.items) y.taken wire.released

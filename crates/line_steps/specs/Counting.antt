@@ -32,7 +32,7 @@ Lands n wire old new =
     → new.reader.tally ≡ landed (frame_value frame) old.reader.tally
 
 -- both readers counted all that was taken off the line for them, and nothing else
-pub record Counted (wire : Wire) (x y : Half) : Type 0 where
+pub record CountsTaken (wire : Wire) (x y : Half) : Type 0 where
   pub by_y : y.reader.tally ≡ counts x.end x.taken wire.frames.items (record {
     bytes = 0;
     packets = 0;

@@ -7,7 +7,7 @@ use Rattle.trace_text.specs.declared.frame.Frame.{Frame}
 use Rattle.trace_text.specs.Fates.{FateValue, fate_value}
 use Rattle.trace_text.specs.Faults.{faulted, count, RepeatsHaveFaults}
 use Rattle.trace_text.specs.Frames.{BearsFragment, fragment_in, is_abort}
-use Rattle.trace_text.specs.Past.{Sent, first, said, run, at}
+use Rattle.trace_text.specs.Past.{PastFrame, first, said, run, at}
 use Rattle.trace_text.specs.Proper.{SpeaksProperly}
 use Rattle.trace_text.specs.Talks.{Talk}
 use Rattle.trace_text.specs.TraceLines.{frame_value}
@@ -26,7 +26,7 @@ use Rattle.line_steps.specs.Stories.{TookMessages}
 use Rattle.line_steps.specs.Telling.{cursor_of, Talks}
 
 -- ten faults stand among the last 54 frames
-abbrev pub TenFaults : List Sent → Type 0
+abbrev pub TenFaults : List PastFrame → Type 0
 TenFaults past =
     (first_one : ℕ) × (0 < first_one) × (length past < first_one + 54)
     × (10 + count faulted (at (first_one - 1) past) ≤ count faulted past)
@@ -37,7 +37,7 @@ other_end Desktop = Handheld
 
 -- The last ten data frames of X bear one key, no acknowledgement of it behind the first of them was
 -- taken, and ten faults stand among the last frames.
-pub record IsSpent (X : End) (cursor : End → ℕ) (past : List Sent) : Type 0 where
+pub record IsSpent (X : End) (cursor : End → ℕ) (past : List PastFrame) : Type 0 where
   pub key : Key
   pub newest : first (said X past) ≡ Some key
   pub ten : run X past ≡ 10
@@ -70,7 +70,7 @@ HaltsBy (Down end) cursor frames = AllGo 1 frames × IsSpent end cursor (past_no
 
 -- both ends said and took their messages by the rules of a proper trace, and the cursors stand
 -- within it
-pub record Spoken (X Y : End) (talk : Talk) (cursor : End → ℕ) (past : List Sent) : Type 0 where
+pub record HasProperPast (X Y : End) (talk : Talk) (cursor : End → ℕ) (past : List PastFrame) : Type 0 where
   pub faults : RepeatsHaveFaults past
   pub x_speaks : SpeaksProperly X Y talk (came_by cursor past) past
   pub y_speaks : SpeaksProperly Y X talk (came_by cursor past) past
@@ -80,10 +80,10 @@ pub record Spoken (X Y : End) (talk : Talk) (cursor : End → ℕ) (past : List 
   pub y_took : TookMessages Y talk past (cursor Y)
 
 abbrev pub Spoke : Talk → Wire → Half → Half → Type 0
-Spoke talk wire x y = Spoken x.end y.end talk (cursor_of x y) (past_now wire.frames.items)
+Spoke talk wire x y = HasProperPast x.end y.end talk (cursor_of x y) (past_now wire.frames.items)
 
 -- a run halted on the way from one state to another
-pub record Halted (halt : Halt) (wire : Wire) (x y : Half) (new : Wire)
+pub record HaltsBetween (halt : Halt) (wire : Wire) (x y : Half) (new : Wire)
     (later_x later_y : Half) : Type 0 where
   pub x_end : later_x.end ≡ x.end
   pub y_end : later_y.end ≡ y.end

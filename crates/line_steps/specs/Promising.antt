@@ -17,14 +17,14 @@ use Rattle.line_steps.specs.Adding.{AllBy}
 use Rattle.line_steps.specs.Halting.{HaltsBy, IsSpent, Spoke}
 use Rattle.line_steps.specs.Running.{past_now, AllGo, Holds}
 use Rattle.line_steps.specs.Stories.{told_from}
-use Rattle.line_steps.specs.Telling.{cursor_of, Talks, Recorded}
+use Rattle.line_steps.specs.Telling.{cursor_of, Talks, RecordsFrames}
 use Rattle.line_steps.specs.Turning.{Turn}
 
 -- the frames of a running line are a proper trace
 abbrev pub RunningIsProper : Type 0
 RunningIsProper =
     (script : List RuleValue) (talk : Talk) (wire : Wire) (x y : Half) → x.end ≡ Handheld
-    → Holds wire x y → Talks talk wire x y → Recorded script wire x y
+    → Holds wire x y → Talks talk wire x y → RecordsFrames script wire x y
     → IsProper (fate_by script) talk (map frame_value wire.frames.items)
 
 -- so are those of a line that halted, for whatever reason
@@ -33,7 +33,7 @@ HaltedIsProper =
     (halt : Halt) (script : List RuleValue) (talk : Talk) (wire : Wire) (x y : Half)
     → x.end ≡ Handheld → y.end ≡ Desktop
     → HaltsBy halt (cursor_of x y) wire.frames.items → Spoke talk wire x y
-    → Recorded script wire x y
+    → RecordsFrames script wire x y
     → IsProper (fate_by script) talk (map frame_value wire.frames.items)
 
 -- over a script that is fair up to the last of its frames no line goes down
@@ -55,7 +55,7 @@ abbrev pub HaltedTells : Type 0
 HaltedTells =
     (halt : Halt) (script : List RuleValue) (talk : Talk) (wire : Wire) (x y : Half)
     → HaltsBy halt (cursor_of x y) wire.frames.items → Spoke talk wire x y
-    → Recorded script wire x y
+    → RecordsFrames script wire x y
     → TellsOf x.end (messages_of x.end talk) (map frame_value wire.frames.items)
     × TellsOf y.end (messages_of y.end talk) (map frame_value wire.frames.items)
 
@@ -63,6 +63,6 @@ HaltedTells =
 abbrev pub TurnTellsAll : Type 0
 TurnTellsAll =
     (script : List RuleValue) (talk : Talk) (wire : Wire) (x y : Half) → Turn wire x y
-    → Talks talk wire x y → Recorded script wire x y
+    → Talks talk wire x y → RecordsFrames script wire x y
     → IsStory x.end (map frame_value wire.frames.items) (told_from 0 (messages_of x.end talk))
     × IsStory y.end (map frame_value wire.frames.items) (told_from 0 (messages_of y.end talk))

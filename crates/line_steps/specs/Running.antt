@@ -5,18 +5,18 @@ use Rattle.trace_text.specs.declared.frame.End.{End}
 use Rattle.trace_text.specs.declared.frame.Frame.{Frame}
 use Rattle.trace_text.specs.Fates.{fate_value, arrives, ends_run}
 use Rattle.trace_text.specs.Frames.{BearsFragment, sent_in, past_of}
-use Rattle.trace_text.specs.Past.{Sent, is_end}
+use Rattle.trace_text.specs.Past.{PastFrame, is_end}
 use Rattle.trace_text.specs.TraceLines.{FrameValue, frame_value}
 use Rattle.line_laws.specs.Core.{Apart, Side}
 use Rattle.line_laws.specs.Line.{Line}
 use Rattle.line_steps.specs.declared.half.Half.{Half}
 use Rattle.line_steps.specs.declared.half.Wire.{Wire}
 
-abbrev pub sent_of : Frame → Sent
+abbrev pub sent_of : Frame → PastFrame
 sent_of frame = sent_in (frame_value frame)
 
 -- the frames so far, the newest first
-abbrev pub past_now : List Frame → List Sent
+abbrev pub past_now : List Frame → List PastFrame
 past_now frames = past_of (map frame_value frames)
 
 -- a frame of this number with which the run goes on
@@ -64,16 +64,16 @@ abbrev pub AtHead : End → List Frame → ℕ → Type 0
 AtHead X frames n = (n ≡ length frames) ⊎ ComesNext X frames n
 
 -- the cursor alone moved
-abbrev pub Moved : Half → Half → Type 0
-Moved old new = new ≡ record old { taken = new.taken }
+abbrev pub MovesCursor : Half → Half → Type 0
+MovesCursor old new = new ≡ record old { taken = new.taken }
 
 -- the reader alone read
-abbrev pub Read : Half → Half → Type 0
-Read old new = new ≡ record old { reader = new.reader }
+abbrev pub MovesReader : Half → Half → Type 0
+MovesReader old new = new ≡ record old { reader = new.reader }
 
 -- the receiver took something, too
-abbrev pub Heeded : Half → Half → Type 0
-Heeded old new = new ≡ record old { receiver = new.receiver; reader = new.reader }
+abbrev pub MovesReceiver : Half → Half → Type 0
+MovesReceiver old new = new ≡ record old { receiver = new.receiver; reader = new.reader }
 
 -- it is the same end with the same message
 pub record Stays (old new : Half) : Type 0 where

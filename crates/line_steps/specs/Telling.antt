@@ -6,7 +6,7 @@ use Rattle.padp_link.specs.Pieces.{piece_count}
 use Rattle.line_script.specs.Rules.{RuleValue}
 use Rattle.trace_text.specs.declared.frame.End.{End}
 use Rattle.trace_text.specs.declared.frame.End.TheVariants.{Handheld, Desktop}
-use Rattle.trace_text.specs.Past.{Sent, said, acked}
+use Rattle.trace_text.specs.Past.{PastFrame, said, acked}
 use Rattle.trace_text.specs.Talks.{Talk}
 use Rattle.trace_text.specs.TraceLines.{frame_value}
 use Rattle.line_laws.specs.Core.{Side, Follows}
@@ -16,7 +16,7 @@ use Rattle.line_steps.specs.declared.half.Half.{Half}
 use Rattle.line_steps.specs.declared.half.Wire.{Wire}
 use Rattle.line_steps.specs.Adding.{AllBy}
 use Rattle.line_steps.specs.Advancing.{took_count}
-use Rattle.line_steps.specs.Counting.{Counted}
+use Rattle.line_steps.specs.Counting.{CountsTaken}
 use Rattle.line_steps.specs.Running.{past_now, side_of}
 use Rattle.line_steps.specs.Stories.{HeardOf}
 
@@ -35,7 +35,7 @@ abbrev pub no_talk : Talk
 no_talk = record { handheld = []; desktop = [] }
 
 -- what both ends said of the messages of the talk, what each knows was taken, and what was
-pub record Talked (X Y : End) (talk : Talk) (cursor : End → ℕ) (past : List Sent)
+pub record TellsTalk (X Y : End) (talk : Talk) (cursor : End → ℕ) (past : List PastFrame)
     (x y : Side) : Type 0 where
   pub fx : Bool
   pub fy : Bool
@@ -47,7 +47,7 @@ pub record Talked (X Y : End) (talk : Talk) (cursor : End → ℕ) (past : List 
 
 abbrev pub Talks : Talk → Wire → Half → Half → Type 0
 Talks talk wire x y =
-    Talked x.end y.end talk (cursor_of x y) (past_now wire.frames.items) (side_of x) (side_of y)
+    TellsTalk x.end y.end talk (cursor_of x y) (past_now wire.frames.items) (side_of x) (side_of y)
 
 -- a step says no new message
 abbrev pub KeepsTalk : Wire → Half → Half → Wire → Half → Half → Type 0
@@ -56,7 +56,7 @@ KeepsTalk wire x y new later_x later_y =
 
 -- each frame has its number and the fate that the script gives it, and came exactly where it
 -- arrives and was taken
-pub record Recorded (script : List RuleValue) (wire : Wire) (x y : Half) : Type 0 where
+pub record RecordsFrames (script : List RuleValue) (wire : Wire) (x y : Half) : Type 0 where
   pub by : AllBy script 1 wire.frames.items
   pub came : CameByCursor 1 (cursor_of x y) (map frame_value wire.frames.items)
 
@@ -64,9 +64,9 @@ pub record Recorded (script : List RuleValue) (wire : Wire) (x y : Half) : Type 
 pub record KeepsAll (wire : Wire) (x y later_x later_y : Half) : Type 0 where
   pub talks : KeepsTalk wire x y wire later_x later_y
   pub took : took_count wire later_x ≡ took_count wire x
-  pub recorded : (script : List RuleValue) → Recorded script wire x y
-      → Recorded script wire later_x later_y
-  pub counted : Counted wire x y → Counted wire later_x later_y
+  pub recorded : (script : List RuleValue) → RecordsFrames script wire x y
+      → RecordsFrames script wire later_x later_y
+  pub counted : CountsTaken wire x y → CountsTaken wire later_x later_y
 
 -- What the next message of x answers: the other end's last one, or nothing, or for the first
 -- request the desktop's own greeting, where the other end waits for nothing.

@@ -16,7 +16,7 @@ use Rattle.line_steps.specs.Acknowledging.{EndsAcknowledging, last_key}
 use Rattle.line_steps.specs.Running.{past_now, AllGo, side_of, IsHalf}
 
 -- what holds of the line where all that was said is taken
-pub record Settled (wire : Wire) (x y : Half) : Type 0 where
+pub record IsAllTaken (wire : Wire) (x y : Half) : Type 0 where
   pub apart : Apart x.end y.end
   pub go : AllGo 1 wire.frames.items
   pub x_half : IsHalf x
@@ -27,7 +27,7 @@ pub record Settled (wire : Wire) (x y : Half) : Type 0 where
 -- x may begin its next message: it waits for nothing and knows that all its own was taken, and the
 -- other end's message is whole
 pub record Turn (wire : Wire) (x y : Half) : Type 0 where
-  pub settled : Settled wire x y
+  pub settled : IsAllTaken wire x y
   pub knows : length (said x.end (past_now wire.frames.items))
       ≤ length (acked y.end (at y.taken (past_now wire.frames.items)))
   pub idle : piece_count (length x.message) ≤ x.sender.acknowledged

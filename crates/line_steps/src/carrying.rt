@@ -2,18 +2,18 @@
 ghost use Rattle.std.specs.Prelude.{◌≡◌, ◌≤◌, OnOk, IfOk, IfErr, false, length};
 ghost use Rattle.padp_link.specs.Pieces.{piece_count};
 ghost use Rattle.padp_link.specs.Senders.{Waits};
-ghost use Rattle.line_laws.specs.Progress.{Blocked};
+ghost use Rattle.line_laws.specs.Progress.{IsBlocked};
 ghost use Rattle.trace_text.specs.Fates.{fate_value};
 ghost use Rattle.trace_text.specs.Talks.{Talk};
 ghost use Rattle.trace_text.specs.declared.frame.End.TheVariants.{Desktop};
 ghost use Rattle.line_steps.specs.Adding.{AddsTwo, IsFirst};
 ghost use Rattle.line_steps.specs.Advancing.{Advances, FallsShort, StandsStill};
-ghost use Rattle.line_steps.specs.Carrying.{Carried, SameMessage, StepTo, IsNext, makes_whole};
-ghost use Rattle.line_steps.specs.Counting.{Counted};
-ghost use Rattle.line_steps.specs.Halting.{Halted};
+ghost use Rattle.line_steps.specs.Carrying.{HasMessage, SameMessage, StepTo, IsNext, makes_whole};
+ghost use Rattle.line_steps.specs.Counting.{CountsTaken};
+ghost use Rattle.line_steps.specs.Halting.{HaltsBetween};
 ghost use Rattle.line_steps.specs.Rooms.{WantsRoom};
 ghost use Rattle.line_steps.specs.Running.{Holds, AtHead, AllGo, SamePlace, past_now};
-ghost use Rattle.line_steps.specs.Telling.{KeepsTalk, Recorded, Talks};
+ghost use Rattle.line_steps.specs.Telling.{KeepsTalk, RecordsFrames, Talks};
 ghost use Rattle.line_steps.specs.Turning.{Turn};
 ghost use Rattle.line_steps.specs.Underway.{Underway};
 
@@ -32,15 +32,15 @@ use trace_text::{End, Fate};
 pub fn carry(wire: &mut Wire, x: &mut Half, y: &mut Half, script: &Script) -> Result<(), Halt>
     requires holds { Holds wire.old x.old y.old }
     requires underway { Underway wire.old x.old y.old }
-    ensures recorded { Recorded script.now wire.old x.old y.old →
-        Recorded script.now wire.new x.new y.new }
-    ensures counted { Counted wire.old x.old y.old → Counted wire.new x.new y.new }
-    ensures carried { OnOk result (Carried wire.new x.new y.new) }
+    ensures recorded { RecordsFrames script.now wire.old x.old y.old →
+        RecordsFrames script.now wire.new x.new y.new }
+    ensures counted { CountsTaken wire.old x.old y.old → CountsTaken wire.new x.new y.new }
+    ensures carried { OnOk result (HasMessage wire.new x.new y.new) }
     ensures x_same { OnOk result (SameMessage x.old x.new) }
     ensures y_same { OnOk result (SameMessage y.old y.new) }
     ensures talks { OnOk result (KeepsTalk wire.old x.old y.old wire.new x.new y.new) }
     ensures halted { IfErr result
-        (λ halt. Halted halt wire.old x.old y.old wire.new x.new y.new) }
+        (λ halt. HaltsBetween halt wire.old x.old y.old wire.new x.new y.new) }
     ensures advances { Advances wire.old x.old y.old wire.new x.new y.new }
     ensures short { IfErr result (λ halt. (talk : Talk) → Talks talk wire.old x.old y.old →
         FallsShort halt talk wire.new x.new) }
@@ -57,9 +57,9 @@ pub fn carry(wire: &mut Wire, x: &mut Half, y: &mut Half, script: &Script) -> Re
 pub fn settle(wire: &mut Wire, x: &mut Half, y: &mut Half, script: &Script) -> Result<(), Halt>
     requires turn { Turn wire.old y.old x.old }
     requires waits { Waits x.old.sender }
-    ensures recorded { Recorded script.now wire.old x.old y.old →
-        Recorded script.now wire.new x.new y.new }
-    ensures counted { Counted wire.old x.old y.old → Counted wire.new x.new y.new }
+    ensures recorded { RecordsFrames script.now wire.old x.old y.old →
+        RecordsFrames script.now wire.new x.new y.new }
+    ensures counted { CountsTaken wire.old x.old y.old → CountsTaken wire.new x.new y.new }
     ensures turn { OnOk result (Turn wire.new x.new y.new) }
     ensures idle { OnOk result (piece_count (length y.new.message)
         ≤ y.new.sender.acknowledged) }
@@ -67,7 +67,7 @@ pub fn settle(wire: &mut Wire, x: &mut Half, y: &mut Half, script: &Script) -> R
     ensures y_same { OnOk result (SameMessage y.old y.new) }
     ensures talks { OnOk result (KeepsTalk wire.old x.old y.old wire.new x.new y.new) }
     ensures halted { IfErr result
-        (λ halt. Halted halt wire.old x.old y.old wire.new x.new y.new) }
+        (λ halt. HaltsBetween halt wire.old x.old y.old wire.new x.new y.new) }
     ensures room { WantsRoom result wire.old.frames wire.new.frames }
 {
     loop {
@@ -82,11 +82,11 @@ pub fn settle(wire: &mut Wire, x: &mut Half, y: &mut Half, script: &Script) -> R
 fn step(wire: &mut Wire, x: &mut Half, y: &mut Half, script: &Script) -> Result<bool, Halt>
     requires holds { Holds wire.old x.old y.old }
     requires waits { Waits x.old.sender }
-    ensures recorded { Recorded script.now wire.old x.old y.old →
-        Recorded script.now wire.new x.new y.new }
-    ensures counted { Counted wire.old x.old y.old → Counted wire.new x.new y.new }
+    ensures recorded { RecordsFrames script.now wire.old x.old y.old →
+        RecordsFrames script.now wire.new x.new y.new }
+    ensures counted { CountsTaken wire.old x.old y.old → CountsTaken wire.new x.new y.new }
     ensures halted { IfErr result
-        (λ halt. Halted halt wire.old x.old y.old wire.new x.new y.new) }
+        (λ halt. HaltsBetween halt wire.old x.old y.old wire.new x.new y.new) }
     ensures step { IfOk result (λ whole. StepTo whole wire.old x.old y.old wire.new x.new y.new) }
     ensures advances { Advances wire.old x.old y.old wire.new x.new y.new }
     ensures still { IfErr result (λ halt. StandsStill halt wire.old x.old wire.new x.new) }
@@ -103,11 +103,11 @@ fn deliver(wire: &mut Wire, x: &mut Half, y: &mut Half, script: &Script) -> Resu
     requires waits { Waits x.old.sender }
     requires x_head { AtHead x.old.end wire.old.frames.items x.old.taken }
     requires y_head { AtHead y.old.end wire.old.frames.items y.old.taken }
-    ensures recorded { Recorded script.now wire.old x.old y.old →
-        Recorded script.now wire.new x.new y.new }
-    ensures counted { Counted wire.old x.old y.old → Counted wire.new x.new y.new }
+    ensures recorded { RecordsFrames script.now wire.old x.old y.old →
+        RecordsFrames script.now wire.new x.new y.new }
+    ensures counted { CountsTaken wire.old x.old y.old → CountsTaken wire.new x.new y.new }
     ensures halted { IfErr result
-        (λ halt. Halted halt wire.old x.old y.old wire.new x.new y.new) }
+        (λ halt. HaltsBetween halt wire.old x.old y.old wire.new x.new y.new) }
     ensures step { IfOk result (λ whole. StepTo whole wire.old x.old y.old wire.new x.new y.new) }
     ensures advances { Advances wire.old x.old y.old wire.new x.new y.new }
     ensures still { IfErr result (λ halt. StandsStill halt wire.old x.old wire.new x.new) }
@@ -173,9 +173,9 @@ fn is_whole(heard: Heard) -> bool
 fn wait(wire: &mut Wire, x: &mut Half, y: &mut Half, fate: &Fate, other: &Fate) -> Result<(), Halt>
     requires holds { Holds wire.old x.old y.old }
     requires waits { Waits x.old.sender }
-    requires x_blocked { Blocked x.old.end
+    requires x_blocked { IsBlocked x.old.end
         (past_now wire.old.frames.items) x.old.taken wire.old.released }
-    requires y_blocked { Blocked y.old.end
+    requires y_blocked { IsBlocked y.old.end
         (past_now wire.old.frames.items) y.old.taken wire.old.released }
     ensures adds { AddsTwo (fate_value fate.now) (fate_value other.now)
         wire.old.frames.items wire.new.frames.items }
@@ -189,7 +189,7 @@ fn wait(wire: &mut Wire, x: &mut Half, y: &mut Half, fate: &Fate, other: &Fate) 
     ensures x_reader { x.new.reader ≡ x.old.reader }
     ensures y_reader { y.new.reader ≡ y.old.reader }
     ensures halted { IfErr result
-        (λ halt. Halted halt wire.old x.old y.old wire.new x.new y.new) }
+        (λ halt. HaltsBetween halt wire.old x.old y.old wire.new x.new y.new) }
     ensures step { OnOk result (StepTo false wire.old x.old y.old wire.new x.new y.new) }
     ensures room { WantsRoom result wire.old.frames wire.new.frames }
 {

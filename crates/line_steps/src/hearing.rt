@@ -7,7 +7,7 @@ ghost use Rattle.trace_text.specs.Fates.{ends_run, strange_bytes};
 ghost use Rattle.trace_text.specs.Frames.{padp_packet};
 ghost use Rattle.trace_text.specs.Lent.{lent_frame};
 ghost use Rattle.line_steps.specs.Hearing.{Hears, Silent, tally_after};
-ghost use Rattle.line_steps.specs.Running.{Read};
+ghost use Rattle.line_steps.specs.Running.{MovesReader};
 
 use crate::half::Half;
 use crate::harm::write_strange;
@@ -52,7 +52,7 @@ pub(crate) fn hear_harm(frame: FrameLent<'_>, half: &mut Half)
     requires gap { half.old.reader.held ≡ [] }
     requires goes { ends_run (lent_frame frame).fate (lent_frame frame).bytes ≡ false }
     requires some { 0 < length (lent_frame frame).bytes }
-    ensures read { Read half.old half.new }
+    ensures read { MovesReader half.old half.new }
     ensures gap { half.new.reader.held ≡ [] }
     ensures tally { half.new.reader.tally ≡
         tally_after half.old.reader.tally (strange_bytes

@@ -2,7 +2,7 @@
 ghost use Rattle.std.specs.Prelude.{◌≡◌, [], IfOk};
 ghost use Rattle.trace_text.specs.declared.frame.End.TheVariants.{Handheld, Desktop};
 ghost use Rattle.line_steps.specs.Resting.{IsNew};
-ghost use Rattle.line_steps.specs.Counting.{Counted};
+ghost use Rattle.line_steps.specs.Counting.{CountsTaken};
 ghost use Rattle.line_steps.specs.Telling.{Talks, no_talk};
 ghost use Rattle.line_steps.specs.Turning.{Turn};
 
@@ -31,7 +31,7 @@ impl Line {
         ensures talks { IfOk result (λ line.
             Talks no_talk line.wire line.handheld line.desktop) }
         ensures counted { IfOk result (λ line.
-            Counted line.wire line.handheld line.desktop) }
+            CountsTaken line.wire line.handheld line.desktop) }
         ensures frames { IfOk result (λ line. line.wire.frames.items ≡ []) }
     {
         let handheld = new_half(alloc, End::Handheld)?;

@@ -3,7 +3,7 @@ ghost use Rattle.std.specs.Prelude.{◌≡◌, ◌≤◌};
 ghost use Rattle.trace_text.specs.Fates as fates;
 ghost use Rattle.trace_text.specs.Lent.{lent_fate, lent_frame};
 ghost use Rattle.trace_text.specs.Past.{is_end};
-ghost use Rattle.line_steps.specs.Running.{Holds, AtHead, Moved, Read};
+ghost use Rattle.line_steps.specs.Running.{Holds, AtHead, MovesCursor, MovesReader};
 ghost use Rattle.line_steps.specs.Telling.{KeepsAll};
 ghost use Rattle.line_steps.specs.Working.{work_left};
 
@@ -17,8 +17,8 @@ pub fn skip_to_head(wire: &Wire, x: &mut Half, y: &mut Half)
     requires { Holds wire.now x.old y.old }
     ensures holds { Holds wire.now x.new y.new }
     ensures head { AtHead x.old.end wire.now.frames.items x.new.taken }
-    ensures moved { Moved x.old x.new }
-    ensures read { Read y.old y.new }
+    ensures moved { MovesCursor x.old x.new }
+    ensures read { MovesReader y.old y.new }
     ensures keeps { KeepsAll wire.now x.old y.old x.new y.new }
     ensures left { work_left wire.now x.new y.new ≤ work_left wire.now x.old y.old }
 {

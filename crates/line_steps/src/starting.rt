@@ -9,11 +9,11 @@ ghost use Rattle.line_laws.specs.Talking.{say};
 ghost use Rattle.line_script.specs.Rules.{RuleValue};
 ghost use Rattle.line_script.specs.Scripts.{fate_by};
 ghost use Rattle.line_steps.specs.Advancing.{Advances, IsUp};
-ghost use Rattle.line_steps.specs.Counting.{Counted};
+ghost use Rattle.line_steps.specs.Counting.{CountsTaken};
 ghost use Rattle.line_steps.specs.Halting.{HaltsBy, Spoke};
 ghost use Rattle.line_steps.specs.Rooms.{WantsRoom};
 ghost use Rattle.line_steps.specs.Running.{Holds};
-ghost use Rattle.line_steps.specs.Telling.{IsNextTo, Recorded, Talks, cursor_of};
+ghost use Rattle.line_steps.specs.Telling.{IsNextTo, RecordsFrames, Talks, cursor_of};
 ghost use Rattle.line_steps.specs.Turning.{Turn};
 ghost use Rattle.line_steps.specs.Underway.{Underway};
 
@@ -51,8 +51,8 @@ pub fn start(
         Spoke (say x.old.end message.now talk) wire.new x.new y.now) }
     ensures recorded { (script : List RuleValue) →
         fate_value fate.now ≡ fate_by script (length wire.old.frames.items + 1) →
-        Recorded script wire.old x.old y.now → Recorded script wire.new x.new y.now }
-    ensures counted { Counted wire.old x.old y.now → Counted wire.new x.new y.now }
+        RecordsFrames script wire.old x.old y.now → RecordsFrames script wire.new x.new y.now }
+    ensures counted { CountsTaken wire.old x.old y.now → CountsTaken wire.new x.new y.now }
     ensures advances { Advances wire.old x.old y.now wire.new x.new y.now }
     ensures up { IfErr result (λ halt. IsUp halt) }
     ensures room { WantsRoom result wire.old.frames wire.new.frames }

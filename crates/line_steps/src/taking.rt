@@ -9,12 +9,12 @@ ghost use Rattle.trace_text.specs.Lent.{lent_frame};
 ghost use Rattle.line_steps.specs.Adding.{AddsOne};
 ghost use Rattle.line_steps.specs.Advancing.{IsUp};
 ghost use Rattle.line_steps.specs.Counting.{Lands, landed};
-ghost use Rattle.line_steps.specs.Halting.{Halted};
+ghost use Rattle.line_steps.specs.Halting.{HaltsBetween};
 ghost use Rattle.line_steps.specs.Hearing.{Hears};
 ghost use Rattle.trace_text.specs.FrameLogs.{marked};
 ghost use Rattle.line_steps.specs.Marking.{Marks};
 ghost use Rattle.line_steps.specs.Rooms.{WantsRoom};
-ghost use Rattle.line_steps.specs.Running.{Holds, Heeded, Stays};
+ghost use Rattle.line_steps.specs.Running.{Holds, MovesReceiver, Stays};
 ghost use Rattle.line_steps.specs.Taking.{Delivers, AckNext, DataHeard};
 ghost use Rattle.line_steps.specs.Turning.{TurnAfter, TurnBehind};
 ghost use Rattle.line_steps.specs.Underway.{StillUnderway};
@@ -42,7 +42,7 @@ pub fn take_next(wire: &mut Wire, x: &mut Half, y: &mut Half, fate: &Fate) -> Re
     ensures adds { AddsOne (fate_value fate.now)
         (marked x.old.taken wire.old.frames.items) wire.new.frames.items }
     ensures halted { IfErr result
-        (λ halt. Halted halt wire.old x.old y.old wire.new x.new y.new) }
+        (λ halt. HaltsBetween halt wire.old x.old y.old wire.new x.new y.new) }
     ensures up { IfErr result (λ halt. IsUp halt) }
     ensures less { OnOk result (work_left wire.new x.new y.new < work_left wire.old x.old y.old) }
     ensures room { WantsRoom result wire.old.frames wire.new.frames }
@@ -64,7 +64,7 @@ fn take_marked(wire: &mut Wire, x: &mut Half, y: &mut Half, fate: &Fate) -> Resu
         (λ heard. StillUnderway heard wire.old x.old y.old wire.new x.new y.new) }
     ensures adds { AddsOne (fate_value fate.now) wire.old.frames.items wire.new.frames.items }
     ensures halted { IfErr result
-        (λ halt. Halted halt wire.old x.old y.old wire.new x.new y.new) }
+        (λ halt. HaltsBetween halt wire.old x.old y.old wire.new x.new y.new) }
     ensures up { IfErr result (λ halt. IsUp halt) }
     ensures less { OnOk result (work_left wire.new x.new y.new < work_left wire.old x.old y.old) }
     ensures room { WantsRoom result wire.old.frames wire.new.frames }
@@ -94,7 +94,7 @@ fn hear_frame(frame: FrameLent<'_>, half: &mut Half) -> Heard
     ensures hears { Hears half.old.receiver
         (packet_at (lent_frame frame.entry).bytes).id (fragment_in
         (lent_frame frame.entry)) result half.new.receiver }
-    ensures heeded { Heeded half.old half.new }
+    ensures heeded { MovesReceiver half.old half.new }
     ensures gap { half.new.reader.held ≡ [] }
     ensures tally { arrives (lent_frame frame.entry).fate ≡ true →
         half.new.reader.tally ≡ landed (lent_frame frame.entry) half.old.reader.tally }
@@ -112,7 +112,7 @@ fn take_ack(wire: &mut Wire, x: &mut Half, y: &mut Half, key: Key, fate: &Fate) 
         (StillUnderway (heard_as.Ack key) wire.old x.old y.old wire.new x.new y.new) }
     ensures adds { AddsOne (fate_value fate.now) wire.old.frames.items wire.new.frames.items }
     ensures halted { IfErr result
-        (λ halt. Halted halt wire.old x.old y.old wire.new x.new y.new) }
+        (λ halt. HaltsBetween halt wire.old x.old y.old wire.new x.new y.new) }
     ensures up { IfErr result (λ halt. IsUp halt) }
     ensures less { OnOk result (work_left wire.new x.new y.new < work_left wire.old x.old y.old) }
     ensures moved { x.new ≡ record x.old { taken = x.old.taken + 1 } }
@@ -148,7 +148,7 @@ fn take_data(
         (StillUnderway (heard_as.Data key taken) wire.old x.old y.old wire.new x.new y.new) }
     ensures adds { AddsOne (fate_value fate.now) wire.old.frames.items wire.new.frames.items }
     ensures halted { IfErr result
-        (λ halt. Halted halt wire.old x.old y.old wire.new x.new y.new) }
+        (λ halt. HaltsBetween halt wire.old x.old y.old wire.new x.new y.new) }
     ensures up { IfErr result (λ halt. IsUp halt) }
     ensures less { OnOk result (work_left wire.new x.new y.new < work_left wire.old x.old y.old) }
     ensures moved { x.new ≡ record x.old { taken = x.old.taken + 1 } }

@@ -1,9 +1,9 @@
 //! What happens where nothing can be delivered.
 ghost use Rattle.std.specs.Prelude.{◌≡◌, ◌⊎◌, ◌<◌, OnOk, IfErr, IsTrue, false, length};
 ghost use Rattle.padp_link.specs.Senders.{Waits};
-ghost use Rattle.line_laws.specs.Progress.{Blocked};
+ghost use Rattle.line_laws.specs.Progress.{IsBlocked};
 ghost use Rattle.line_steps.specs.Adding.{AddsOne, AddsTwo, IsFirst};
-ghost use Rattle.line_steps.specs.Halting.{Halted, NotAgain};
+ghost use Rattle.line_steps.specs.Halting.{HaltsBetween, NotAgain};
 ghost use Rattle.line_steps.specs.Rooms.{WantsRoom};
 ghost use Rattle.line_steps.specs.Running.{AllGo, AtHead, Holds, IsHalf, Stays, past_now};
 ghost use Rattle.line_steps.specs.Taking.{Delivers};
@@ -24,7 +24,7 @@ pub fn delivers(wire: &Wire, half: &Half) -> bool
     requires head { AtHead half.now.end wire.now.frames.items half.now.taken }
     ensures there { IsTrue result → Delivers half.now.end wire.now half.now.taken }
     ensures blocked { result ≡ false →
-        Blocked half.now.end (past_now wire.now.frames.items) half.now.taken wire.now.released }
+        IsBlocked half.now.end (past_now wire.now.frames.items) half.now.taken wire.now.released }
 {
     if half.taken == wire.frames.len() {
         return false;
@@ -45,9 +45,9 @@ pub fn tick(
     other: &Fate,
 ) -> Result<(), Halt>
     requires holds { Holds wire.old x.old y.old }
-    requires x_blocked { Blocked x.old.end
+    requires x_blocked { IsBlocked x.old.end
         (past_now wire.old.frames.items) x.old.taken wire.old.released }
-    requires y_blocked { Blocked y.old.end
+    requires y_blocked { IsBlocked y.old.end
         (past_now wire.old.frames.items) y.old.taken wire.old.released }
     requires waits { Waits x.old.sender ⊎ Waits y.old.sender }
     ensures holds { OnOk result (Holds wire.new x.new y.new) }
@@ -57,7 +57,7 @@ pub fn tick(
     ensures first { Waits x.old.sender →
         IsFirst x.old.end wire.old.frames.items wire.new.frames.items }
     ensures halted { IfErr result
-        (λ halt. Halted halt wire.old x.old y.old wire.new x.new y.new) }
+        (λ halt. HaltsBetween halt wire.old x.old y.old wire.new x.new y.new) }
     ensures x_stays { Stays x.old x.new }
     ensures y_stays { Stays y.old y.new }
     ensures x_reader { x.new.reader ≡ x.old.reader }

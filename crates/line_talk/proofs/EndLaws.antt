@@ -1,12 +1,12 @@
 -- A line with which it is over, or which is at rest.
-use Rattle.line_talk.proofs.Names.{rules, ◌≡◌, ℕ, List, [], ◌∷◌, refl, ap, subst, arith, End, Handheld, Desktop, Sent, Talk, messages_of, pieces_before, Apart}
-use Rattle.line_talk.proofs.Names.{count_messages, say, Half, Wire, Line, Halt, NoMemory, HaltsBy, Spoken, Spoke, past_now, IsNextTo, Talks, cursor_of, no_talk}
+use Rattle.line_talk.proofs.Names.{rules, ◌≡◌, ℕ, List, [], ◌∷◌, refl, ap, subst, arith, End, Handheld, Desktop, PastFrame, Talk, messages_of, pieces_before, Apart}
+use Rattle.line_talk.proofs.Names.{count_messages, say, Half, Wire, Line, Halt, NoMemory, HaltsBy, HasProperPast, Spoke, past_now, IsNextTo, Talks, cursor_of, no_talk}
 use Rattle.line_talk.proofs.Names.{spoken_now, cursor_turned, apart_turned, settled_holds, settled_turned, LineEnds, MayAnswer, MayAsk, MayGreet, LineTells}
 use Rattle.line_talk.proofs.Names.{bytes_of, greeted, init, wake}
 use Rattle.line_talk.proofs.AskLaws.{woken}
 use Rattle.line_talk.proofs.MoreLaws.{spoken-unsent, turn-unsent}
 
-turned : {X Y : End} {talk : Talk} {cursor : End → ℕ} {past : List Sent} → Spoken X Y talk cursor past → Spoken Y X talk cursor past
+turned : {X Y : End} {talk : Talk} {cursor : End → ℕ} {past : List PastFrame} → HasProperPast X Y talk cursor past → HasProperPast Y X talk cursor past
 turned it = search rules
 
 -- seen from the other end
@@ -16,7 +16,7 @@ halts-turned halt wire x y apart by = search rules
 
 pub spoke-turned : {talk : Talk} (wire : Wire) (x y : Half) → Apart x.end y.end → Spoke talk wire x y → Spoke talk wire y x
 spoke-turned {talk} wire x y apart it =
-    subst (λ c. Spoken y.end x.end talk c (past_now wire.frames.items)) (cursor_turned x.end y.end x.taken y.taken apart.there) (turned it)
+    subst (λ c. HasProperPast y.end x.end talk c (past_now wire.frames.items)) (cursor_turned x.end y.end x.taken y.taken apart.there) (turned it)
 
 pub ends-apart : (x y : Half) → x.end ≡ Handheld → y.end ≡ Desktop → Apart x.end y.end
 ends-apart x y handheld desktop = search rules

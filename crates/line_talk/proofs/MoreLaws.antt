@@ -1,18 +1,18 @@
 -- A message that never went out changes nothing of what the frames tell by the rules.
 use Rattle.line_talk.proofs.Names.{◌≡◌, ℕ, ◌-◌, ◌≤◌, false, List, ◌++◌, length, reverse, sym, ap, subst, ◌∙◌, arith, append_assoc, length-append}
-use Rattle.line_talk.proofs.Names.{length-reverse, session_id, End, spoken, message_parts, Sent, said, at, SaysMessages, Talk, messages_of, pieces_before}
-use Rattle.line_talk.proofs.Names.{Apart, heard, count_messages, say, count-say, longer-say, speaks-more, speaks-beside, parts-say, Half, Wire, Spoken, Spoke}
+use Rattle.line_talk.proofs.Names.{length-reverse, session_id, End, spoken, message_parts, PastFrame, said, at, SaysMessages, Talk, messages_of, pieces_before}
+use Rattle.line_talk.proofs.Names.{Apart, heard, count_messages, say, count-say, longer-say, speaks-more, speaks-beside, parts-say, Half, Wire, HasProperPast, Spoke}
 use Rattle.line_talk.proofs.Names.{past_now, side_of, HeardOf, TookMessages, Talks, cursor_of, Turn, spoken_now, length-spoken, took_beside, parts_total}
 use Rattle.line_talk.proofs.Names.{cursor_own, x_heard_as, settled_holds}
 
 -- no more was said than there is
-said-few : {X : End} {talk : Talk} {past : List Sent} → SaysMessages X talk past
+said-few : {X : End} {talk : Talk} {past : List PastFrame} → SaysMessages X talk past
     → length (said X past) ≤ pieces_before (messages_of X talk) (count_messages X talk)
 said-few {X} {talk} {past} says =
     let sum = sym (length-append (reverse (spoken X past)) says.rest) ∙ ap length says.is ∙ parts_total 0 (messages_of X talk) in
     omega (arith, sum, length-reverse (spoken X past), length-spoken X past)
 
-took-unsent : {X : End} {talk : Talk} {past : List Sent} {cx : ℕ} (message : List ℕ)
+took-unsent : {X : End} {talk : Talk} {past : List PastFrame} {cx : ℕ} (message : List ℕ)
     → pieces_before (messages_of X talk) (count_messages X talk) ≤ length (heard X (at cx past)) → TookMessages X talk past cx
     → TookMessages X (say X message talk) past cx
 took-unsent {X} {talk} {past} {cx} message all was =
@@ -30,9 +30,9 @@ took-unsent {X} {talk} {past} {cx} message all was =
     }
 
 -- where all messages of X were taken
-pub spoken-unsent : {X Y : End} {talk : Talk} {cursor : End → ℕ} {past : List Sent} (message : List ℕ) → Apart X Y
-    → pieces_before (messages_of X talk) (count_messages X talk) ≤ length (heard X (at (cursor X) past)) → Spoken X Y talk cursor past
-    → Spoken X Y (say X message talk) cursor past
+pub spoken-unsent : {X Y : End} {talk : Talk} {cursor : End → ℕ} {past : List PastFrame} (message : List ℕ) → Apart X Y
+    → pieces_before (messages_of X talk) (count_messages X talk) ≤ length (heard X (at (cursor X) past)) → HasProperPast X Y talk cursor past
+    → HasProperPast X Y (say X message talk) cursor past
 spoken-unsent {X} message apart all was = record {
   faults = was.faults;
   x_speaks = speaks-more message (said-few was.x_speaks.says) was.x_speaks;

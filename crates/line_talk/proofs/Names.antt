@@ -19,11 +19,11 @@ pub use Rattle.line_steps.proofs.TookLaws.{parts_total, took_but, took_tells, to
 pub use Rattle.line_steps.proofs.TurnLaws.{apart_turned, settled_holds, settled_turned}
 pub use Rattle.line_steps.specs.Acknowledging.{EndsAcknowledging, last_key}
 pub use Rattle.line_steps.specs.Advancing.{FallsShort, IsUp, piece_total, took_count}
-pub use Rattle.line_steps.specs.Counting.{Counted}
-pub use Rattle.line_steps.specs.Halting.{HaltsBy, Spoke, Spoken, other_end}
+pub use Rattle.line_steps.specs.Counting.{CountsTaken}
+pub use Rattle.line_steps.specs.Halting.{HaltsBy, Spoke, HasProperPast, other_end}
 pub use Rattle.line_steps.specs.Running.{past_now, side_of}
 pub use Rattle.line_steps.specs.Stories.{HeardOf, TookMessages}
-pub use Rattle.line_steps.specs.Telling.{IsNextTo, Recorded, Talks, cursor_of, no_talk}
+pub use Rattle.line_steps.specs.Telling.{IsNextTo, RecordsFrames, Talks, cursor_of, no_talk}
 pub use Rattle.line_steps.specs.Turning.{Turn}
 pub use Rattle.line_steps.specs.declared.half.Half.{Half}
 pub use Rattle.line_steps.specs.declared.half.Wire.{Wire}
@@ -40,7 +40,7 @@ pub use Rattle.std.proofs.lemmas.List.{append_assoc, length-append, length-rever
 pub use Rattle.std.proofs.lemmas.Result.{IfErr-weaker, err_from_is_err_and, on_ok_weaker}
 pub use Rattle.std.specs.Prelude.{Err, IfErr, Ok, OnOk, Result}
 pub use Rattle.trace_text.specs.Parts.{message_parts, spoken}
-pub use Rattle.trace_text.specs.Past.{Sent, at, said}
+pub use Rattle.trace_text.specs.Past.{PastFrame, at, said}
 pub use Rattle.trace_text.specs.Proper.{SaysMessages}
 pub use Rattle.trace_text.specs.Talks.{Talk, messages_of, pieces_before}
 pub use Rattle.trace_text.specs.TraceLines.{frame_value}

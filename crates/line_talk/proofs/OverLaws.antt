@@ -1,14 +1,14 @@
 -- A message goes over: an end waits for it, and it may not be sent at all.
-use Rattle.line_talk.proofs.Names.{rules, Result, Ok, Err, OnOk, IfErr, ◌≡◌, ℕ, List, [], Some, ap, arith, RuleValue, Talk, Half, Wire, took_count, Counted}
-use Rattle.line_talk.proofs.Names.{IsNextTo, Recorded, Talks, Turn, NoMemory, HaltedOver}
+use Rattle.line_talk.proofs.Names.{rules, Result, Ok, Err, OnOk, IfErr, ◌≡◌, ℕ, List, [], Some, ap, arith, RuleValue, Talk, Half, Wire, took_count, CountsTaken}
+use Rattle.line_talk.proofs.Names.{IsNextTo, RecordsFrames, Talks, Turn, NoMemory, HaltedOver}
 use Rattle.line_talk.proofs.MoreLaws.{turn-unsent}
 
 -- it waits for a message of this transaction
 abbrev pub expecting : Half → ℕ → Half
 expecting half id = record half { receiver = record { awaited = Some id; pieces = []; last = half.receiver.last } }
 
-pub expects-recorded : {script : List RuleValue} {wire : Wire} {x y new : Half} {id : ℕ} → new ≡ expecting y id → Recorded script wire x y
-    → Recorded script wire x new
+pub expects-recorded : {script : List RuleValue} {wire : Wire} {x y new : Half} {id : ℕ} → new ≡ expecting y id → RecordsFrames script wire x y
+    → RecordsFrames script wire x new
 expects-recorded is recorded = search rules
 
 pub expects-next : {talk : Talk} {x y new : Half} {id next : ℕ} → new ≡ expecting y id → IsNextTo talk x y next → IsNextTo talk x new next
@@ -27,7 +27,7 @@ pub either_way : {T E A C : Type 0} {P : E → Type 0} (r : Result T E) → (A �
 either_way (Ok x) f g a b = f a
 either_way (Err e) f g a b = g e b
 
-pub expects-counted : {wire : Wire} {x y new : Half} {id : ℕ} → new ≡ expecting y id → Counted wire x y → Counted wire x new
+pub expects-counted : {wire : Wire} {x y new : Half} {id : ℕ} → new ≡ expecting y id → CountsTaken wire x y → CountsTaken wire x new
 expects-counted is counted = search rules
 
 pub expects-took : (wire : Wire) (y : Half) {new : Half} {id : ℕ} → new ≡ expecting y id → took_count wire new ≡ took_count wire y

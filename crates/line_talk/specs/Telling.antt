@@ -11,19 +11,19 @@ use Rattle.trace_text.specs.Stories.{IsStoryOf}
 use Rattle.trace_text.specs.Talks.{Talk}
 use Rattle.line_laws.specs.Hearing.{heard}
 use Rattle.line_steps.specs.declared.line.Line.{Line}
-use Rattle.line_steps.specs.Counting.{Counted}
+use Rattle.line_steps.specs.Counting.{CountsTaken}
 use Rattle.line_steps.specs.Running.{past_now}
 use Rattle.line_steps.specs.Stories.{told_from}
-use Rattle.line_steps.specs.Telling.{Recorded, Talks, cursor_of}
+use Rattle.line_steps.specs.Telling.{RecordsFrames, Talks, cursor_of}
 
 -- each frame has its number and the fate that the script gives it, and came exactly where it
 -- arrives and was taken
 abbrev pub LineRecords : List RuleValue → Line → Type 0
-LineRecords script line = Recorded script line.wire line.handheld line.desktop
+LineRecords script line = RecordsFrames script line.wire line.handheld line.desktop
 
 -- both readers counted what landed of all frames that were taken, and nothing else
 abbrev pub LineCounts : Line → Type 0
-LineCounts line = Counted line.wire line.handheld line.desktop
+LineCounts line = CountsTaken line.wire line.handheld line.desktop
 
 -- the frames so far tell these messages
 abbrev pub LineTells : Talk → Line → Type 0

@@ -7,9 +7,9 @@ ghost use Rattle.trace_text.specs.TraceLines.{frame_value};
 ghost use Rattle.line_laws.specs.Talking.{say};
 ghost use Rattle.line_steps.specs.Acknowledging.{EndsAcknowledging, last_key};
 ghost use Rattle.line_steps.specs.Carrying.{SameMessage};
-ghost use Rattle.line_steps.specs.Counting.{Counted};
+ghost use Rattle.line_steps.specs.Counting.{CountsTaken};
 ghost use Rattle.line_steps.specs.Rooms.{WantsRoom};
-ghost use Rattle.line_steps.specs.Telling.{IsNextTo, Recorded, Talks};
+ghost use Rattle.line_steps.specs.Telling.{IsNextTo, RecordsFrames, Talks};
 ghost use Rattle.line_steps.specs.Turning.{Turn};
 ghost use Rattle.line_talk.specs.Halting.{HaltedOver};
 
@@ -38,9 +38,9 @@ pub(crate) fn send_over(
     ensures own_end { x.new.end ≡ x.old.end }
     ensures other_end { y.new.end ≡ y.old.end }
 
-    ensures recorded { Recorded script.now wire.old x.old y.old →
-        Recorded script.now wire.new x.new y.new }
-    ensures counted { Counted wire.old x.old y.old → Counted wire.new x.new y.new }
+    ensures recorded { RecordsFrames script.now wire.old x.old y.old →
+        RecordsFrames script.now wire.new x.new y.new }
+    ensures counted { CountsTaken wire.old x.old y.old → CountsTaken wire.new x.new y.new }
     ensures talks { OnOk result ((talk : Talk) → IsNextTo talk x.old y.old id →
         Talks talk wire.old x.old y.old →
         Talks (say x.old.end message.now talk) wire.new x.new y.new) }

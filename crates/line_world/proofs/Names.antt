@@ -4,7 +4,7 @@ pub use Rattle.dlp_commands.specs.Changes.{asks_id, given_in}
 pub use Rattle.dlp_commands.specs.DeviceRuns.{Exchange, Ran, exchanged}
 pub use Rattle.dlp_commands.specs.DeviceSteps.{DeviceStep}
 pub use Rattle.dlp_commands.specs.Links.{MayExchange, WentDown}
-pub use Rattle.dlp_commands.specs.Talks.{Answered, Unanswered}
+pub use Rattle.dlp_commands.specs.Talks.{HasAnswer, LacksAnswer}
 pub use Rattle.dlp_commands.specs.declared.link.LinkFault.{LinkFault}
 pub use Rattle.dlp_requests.specs.Views.{request_value}
 pub use Rattle.handheld_server.specs.Keeping.{Touches, wrote_user}
@@ -47,7 +47,7 @@ pub use Rattle.line_talk.specs.Rests.{AreEnds, MayAnswer, MayAsk, MayGreet}
 pub use Rattle.line_talk.specs.Telling.{HasSaid, LineCounts, LineRecords, LineTells, LineTold, bytes_of, greeted, init, wake}
 pub use Rattle.line_world.specs.Causes.{AreLastTen, AreTenFaults, BearsOut, IsCause, IsCauseOf, IsHaltOf, KeeperOnly, NamesLast, down_end, faults_in}
 pub use Rattle.line_world.specs.Causes.{halt_of, link_fault}
-pub use Rattle.line_world.specs.Conversing.{Answers, Breaks, Sent, Served, Unsent, Went, WentTo}
+pub use Rattle.line_world.specs.Conversing.{Answers, Breaks, Sent, Served, Unsent, RequestReach, WentTo}
 pub use Rattle.line_world.specs.Counts.{AgreesWith, CountsOf, capped, land_to_last}
 pub use Rattle.line_world.specs.Folders.{ServedSince}
 pub use Rattle.line_world.specs.Logs.{LogValue, log_value, no_log, said_in, texts, with_issued, with_performed}

@@ -1,7 +1,7 @@
 -- What a world tells of its talk behind a request.
 use Rattle.line_world.proofs.Names.{common_steps, rules, ◌≡◌, ℕ, ◌+◌, List, [], ◌∷◌, ◌++◌, length, take, Option, Some, refl, sym, ap, subst, ◌∙◌, arith, inl}
 use Rattle.line_world.proofs.Names.{inr, slice_get, append-nil, take_all, slice_get_past, FileMap, Moments, Device, Exchange, Ran, exchanged, DeviceStep}
-use Rattle.line_world.proofs.Names.{Answered, Unanswered, Went, Unsent, Sent, Served, WentTo, with_issued, Performs, IsLog, WorldValue, world_talk}
+use Rattle.line_world.proofs.Names.{HasAnswer, LacksAnswer, RequestReach, Unsent, Sent, Served, WentTo, with_issued, Performs, IsLog, WorldValue, world_talk}
 use Rattle.dlp_commands.specs.Talks.{Talk}
 use Rattle.line_world.proofs.LogLaws.{length-later, replies-all}
 
@@ -34,7 +34,7 @@ one_step ran = search rules
 pub talk-answered : {F : Type 0} {contents : F → Option FileMap} {moments : F → Moments} {paths : F → Option (List (List ℕ))} {faults : F → ℕ}
     (old new : WorldValue F) {request reply : List ℕ} → IsLog old.log old.answered → length old.log.issued ≡ old.answered
     → new.answered ≡ length new.log.replies → Performs contents moments paths faults old.server new.server (with_issued old.log request) new.log request reply
-    → Answered (Some (world_talk old)) request reply (Some (world_talk new))
+    → HasAnswer (Some (world_talk old)) request reply (Some (world_talk new))
 talk-answered old new {request} {reply} is all count performs =
     let issued : new.log.issued ≡ old.log.issued ++ request ∷ [] = ap (λ l. l.issued) performs.log_is in
     let replies : new.log.replies ≡ old.log.replies ++ reply ∷ [] = ap (λ l. l.replies) performs.log_is in
@@ -70,9 +70,9 @@ left_is old new {request} all same issued = subst (λ n. slice_get new.log.issue
     (ap (λ (l : List (List ℕ)). slice_get l (length old.log.issued)) issued ∙ slice_get-last old.log.issued)
 
 pub talk-broke : {F : Type 0} (contents : F → Option FileMap) (moments : F → Moments) (paths : F → Option (List (List ℕ))) (faults : F → ℕ)
-    (old new : WorldValue F) {request : List ℕ} (went : Went) → IsLog old.log old.answered → length old.log.issued ≡ old.answered
+    (old new : WorldValue F) {request : List ℕ} (went : RequestReach) → IsLog old.log old.answered → length old.log.issued ≡ old.answered
     → new.answered ≡ old.answered → WentTo contents moments paths faults went old.server new.server old.log new.log request
-    → Unanswered (Some (world_talk old)) request (Some (world_talk new))
+    → LacksAnswer (Some (world_talk old)) request (Some (world_talk new))
 talk-broke contents moments paths faults old new Unsent is all same went =
     inl (ap Some (same_talk
     went.0.ran (λ i. exchanged (take (same i) ((went.1 i).issued)) (take (same i) ((went.1 i).replies))) (λ i. slice_get ((went.1 i).issued) (same i))))

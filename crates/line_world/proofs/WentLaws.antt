@@ -1,10 +1,10 @@
 -- What holds of a world since before a request.
 use Rattle.line_world.proofs.Names.{◌≡◌, ◌⊎◌, ℕ, List, [], ◌∷◌, ◌++◌, length, Option, Some, sym, ap, subst, ◌∙◌, append-nil, Rose, FileMap, Moments}
-use Rattle.line_world.proofs.Names.{ServerValue, given_in, Keeper, Went, Unsent, Sent, Served, WentTo, ServedSince, LogValue, IsLog, WorldValue, WorldSince}
+use Rattle.line_world.proofs.Names.{ServerValue, given_in, Keeper, RequestReach, Unsent, Sent, Served, WentTo, ServedSince, LogValue, IsLog, WorldValue, WorldSince}
 use Rattle.line_world.proofs.Names.{served-itself}
 use Rattle.line_world.proofs.LogLaws.{log-issued, log-performed}
 
-pub log-went : {F : Type 0} (contents : F → Option FileMap) (moments : F → Moments) (paths : F → Option (List (List ℕ))) (faults : F → ℕ) (went : Went)
+pub log-went : {F : Type 0} (contents : F → Option FileMap) (moments : F → Moments) (paths : F → Option (List (List ℕ))) (faults : F → ℕ) (went : RequestReach)
     (old new : ServerValue F) {log later : LogValue} {answered : ℕ} (request : List ℕ) → IsLog log answered → length log.issued ≡ answered
     → WentTo contents moments paths faults went old new log later request → IsLog later answered
 log-went contents moments paths faults Unsent old new {answered} request is all to = subst (λ l. IsLog l answered) (sym to.1) is
@@ -13,7 +13,7 @@ log-went contents moments paths faults Sent old new {answered} request is all to
 log-went contents moments paths faults (Served reply) old new {answered} request is all to =
     subst (λ l. IsLog l answered) (sym to.1) (log-performed request reply is all)
 
-pub since-went : {F : Type 0} {contents : F → Option FileMap} {moments : F → Moments} {paths : F → Option (List (List ℕ))} {faults : F → ℕ} (went : Went)
+pub since-went : {F : Type 0} {contents : F → Option FileMap} {moments : F → Moments} {paths : F → Option (List (List ℕ))} {faults : F → ℕ} (went : RequestReach)
     {old new : WorldValue F} (request : List ℕ) → new.script ≡ old.script
     → (new.cause ≡ Some Keeper → (old.cause ≡ Some Keeper) ⊎ Rose (faults old.server.folder) (faults new.server.folder))
     → WentTo contents moments paths faults went old.server new.server old.log new.log request → WorldSince contents moments paths faults old new

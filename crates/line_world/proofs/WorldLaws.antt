@@ -5,7 +5,7 @@ use Rattle.line_world.proofs.Names.{fate_by, IsProper, frame_value, End, Handhel
 use Rattle.line_world.proofs.Names.{halted_story, halted_tells, turn_tells_all, apart_turned, Halt, NoMemory, EndsAcknowledging, last_key, TellsOf, told_from}
 use Rattle.line_world.proofs.Names.{CameByCursor, AllBy, session_id, IsNew, Turn, cursor_of, no_talk, Line, messages_of, asks-ends, greets-ends, cursor-inside}
 use Rattle.line_world.proofs.Names.{told-asks, LineEnds, MayGreet, MayAsk, LineCounts, LineRecords, LineTells, LineTold, bytes_of, greeted, init, wake, Down}
-use Rattle.line_world.proofs.Names.{Break, IsCause, IsCauseOf, KeeperOnly, NamesLast, halt_of, link_fault, Answers, Breaks, Went, Unsent, Sent, Served, WentTo}
+use Rattle.line_world.proofs.Names.{Break, IsCause, IsCauseOf, KeeperOnly, NamesLast, halt_of, link_fault, Answers, Breaks, RequestReach, Unsent, Sent, Served, WentTo}
 use Rattle.line_world.proofs.Names.{LogValue, no_log, said_in, EndsAcknowledged, IsHeard, IsLog, IsAtRest, IsTold, IsWorld, LeavesOff, TellAll, TellBoth}
 use Rattle.line_world.proofs.Names.{TellDone}
 use Rattle.std.specs.Prelude.{map}
@@ -58,7 +58,7 @@ memory-up : (cause : Option Down) → cause ≡ None → Some (link_fault cause)
 memory-up None none is = cc
 memory-up (Some cause) none is = cc
 
-left-went : {F : Type 0} (contents : F → Option FileMap) (moments : F → Moments) (paths : F → Option (List (List ℕ))) (faults : F → ℕ) (went : Went)
+left-went : {F : Type 0} (contents : F → Option FileMap) (moments : F → Moments) (paths : F → Option (List (List ℕ))) (faults : F → ℕ) (went : RequestReach)
     (old new : ServerValue F) {log later : LogValue} {answered : ℕ} (count : ℕ) (request : List ℕ) {ended : Break} {now : Option Down}
     → IsLog log answered → length log.issued ≡ answered → WentTo contents moments paths faults went old new log later request
     → (went ≡ Unsent → ended ≡ OutOfMemory) → (ended ≡ KeeperBroke → went ≡ Sent) → IsCauseOf ended count now → KeeperOnly ended now
@@ -77,7 +77,7 @@ left-went contents moments paths faults (Served reply) old new {log} count reque
     record { down = λ down. inr (omega (arith, more, all)); keeper = λ keeper. absurd (let e : Served reply ≡ Sent = unserved (only keeper) in cc) }
 
 -- the last frame stays where nothing was sent
-acked-went : {F : Type 0} (contents : F → Option FileMap) (moments : F → Moments) (paths : F → Option (List (List ℕ))) (faults : F → ℕ) (went : Went)
+acked-went : {F : Type 0} (contents : F → Option FileMap) (moments : F → Moments) (paths : F → Option (List (List ℕ))) (faults : F → ℕ) (went : RequestReach)
     (old new : ServerValue F) {line later_line : Line} {log later : LogValue} {answered : ℕ} (request : List ℕ)
     → WentTo contents moments paths faults went old new log later request → length log.issued ≡ answered → (later ≡ log → later_line ≡ line)
     → EndsAcknowledged log (map frame_value line.wire.frames.items) → length later.issued ≡ answered

@@ -29,13 +29,13 @@ pub record Answers {F : Type 0} (contents : F → Option FileMap) (moments : F �
 
 -- how far a request went that got no reply: it wasn't sent, it was sent and not performed, or it
 -- was performed, with this reply
-pub data Went : Type 0 where
-  Unsent : Went
-  Sent : Went
-  Served : (reply : List ℕ) → Went
+pub data RequestReach : Type 0 where
+  Unsent : RequestReach
+  Sent : RequestReach
+  Served : (reply : List ℕ) → RequestReach
 
 abbrev pub WentTo : {F : Type 0} → (F → Option FileMap) → (F → Moments)
-    → (F → Option (List (List ℕ))) → (F → ℕ) → Went → ServerValue F → ServerValue F
+    → (F → Option (List (List ℕ))) → (F → ℕ) → RequestReach → ServerValue F → ServerValue F
     → LogValue → LogValue → List ℕ → Type 0
 WentTo contents moments paths faults Unsent old new log later request =
     ServedSince contents moments paths faults old new [] × (later ≡ log)
@@ -52,7 +52,7 @@ pub record Breaks {F : Type 0} (contents : F → Option FileMap) (moments : F �
     (paths : F → Option (List (List ℕ))) (faults : F → ℕ)
     (old new : ServerValue F) (log later : LogValue) (request : List ℕ)
     (ended : Break) : Type 0 where
-  pub went : Went
+  pub went : RequestReach
   pub is : WentTo contents moments paths faults went old new log later request
   pub unsent : went ≡ Unsent → ended ≡ NoMemory
   pub unserved : ended ≡ Keeper → went ≡ Sent

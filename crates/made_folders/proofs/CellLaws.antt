@@ -12,7 +12,7 @@ use Rattle.conduit_rules.specs.Choices.{partner}
 use Rattle.conduit_rules.specs.Contents.{same_content}
 use Rattle.conduit_rules.specs.Fates.{Fate, cell, fate}
 use Rattle.conduit_rules.specs.Plans.{purged_at, replacement}
-use Rattle.conduit_rules.specs.States.{Based, Held, based_where, held_where, is_row, live, nothing}
+use Rattle.conduit_rules.specs.States.{BaseState, SideState, based_where, held_where, is_row, live, nothing}
 use Rattle.conduit_rules.specs.Views.{IsHonestUnder, slow_seen, unread_where}
 use Rattle.conduit_rules.specs.declared.view.Seen.{Seen}
 use Rattle.conduit_rules.proofs.ContentLaws.{same_content-same}
@@ -27,10 +27,10 @@ use Rattle.made_folders.proofs.LooseLaws.{mate_contents}
 
 -- ---- what lies under the number of an item
 
-abbrev pub base_on : Option Item → Based
+abbrev pub base_on : Option Item → BaseState
 base_on o = based_where false (option_and_then (known_on Base) o)
 
-abbrev pub held_on : MadeSide → Option Item → Held
+abbrev pub held_on : MadeSide → Option Item → SideState
 held_on side o = held_where (option_and_then (known_on side) o)
 
 -- an item's text as a content
@@ -62,7 +62,7 @@ stays_not : (c : ContentValue) → replacement (Some c) (live c) ≡ None
 stays_not c = grind (arith, same_content-same c)
 
 -- what a fast reading shows of a record under a base row
-abbrev pub seen_on : Based → Record → Seen
+abbrev pub seen_on : BaseState → Record → Seen
 seen_on b r = if not r.dirty && not r.deleted then unread_where b r else slow_seen r
 
 unread_is : (item : Item) (r : Record) → ◌≡◌ {A = Option Record} (Some (record_with item 114)) (Some r) → (not r.dirty && not r.deleted) ≡ true

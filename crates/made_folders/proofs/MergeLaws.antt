@@ -13,7 +13,7 @@ use Rattle.conduit_rules.specs.Contents.{count_of}
 use Rattle.conduit_rules.specs.Fates.{Fate, fate}
 use Rattle.conduit_rules.specs.News.{unpaired}
 use Rattle.conduit_rules.specs.Plans.{purged_at, replacement}
-use Rattle.conduit_rules.specs.States.{Based, Held, base_at, first, has_row, held, held_where, is_row, no_base}
+use Rattle.conduit_rules.specs.States.{BaseState, SideState, base_at, first, has_row, held, held_where, is_row, no_base}
 use Rattle.conduit_rules.specs.Views.{IsHonest, IsHonestUnder, fast_seen, view_held}
 use Rattle.conduit_rules.specs.declared.action.Action.TheVariants.{Sync}
 use Rattle.conduit_rules.specs.declared.view.Seen.{Seen}
@@ -103,7 +103,7 @@ pub fate_is : (number : ℕ) (items : List Item) → AreMade 1 items → number 
     → fate_at (made_sides items) number ≡ becomes_at (item_at number items)
 fate_is zero items are within = grind (arith, handheld_is 0 items are within, item_at-before 0 1 items are (omega arith))
 fate_is (suc i) items are within =
-    ap {A = Based × Held × Held} (λ x. fate x.0 x.1 x.2) (λ k. (
+    ap {A = BaseState × SideState × SideState} (λ x. fate x.0 x.1 x.2) (λ k. (
       base_is (suc i) items are (omega arith) k,
       handheld_is (suc i) items are within k,
       ap held_where (first_on Desktop (suc i) 1 items are (omega arith)) k,
@@ -132,9 +132,9 @@ module _ (items : List Item) (are : AreMade 1 items) where
   replaced_by few =
       each_of (λ i. with_id i (replacement ((made_choice items).keep i) ((made_sides items).handheld i)))
       (λ (item : Item). with_id item.number (replacement (kept_on item) (held_on Handheld (Some item)))) items are few
-      (λ number none within. ap {A = Option ContentValue × Held} (λ x. with_id number (replacement x.0 x.1))
+      (λ number none within. ap {A = Option ContentValue × SideState} (λ x. with_id number (replacement x.0 x.1))
       (λ k. (keep_is number within none k, held_is number within none k)))
-      (λ item found ten some within. ap {A = Option ContentValue × Held} (λ x. with_id item.number (replacement x.0 x.1))
+      (λ item found ten some within. ap {A = Option ContentValue × SideState} (λ x. with_id item.number (replacement x.0 x.1))
       (λ k. (keep_is item.number within found k, held_is item.number within found k)))
 
   purged_by : length items ≤ 5000
@@ -143,9 +143,9 @@ module _ (items : List Item) (are : AreMade 1 items) where
   purged_by few =
       each_of (λ i. purged_at ((made_choice items).keep i) ((made_sides items).handheld i) i) (λ (item : Item). purged_at (kept_on item)
       (held_on Handheld (Some item)) item.number) items are few
-      (λ number none within. ap {A = Option ContentValue × Held} (λ x. purged_at x.0 x.1 number)
+      (λ number none within. ap {A = Option ContentValue × SideState} (λ x. purged_at x.0 x.1 number)
       (λ k. (keep_is number within none k, held_is number within none k)))
-      (λ item found ten some within. ap {A = Option ContentValue × Held} (λ x. purged_at x.0 x.1 item.number)
+      (λ item found ten some within. ap {A = Option ContentValue × SideState} (λ x. purged_at x.0 x.1 item.number)
       (λ k. (keep_is item.number within found k, held_is item.number within found k)))
 
   -- ---- nothing is archived, and what the desktop made is added
@@ -185,7 +185,7 @@ partner_is zero items {o} are within is =
     ap (λ h. option_to_list (partner no_base h)) (held_is items are 0 within is)
     ∙ ap (λ x. option_to_list (partner (base_on x) (held_on Handheld o))) (sym none)
 partner_is (suc i) items are within is =
-    ap {A = Based × Held} (λ x. option_to_list (partner x.0 x.1)) (λ k. (
+    ap {A = BaseState × SideState} (λ x. option_to_list (partner x.0 x.1)) (λ k. (
       (base_is (suc i) items are (omega arith) ∙ ap base_on is) k,
       held_is items are (suc i) within is k,
     ))

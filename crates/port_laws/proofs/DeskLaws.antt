@@ -2,7 +2,7 @@
 use Rattle.std.proofs.Common.{◌≡◌, ℕ, List, [], ◌∷◌, ◌++◌, length, inl, inr, refl, subst, sym, ap, ◌∙◌, arith}
 use Rattle.std.proofs.lemmas.List.{append-nil, append_assoc}
 use Rattle.cable_laws.proofs.MomentLaws.{says_again, takes, turned}
-use Rattle.cable_laws.specs.Cables.{Cable, Side, Stamped, packets_of, stamped}
+use Rattle.cable_laws.specs.Cables.{Cable, Side, Parcel, packets_of, parcels}
 use Rattle.cable_laws.specs.Moments.{HeardRightly, StaysOn}
 use Rattle.device_stream.specs.Hands.{Hand}
 use Rattle.padp_end.specs.Ends.{Answer, EndValue, end_takes, end_waits}
@@ -125,15 +125,15 @@ desk_takes stage end held now palm packet stands goes =
     let came = came_is stage end held now palm packet stands goes in
     let parts = oldest_of stands.back packet (scan now ++ palm.back) (stands.back_is ∙ ap (λ (ps : List PacketValue). ps ++ palm.back) came) in
     let took = takes hand desk parts.first parts.rest stands.there
-    (subst (λ (q : List Stamped). Cable hand desk q stands.there) parts.is (turned desk hand stands.there stands.back stands.cable)) in
+    (subst (λ (q : List Parcel). Cable hand desk q stands.there) parts.is (turned desk hand stands.there stands.back stands.cable)) in
     let said = (end_takes end packet).said in
     let answer_is : end_takes end parts.first.packet ≡ end_takes end packet = ap (end_takes end) parts.first_is in
     let end_is : took.next.end ≡ (end_takes end packet).end = took.end_is ∙ ap (λ (a : Answer). a.end) answer_is in
     let said_is : (end_takes end parts.first.packet).said ≡ said = ap (λ (a : Answer). a.said) answer_is in
     let heard_is : (end_takes end parts.first.packet).heard ≡ (end_takes end packet).heard = ap (λ (a : Answer). a.heard) answer_is in
-    let cable : Cable took.next hand (stands.there ++ stamped took.next.count said) parts.rest
-    = turned hand took.next parts.rest (stands.there ++ stamped took.next.count said)
-    (subst (λ (s : List OutgoingFragment). Cable hand took.next parts.rest (stands.there ++ stamped took.next.count s)) said_is took.cable) in
+    let cable : Cable took.next hand (stands.there ++ parcels took.next.count said) parts.rest
+    = turned hand took.next parts.rest (stands.there ++ parcels took.next.count said)
+    (subst (λ (s : List OutgoingFragment). Cable hand took.next parts.rest (stands.there ++ parcels took.next.count s)) said_is took.cable) in
     let at = desk_at stage desk took.next hand palm.hand took.stays stands.at in
     let right : HeardRightly hand desk took.next (end_takes end packet).heard = subst (HeardRightly hand desk took.next) heard_is took.heard in
     record {
@@ -142,11 +142,11 @@ desk_takes stage end held now palm packet stands goes =
       stands = record {
         desk = took.next.count;
         hand = stands.hand;
-        there = stands.there ++ stamped took.next.count said;
+        there = stands.there ++ parcels took.next.count said;
         back = parts.rest;
         came = scan now;
-        cable = subst (λ (e : EndValue). Cable (side e took.next.count) hand (stands.there ++ stamped took.next.count said) parts.rest) end_is cable;
-        there_is = joined stands.there (stamped took.next.count said) palm.toward (packets_of said) stands.there_is (packets_in-stamped took.next.count said);
+        cable = subst (λ (e : EndValue). Cable (side e took.next.count) hand (stands.there ++ parcels took.next.count said) parts.rest) end_is cable;
+        there_is = joined stands.there (parcels took.next.count said) palm.toward (packets_of said) stands.there_is (packets_in-parcels took.next.count said);
         back_is = parts.rest_is;
         held_is = λ more. (head_of (sym (goes.scans more) ∙ stands.held_is more ∙ ap (λ (ps : List PacketValue). ps ++ scan (palm.part ++ more)) came)).1;
         part_open = stands.part_open;
@@ -168,16 +168,16 @@ desk_waits stage end held palm stands =
     let hand = side palm.hand.end stands.hand in
     let again = says_again hand desk stands.back stands.there (turned desk hand stands.there stands.back stands.cable) in
     let said = (end_waits end).0 in
-    let cable = turned hand again.next stands.back (stands.there ++ stamped again.next.count said) again.cable in
+    let cable = turned hand again.next stands.back (stands.there ++ parcels again.next.count said) again.cable in
     let at = desk_at stage desk again.next hand palm.hand again.stays stands.at in
     record {
       desk = again.next.count;
       hand = stands.hand;
-      there = stands.there ++ stamped again.next.count said;
+      there = stands.there ++ parcels again.next.count said;
       back = stands.back;
       came = stands.came;
-      cable = subst (λ (e : EndValue). Cable (side e again.next.count) hand (stands.there ++ stamped again.next.count said) stands.back) again.end_is cable;
-      there_is = joined stands.there (stamped again.next.count said) palm.toward (packets_of said) stands.there_is (packets_in-stamped again.next.count said);
+      cable = subst (λ (e : EndValue). Cable (side e again.next.count) hand (stands.there ++ parcels again.next.count said) stands.back) again.end_is cable;
+      there_is = joined stands.there (parcels again.next.count said) palm.toward (packets_of said) stands.there_is (packets_in-parcels again.next.count said);
       back_is = stands.back_is;
       held_is = stands.held_is;
       part_open = stands.part_open;

@@ -4,7 +4,7 @@ use Rattle.std.specs.Option.{unwrap_or}
 use Rattle.std.proofs.lemmas.Bool.{cases_Bool, cond-false, cond-true}
 use Rattle.std.proofs.lemmas.List.{append-nil, append_assoc, length-append, map-append}
 use Rattle.cable_laws.proofs.MomentLaws.{begins, expects, takes}
-use Rattle.cable_laws.specs.Cables.{Cable, Count, IsAhead, IsOver, Side, Stamped, packet_of, packets_in, packets_of, stamped}
+use Rattle.cable_laws.specs.Cables.{Cable, Count, IsAhead, IsOver, Side, Parcel, packet_of, packets_in, packets_of, parcels}
 use Rattle.cable_laws.specs.Moments.{HeardRightly, StaysOn}
 use Rattle.device_stream.specs.declared.talk_end.TalkEnd.{TalkEnd}
 use Rattle.device_stream.specs.declared.talk_end.TalkEnd.TheVariants.{Aborted, BadHello, Ended}
@@ -26,23 +26,23 @@ use Rattle.port_laws.specs.Talking.{Asking, Greeting, IsAt, IsBefore, Resting, S
 
 -- ---- the packets of what is said
 
-pub packets_in-stamped : (count : Count) (said : List OutgoingFragment) → packets_in (stamped count said) ≡ packets_of said
-packets_in-stamped count [] = refl
-packets_in-stamped count (first ∷ later) = ap (λ (ps : List PacketValue). packet_of first ∷ ps) (packets_in-stamped count later)
+pub packets_in-parcels : (count : Count) (said : List OutgoingFragment) → packets_in (parcels count said) ≡ packets_of said
+packets_in-parcels count [] = refl
+packets_in-parcels count (first ∷ later) = ap (λ (ps : List PacketValue). packet_of first ∷ ps) (packets_in-parcels count later)
 
 -- ---- what was heard
 
 -- what the handheld did then
-pub record Took (stage : Stage) (desk : Side) (there queue : List Stamped) (done : List OutgoingFragment × Hand) : Type 0 where
+pub record Took (stage : Stage) (desk : Side) (there queue : List Parcel) (done : List OutgoingFragment × Hand) : Type 0 where
   pub count : Count
-  pub more : List Stamped
+  pub more : List Parcel
   pub cable : Cable desk (side done.1.end count) there (queue ++ more)
   pub more_is : packets_in more ≡ packets_of done.0
   pub id_is : done.1.end.sender.id ≡ session_id (length done.1.performed)
   pub at : IsAt stage desk (side done.1.end count) done.1
 
 -- what is known of it before
-pub record Hearing (stage : Stage) (desk was next : Side) (old : Hand) (hears : Heard) (there queue : List Stamped) : Type 0 where
+pub record Hearing (stage : Stage) (desk was next : Side) (old : Hand) (hears : Heard) (there queue : List Parcel) : Type 0 where
   pub cable : Cable desk next there queue
   pub right : HeardRightly desk was next hears
   pub stays : StaysOn desk was next
@@ -92,18 +92,18 @@ still_at (Asking first request) desk was next old over stays (inr at) = inr (rec
 still_at (Resting first) desk was next old over stays at =
     record { did = did_still first old next.end over at.did; over = stays.other at.over; other = stays.over at.other }
 
-still : (stage : Stage) (desk was next : Side) (old : Hand) (hears : Heard) (there queue : List Stamped) (over : Option TalkEnd)
+still : (stage : Stage) (desk was next : Side) (old : Hand) (hears : Heard) (there queue : List Parcel) (over : Option TalkEnd)
     → Hearing stage desk was next old hears there queue → Took stage desk there queue ([], closed old next.end over)
 still stage desk was next old hears there queue over hearing = record {
   count = next.count;
   more = [];
-  cable = subst (λ (q : List Stamped). Cable desk next there q) (sym (append-nil queue)) hearing.cable;
+  cable = subst (λ (q : List Parcel). Cable desk next there q) (sym (append-nil queue)) hearing.cable;
   more_is = refl;
   id_is = hearing.stays.id ∙ hearing.id_is;
   at = still_at stage desk was next old over hearing.stays hearing.at;
 }
 
-delivered : (stage : Stage) (desk was next : Side) (old : Hand) (hears : Heard) (there queue : List Stamped)
+delivered : (stage : Stage) (desk was next : Side) (old : Hand) (hears : Heard) (there queue : List Parcel)
     → Hearing stage desk was next old hears there queue → Took stage desk there queue ([], with_delivery (with_end old next.end))
 delivered stage desk was next old hears there queue hearing =
     let hand = with_end old next.end in
@@ -136,7 +136,7 @@ greets_at (Asking first request) desk was next old stays over ahead (inl at) id 
 })
 greets_at (Asking first request) desk was next old stays over ahead (inr at) id = let all = at.over.all in let e : ⊥ = omega (arith, all, ahead) in absurd e
 
-greeted : (stage : Stage) (desk was next : Side) (old : Hand) (there queue : List Stamped) (message : List ℕ)
+greeted : (stage : Stage) (desk was next : Side) (old : Hand) (there queue : List Parcel) (message : List ℕ)
     → Hearing stage desk was next old heard.Message there queue → Took stage desk there queue ([], greeted_by (with_end old next.end) message)
 greeted stage desk was next old there queue message hearing =
     let hand = with_end old next.end in
@@ -146,7 +146,7 @@ greeted stage desk was next old there queue message hearing =
       | inl is ↦ subst (λ (h : Hand). Took stage desk there queue ([], h)) (sym (cond-true (is_init message) begins ends is)) (record {
         count = next.count;
         more = [];
-        cable = subst (λ (q : List Stamped). Cable desk (side begins.end next.count) there q) (sym (append-nil queue))
+        cable = subst (λ (q : List Parcel). Cable desk (side begins.end next.count) there q) (sym (append-nil queue))
             (expects desk next there queue (session_id 1) hearing.cable (hearing.right.over refl));
         more_is = refl;
         id_is = hearing.stays.id ∙ hearing.id_is;
@@ -157,7 +157,7 @@ greeted stage desk was next old there queue message hearing =
     ]
 
 -- the end that says the reply
-replied_end : (desk next : Side) (there queue : List Stamped) (reply : List ℕ) (number : ℕ) → Cable desk next there queue → IsOver desk next
+replied_end : (desk next : Side) (there queue : List Parcel) (reply : List ℕ) (number : ℕ) → Cable desk next there queue → IsOver desk next
     → Cable desk (side (awaiting next.end reply number) next.count) there queue × (waiting next.end.sender ≡ None → waiting (awaiting next.end reply number).sender ≡ None)
     × ((awaiting next.end reply number).sender ≡ next.end.sender)
 replied_end desk next there queue reply number cable over =
@@ -170,7 +170,7 @@ replied_end desk next there queue reply number cable over =
     ]
 
 -- a request is performed, and its reply begins
-replies : (first : Hand) (request : List ℕ) (desk was next : Side) (old : Hand) (there queue : List Stamped) (free : ℕ)
+replies : (first : Hand) (request : List ℕ) (desk was next : Side) (old : Hand) (there queue : List Parcel) (free : ℕ)
     → Hearing (Asking first request) desk was next old heard.Message there queue → MayGive old.device (message_of next.end) free
     → IsBefore first request desk was old
     → length (served old.device free (message_of next.end)).0 ≤ 65535
@@ -194,10 +194,10 @@ replies first request desk was next old there queue free hearing may before shor
     let step : DeviceStep old.device asked reply (served old.device free asked).1 = record { free = free; may = may; is = refl } in
     record {
       count = began.next.count;
-      more = stamped began.next.count (end_begins end (session_id number) reply).0;
-      cable = subst (λ (e : EndValue). Cable desk (side e began.next.count) there (queue ++ stamped began.next.count (end_begins end (session_id number) reply).0))
+      more = parcels began.next.count (end_begins end (session_id number) reply).0;
+      cable = subst (λ (e : EndValue). Cable desk (side e began.next.count) there (queue ++ parcels began.next.count (end_begins end (session_id number) reply).0))
           began.end_is began.cable;
-      more_is = packets_in-stamped began.next.count (end_begins end (session_id number) reply).0;
+      more_is = packets_in-parcels began.next.count (end_begins end (session_id number) reply).0;
       id_is = ap session_id (sym (length-append old.performed (asked ∷ [])));
       at = inr (record {
         step = subst (λ (d : Device). DeviceStep d request reply (served old.device free asked).1) before.did.device_is
@@ -210,7 +210,7 @@ replies first request desk was next old there queue free hearing may before shor
 
 -- ---- whatever was heard
 
-heard_message : (stage : Stage) (desk was next : Side) (old : Hand) (there queue : List Stamped) (free : ℕ)
+heard_message : (stage : Stage) (desk was next : Side) (old : Hand) (there queue : List Parcel) (free : ℕ)
     → Hearing stage desk was next old heard.Message there queue → (old.greeted ≡ true → MayGive old.device (message_of next.end) free)
     → length (heard_by (with_end old next.end) free heard.Message).1.end.message ≤ 65535
     → Took stage desk there queue (heard_by (with_end old next.end) free heard.Message)
@@ -246,7 +246,7 @@ heard_message stage desk was next old there queue free hearing may short =
           let ahead = hearing.right.ahead refl in
           let e : ⊥ = omega (arith, taken, ahead) in absurd e
 
-after_heard : (stage : Stage) (desk was next : Side) (old : Hand) (there queue : List Stamped) (free : ℕ) (hears : Heard)
+after_heard : (stage : Stage) (desk was next : Side) (old : Hand) (there queue : List Parcel) (free : ℕ) (hears : Heard)
     → Hearing stage desk was next old hears there queue → (old.greeted ≡ true → hears ≡ heard.Message → MayGive old.device (message_of next.end) free)
     → length (heard_by (with_end old next.end) free hears).1.end.message ≤ 65535
     → Took stage desk there queue (heard_by (with_end old next.end) free hears)
@@ -261,15 +261,15 @@ after_heard stage desk was next old there queue free heard.Message hearing may s
 -- ---- a packet
 
 -- the handheld took the oldest packet
-pub record HandTook (stage : Stage) (desk : Side) (there back : List Stamped) (said : List OutgoingFragment) (new : Hand) : Type 0 where
+pub record HandTook (stage : Stage) (desk : Side) (there back : List Parcel) (said : List OutgoingFragment) (new : Hand) : Type 0 where
   pub count : Count
-  pub more : List Stamped
+  pub more : List Parcel
   pub cable : Cable desk (side new.end count) there (back ++ more)
   pub more_is : packets_in more ≡ packets_of said
   pub id_is : new.end.sender.id ≡ session_id (length new.performed)
   pub at : IsAt stage desk (side new.end count) new
 
-pub hand_takes : (stage : Stage) (desk : Side) (old : Hand) (count : Count) (first : Stamped) (there back : List Stamped) (said : List OutgoingFragment) (new : Hand)
+pub hand_takes : (stage : Stage) (desk : Side) (old : Hand) (count : Count) (first : Parcel) (there back : List Parcel) (said : List OutgoingFragment) (new : Hand)
     → Cable desk (side old.end count) (first ∷ there) back → old.end.sender.id ≡ session_id (length old.performed)
     → IsAt stage desk (side old.end count) old → Takes old first.packet said new → length new.end.message ≤ 65535 → HandTook stage desk there back said new
 unfolding taken_by
@@ -277,7 +277,7 @@ hand_takes stage desk old count first there back said new cable id_is at taking 
     let was = side old.end count in
     let answer = end_takes old.end first.packet in
     let took = takes desk was first there back cable in
-    let queue = back ++ stamped took.next.count answer.said in
+    let queue = back ++ parcels took.next.count answer.said in
     let done = heard_by (with_end old answer.end) taking.free answer.heard in
     let hearing : Hearing stage desk was took.next old answer.heard there queue
     = record { cable = took.cable; right = took.heard; stays = took.stays; id_is = id_is; at = at } in
@@ -292,11 +292,11 @@ hand_takes stage desk old count first there back said new cable id_is at taking 
     let said_is : answer.said ++ done.0 ≡ said = ap (λ (d : List OutgoingFragment × Hand). d.0) taking.is in
     let whole : HandTook stage desk there back (answer.said ++ done.0) done.1 = record {
       count = after.count;
-      more = stamped took.next.count answer.said ++ after.more;
-      cable = subst (λ (q : List Stamped). Cable desk (side done.1.end after.count) there q)
-          (append_assoc back (stamped took.next.count answer.said) after.more) after.cable;
-      more_is = map-append (λ (each : Stamped). each.packet) (stamped took.next.count answer.said) after.more
-          ∙ ap (λ (ps : List PacketValue). ps ++ packets_in after.more) (packets_in-stamped took.next.count answer.said)
+      more = parcels took.next.count answer.said ++ after.more;
+      cable = subst (λ (q : List Parcel). Cable desk (side done.1.end after.count) there q)
+          (append_assoc back (parcels took.next.count answer.said) after.more) after.cable;
+      more_is = map-append (λ (each : Parcel). each.packet) (parcels took.next.count answer.said) after.more
+          ∙ ap (λ (ps : List PacketValue). ps ++ packets_in after.more) (packets_in-parcels took.next.count answer.said)
           ∙ ap (λ (ps : List PacketValue). packets_of answer.said ++ ps) after.more_is
           ∙ sym (map-append packet_of answer.said done.0);
       id_is = after.id_is;

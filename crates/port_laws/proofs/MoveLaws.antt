@@ -2,7 +2,7 @@
 use Rattle.std.proofs.Common.{◌≡◌, ℕ, List, [], ◌∷◌, ◌++◌, length, refl, subst, sym, ap, ◌∙◌}
 use Rattle.std.proofs.lemmas.List.{append_assoc, map-append}
 use Rattle.cable_laws.proofs.MomentLaws.{loses, says_again, takes, turned}
-use Rattle.cable_laws.specs.Cables.{Cable, Stamped, packets_in, packets_of, stamped}
+use Rattle.cable_laws.specs.Cables.{Cable, Parcel, packets_in, packets_of, parcels}
 use Rattle.device_stream.specs.Hands.{with_end}
 use Rattle.device_stream.specs.Talks.{Takes}
 use Rattle.padp_end.specs.Ends.{EndValue, end_takes, end_waits}
@@ -16,10 +16,10 @@ use Rattle.port_laws.specs.Talking.{IsAt, Stage, Stands, side}
 -- ---- lists that are under way
 
 -- a part of a mapped list is mapped of a part
-pub record Parted (queue : List Stamped) (before after : List PacketValue) (packet : PacketValue) : Type 0 where
-  pub front : List Stamped
-  pub lost : Stamped
-  pub behind : List Stamped
+pub record Parted (queue : List Parcel) (before after : List PacketValue) (packet : PacketValue) : Type 0 where
+  pub front : List Parcel
+  pub lost : Parcel
+  pub behind : List Parcel
   pub is : queue ≡ front ++ lost ∷ behind
   pub front_is : packets_in front ≡ before
   pub lost_is : lost.packet ≡ packet
@@ -31,7 +31,7 @@ head_of e = (cc, cc)
 pub no_head : {X : Type 0} {y : X} {ys : List X} → [] ≡ (y ∷ ys) → ⊥
 no_head e = cc
 
-pub parted : (queue : List Stamped) (before after : List PacketValue) (packet : PacketValue) → packets_in queue ≡ before ++ packet ∷ after
+pub parted : (queue : List Parcel) (before after : List PacketValue) (packet : PacketValue) → packets_in queue ≡ before ++ packet ∷ after
     → Parted queue before after packet
 parted [] [] after packet is = absurd (no_head is)
 parted [] (p ∷ before) after packet is = absurd (no_head is)
@@ -45,16 +45,16 @@ parted (first ∷ queue) (p ∷ before) after packet is =
       front = first ∷ later.front;
       lost = later.lost;
       behind = later.behind;
-      is = ap (λ (q : List Stamped). first ∷ q) later.is;
+      is = ap (λ (q : List Parcel). first ∷ q) later.is;
       front_is = ap (λ (ps : List PacketValue). first.packet ∷ ps) later.front_is ∙ ap (λ (q : PacketValue). q ∷ before) parts.0;
       lost_is = later.lost_is;
       behind_is = later.behind_is;
     }
 
-pub joined : (front behind : List Stamped) (before after : List PacketValue) → packets_in front ≡ before → packets_in behind ≡ after
+pub joined : (front behind : List Parcel) (before after : List PacketValue) → packets_in front ≡ before → packets_in behind ≡ after
     → packets_in (front ++ behind) ≡ before ++ after
 joined front behind before after front_is behind_is =
-    map-append (λ (each : Stamped). each.packet) front behind ∙ ap (λ (ps : List PacketValue). ps ++ packets_in behind) front_is
+    map-append (λ (each : Parcel). each.packet) front behind ∙ ap (λ (ps : List PacketValue). ps ++ packets_in behind) front_is
     ∙ ap (λ (ps : List PacketValue). before ++ ps) behind_is
 
 -- ---- a packet is lost
@@ -70,7 +70,7 @@ loses_toward stage end held old toward stands loss =
       back = stands.back;
       came = stands.came;
       cable = loses (side end stands.desk) (side old.hand.end stands.hand) parts.front parts.lost parts.behind stands.back
-          (subst (λ (q : List Stamped). Cable (side end stands.desk) (side old.hand.end stands.hand) q stands.back) parts.is stands.cable);
+          (subst (λ (q : List Parcel). Cable (side end stands.desk) (side old.hand.end stands.hand) q stands.back) parts.is stands.cable);
       there_is = joined parts.front parts.behind loss.before loss.after parts.front_is parts.behind_is ∙ sym loss.new_is;
       back_is = stands.back_is;
       held_is = stands.held_is;
@@ -93,7 +93,7 @@ loses_back stage end held old back stands loss =
       back = parts.front ++ parts.behind;
       came = stands.came;
       cable = turned hand desk (parts.front ++ parts.behind) stands.there (loses hand desk parts.front parts.lost parts.behind stands.there
-          (subst (λ (q : List Stamped). Cable hand desk q stands.there) parts.is (turned desk hand stands.there stands.back stands.cable)));
+          (subst (λ (q : List Parcel). Cable hand desk q stands.there) parts.is (turned desk hand stands.there stands.back stands.cable)));
       there_is = stands.there_is;
       back_is = joined parts.front parts.behind (stands.came ++ loss.before) loss.after parts.front_is parts.behind_is
           ∙ append_assoc stands.came loss.before loss.after ∙ ap (λ (ps : List PacketValue). stands.came ++ ps) (sym loss.new_is);
@@ -106,14 +106,14 @@ loses_back stage end held old back stands loss =
 -- ---- the handheld takes a packet
 
 -- the oldest one
-pub record Oldest (queue : List Stamped) (packet : PacketValue) (later : List PacketValue) : Type 0 where
-  pub first : Stamped
-  pub rest : List Stamped
+pub record Oldest (queue : List Parcel) (packet : PacketValue) (later : List PacketValue) : Type 0 where
+  pub first : Parcel
+  pub rest : List Parcel
   pub is : queue ≡ first ∷ rest
   pub first_is : first.packet ≡ packet
   pub rest_is : packets_in rest ≡ later
 
-pub oldest_of : (queue : List Stamped) (packet : PacketValue) (later : List PacketValue) → packets_in queue ≡ packet ∷ later → Oldest queue packet later
+pub oldest_of : (queue : List Parcel) (packet : PacketValue) (later : List PacketValue) → packets_in queue ≡ packet ∷ later → Oldest queue packet later
 oldest_of [] packet later is = absurd (no_head is)
 oldest_of (first ∷ rest) packet later is =
     let parts = head_of is in
@@ -125,7 +125,7 @@ takes_next stage end held old new stands took =
     let hand = side old.hand.end stands.hand in
     let parts = oldest_of stands.there took.packet took.later (stands.there_is ∙ took.toward_is) in
     let done = hand_takes stage desk old.hand stands.hand parts.first parts.rest stands.back took.said took.hand
-    (subst (λ (q : List Stamped). Cable desk hand q stands.back) parts.is stands.cable) stands.id_is stands.at
+    (subst (λ (q : List Parcel). Cable desk hand q stands.back) parts.is stands.cable) stands.id_is stands.at
     (subst (λ (p : PacketValue). Takes old.hand p took.said took.hand) (sym parts.first_is) took.takes) took.short in
     subst (Stands stage end held) (sym took.new_is) (record {
       desk = stands.desk;
@@ -160,9 +160,9 @@ stops stage end held old new stands stop =
     let hand = side old.hand.end stands.hand in
     let parts = oldest_of stands.there stop.packet stop.later (stands.there_is ∙ stop.toward_is) in
     let took = takes desk hand parts.first parts.rest stands.back
-    (subst (λ (q : List Stamped). Cable desk hand q stands.back) parts.is stands.cable) in
+    (subst (λ (q : List Parcel). Cable desk hand q stands.back) parts.is stands.cable) in
     let answer = end_takes old.hand.end parts.first.packet in
-    let queue = stands.back ++ stamped took.next.count answer.said in
+    let queue = stands.back ++ parcels took.next.count answer.said in
     let at = still_at stage desk hand took.next old.hand old.hand.over took.stays stands.at in
     let whole : Stands stage end held (stopped old parts.first.packet stop.later) = record {
       desk = stands.desk;
@@ -172,8 +172,8 @@ stops stage end held old new stands stop =
       came = stands.came;
       cable = subst (λ (e : EndValue). Cable desk (side e took.next.count) parts.rest queue) took.end_is took.cable;
       there_is = parts.rest_is;
-      back_is = joined stands.back (stamped took.next.count answer.said) (stands.came ++ old.back) (packets_of answer.said) stands.back_is
-          (packets_in-stamped took.next.count answer.said)
+      back_is = joined stands.back (parcels took.next.count answer.said) (stands.came ++ old.back) (packets_of answer.said) stands.back_is
+          (packets_in-parcels took.next.count answer.said)
           ∙ append_assoc stands.came old.back (packets_of answer.said);
       held_is = stands.held_is;
       part_open = stands.part_open;
@@ -196,12 +196,12 @@ repeats stage end held old stands =
       desk = stands.desk;
       hand = again.next.count;
       there = stands.there;
-      back = stands.back ++ stamped again.next.count said;
+      back = stands.back ++ parcels again.next.count said;
       came = stands.came;
-      cable = subst (λ (e : EndValue). Cable desk (side e again.next.count) stands.there (stands.back ++ stamped again.next.count said)) again.end_is again.cable;
+      cable = subst (λ (e : EndValue). Cable desk (side e again.next.count) stands.there (stands.back ++ parcels again.next.count said)) again.end_is again.cable;
       there_is = stands.there_is;
-      back_is = joined stands.back (stamped again.next.count said) (stands.came ++ old.back) (packets_of said) stands.back_is
-          (packets_in-stamped again.next.count said)
+      back_is = joined stands.back (parcels again.next.count said) (stands.came ++ old.back) (packets_of said) stands.back_is
+          (packets_in-parcels again.next.count said)
           ∙ append_assoc stands.came old.back (packets_of said);
       held_is = stands.held_is;
       part_open = stands.part_open;

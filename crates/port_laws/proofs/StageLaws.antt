@@ -2,7 +2,7 @@
 use Rattle.std.proofs.Common.{◌≡◌, ◌≤◌, ◌<◌, ℕ, is_none, true, false, List, [], ◌∷◌, ◌++◌, length, Option, Some, None, inl, inr, refl, subst, sym, ap, ◌∙◌, arith}
 use Rattle.std.proofs.lemmas.Bool.{and_parts, eqb-true, not-true}
 use Rattle.cable_laws.proofs.MomentLaws.{begins, expects, turned}
-use Rattle.cable_laws.specs.Cables.{Cable, Count, IsOver, Way, packets_of, stamped}
+use Rattle.cable_laws.specs.Cables.{Cable, Count, IsOver, Way, packets_of, parcels}
 use Rattle.cable_laws.specs.Moments.{BeginsOne}
 use Rattle.device_stream.specs.Hands.{Hand}
 use Rattle.padp_end.specs.Ends.{EndValue, end_begins, end_expects, end_takes, first_end}
@@ -16,7 +16,7 @@ use Rattle.slp_frames.specs.PacketText.{PacketValue}
 use Rattle.port_laws.proofs.HandLaws.{packets_in-stamped}
 use Rattle.port_laws.proofs.MoveLaws.{joined}
 use Rattle.port_laws.specs.Palms.{Palm, is_first, is_nil}
-use Rattle.port_laws.specs.Talking.{Asking, DeskTook, Greeting, IsAt, Replied, Resting, Stage, Stands, Waking, Woken, side, with_said}
+use Rattle.port_laws.specs.Talking.{Asking, DeskTook, Greeting, IsAt, IsReplyOf, Resting, Stage, Stands, Waking, Woken, side, with_said}
 
 -- the same at another stage
 pub at_stage : (stage next : Stage) (end : EndValue) (held : List ℕ) (palm : Palm) → (stands : Stands stage end held palm)
@@ -63,7 +63,7 @@ desk_greeted was end now palm packet took hears =
 
 -- a reply: it is the device's, to this request
 pub desk_replied : (was : Hand) (request : List ℕ) (end : EndValue) (now : List ℕ) (palm : Palm) (packet : PacketValue)
-    → DeskTook (Asking was request) end now palm packet → (end_takes end packet).heard ≡ heard.Message → Replied was request end now palm packet
+    → DeskTook (Asking was request) end now palm packet → (end_takes end packet).heard ≡ heard.Message → IsReplyOf was request end now palm packet
 desk_replied was request end now palm packet took hears = elim took.was [
   | inl before ↦ (let ahead = took.right.ahead hears in let all = before.over.all in let e : ⊥ = omega (arith, ahead, all) in absurd e)
   | inr behind ↦ record {
@@ -123,12 +123,12 @@ begun stage next end held palm id message stands began at =
     record {
       desk = began.next.count;
       hand = stands.hand;
-      there = stands.there ++ stamped began.next.count said;
+      there = stands.there ++ parcels began.next.count said;
       back = stands.back;
       came = stands.came;
-      cable = subst (λ (e : EndValue). Cable (side e began.next.count) hand (stands.there ++ stamped began.next.count said) stands.back) began.end_is
-          (turned hand began.next stands.back (stands.there ++ stamped began.next.count said) began.cable);
-      there_is = joined stands.there (stamped began.next.count said) palm.toward (packets_of said) stands.there_is (packets_in-stamped began.next.count said);
+      cable = subst (λ (e : EndValue). Cable (side e began.next.count) hand (stands.there ++ parcels began.next.count said) stands.back) began.end_is
+          (turned hand began.next stands.back (stands.there ++ parcels began.next.count said) began.cable);
+      there_is = joined stands.there (parcels began.next.count said) palm.toward (packets_of said) stands.there_is (packets_in-parcels began.next.count said);
       back_is = stands.back_is;
       held_is = stands.held_is;
       part_open = stands.part_open;

@@ -1,7 +1,7 @@
 -- A desktop's end over a handheld and a cable: what holds of both while no request was said yet, and
 -- from a request on until its reply was taken.
 use Rattle.std.specs.Prelude.{◌≡◌, ◌⊎◌, ℕ, false, List, [], ◌∷◌, ◌++◌, length, Some, None}
-use Rattle.cable_laws.specs.Cables.{Cable, Count, IsOver, Side, Stamped, packets_in, packets_of}
+use Rattle.cable_laws.specs.Cables.{Cable, Count, IsOver, Side, Parcel, packets_in, packets_of}
 use Rattle.cable_laws.specs.Moments.{HeardRightly, StaysOn}
 use Rattle.device_stream.specs.Hands.{Hand}
 use Rattle.device_stream.specs.Laws.{DidNothing}
@@ -79,8 +79,8 @@ IsAt (Resting was) desk palm hand = IsResting was desk palm hand
 pub record Stands (stage : Stage) (end : EndValue) (held : List ℕ) (palm : Palm) : Type 0 where
   pub desk : Count
   pub hand : Count
-  pub there : List Stamped
-  pub back : List Stamped
+  pub there : List Parcel
+  pub back : List Parcel
   pub came : List PacketValue
   pub cable : Cable (side end desk) (side palm.hand.end hand) there back
   pub there_is : packets_in there ≡ palm.toward
@@ -115,7 +115,7 @@ pub record DeskTook (stage : Stage) (end : EndValue) (now : List ℕ) (palm : Pa
 
 -- and it was the reply to the request: the handheld performed exactly this request, once, by one
 -- step of its device; its reply is the message that was taken whole, and all that was said was taken
-pub record Replied (was : Hand) (request : List ℕ) (end : EndValue) (now : List ℕ)
+pub record IsReplyOf (was : Hand) (request : List ℕ) (end : EndValue) (now : List ℕ)
     (palm : Palm) (packet : PacketValue) : Type 0 where
   pub reply : List ℕ
   pub whole : whole_of (end_takes end packet).end.receiver.pieces ≡ Some reply

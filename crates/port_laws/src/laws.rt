@@ -6,7 +6,7 @@ ghost use Rattle.padp_end.specs.Ends.{EndValue, end_begins, end_expects, end_tak
 ghost use Rattle.padp_end.specs.declared.heard.Heard.TheVariants.{Delivered, Message};
 ghost use Rattle.padp_link.specs.Senders.{waiting};
 ghost use Rattle.port_laws.specs.Palms.{Gives, MovesOn, Palm, is_first};
-ghost use Rattle.port_laws.specs.Talking.{Asking, DeskTook, Greeting, Replied, Resting, Stage, Stands, Waking, Woken, with_said};
+ghost use Rattle.port_laws.specs.Talking.{Asking, DeskTook, Greeting, IsReplyOf, Resting, Stage, Stands, Waking, Woken, with_said};
 ghost use Rattle.slp_frames.specs.Histories.{Continues};
 ghost use Rattle.slp_frames.specs.PacketScan.{scan};
 ghost use Rattle.slp_frames.specs.PacketText.{PacketValue};
@@ -66,7 +66,7 @@ pub fn an_init_is_no_request()
 pub fn a_reply_is_to_its_request()
     ensures { (was : Hand) (request : List ℕ) (end : EndValue) (now : List ℕ) (palm : Palm)
         (packet : PacketValue) → DeskTook (Asking was request) end now palm packet
-        → (end_takes end packet).heard ≡ Message → Replied was request end now palm packet }
+        → (end_takes end packet).heard ≡ Message → IsReplyOf was request end now palm packet }
 {}
 
 /// Between two requests another message may be awaited.

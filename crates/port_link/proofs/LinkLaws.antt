@@ -5,7 +5,7 @@ use Rattle.std.specs.Option.{option_map}
 use Rattle.device_stream.specs.Laws.{DidNothing}
 use Rattle.dlp_commands.specs.DeviceRuns.{Exchange, exchanged}
 use Rattle.dlp_commands.specs.Links.{MayExchange}
-use Rattle.dlp_commands.specs.Talks.{Answered, Talk, Unanswered, WasAnswered, WasLeft}
+use Rattle.dlp_commands.specs.Talks.{HasAnswer, Talk, LacksAnswer, WasAnswered, WasLeft}
 use Rattle.padp_end.specs.Ends.{EndValue, first_end}
 use Rattle.padp_link.specs.Neighbours.{session_id}
 use Rattle.palm_device.specs.Devices.{Device}
@@ -171,15 +171,15 @@ hello_told result old new none not_begun stands says = go old.scene.palm refl wh
 -- ---- a request
 
 pub record AsksTold (request reply : List ℕ) (old new : LinkValue) : Type 0 where
-  pub answered : new.cause ≡ None → Answered (talk_of old) request reply (talk_of new)
-  pub unanswered : (new.cause ≡ None → ⊥) → Unanswered (talk_of old) request (talk_of new)
+  pub answered : new.cause ≡ None → HasAnswer (talk_of old) request reply (talk_of new)
+  pub unanswered : (new.cause ≡ None → ⊥) → LacksAnswer (talk_of old) request (talk_of new)
   pub stands : Standing new
 
-answered_from : (request reply : List ℕ) (old new : Option Talk) (was : Talk) → old ≡ Some was → WasAnswered was request reply new → Answered old request reply new
-answered_from request reply old new was is answered = subst (λ (o : Option Talk). Answered o request reply new) (sym is) answered
+answered_from : (request reply : List ℕ) (old new : Option Talk) (was : Talk) → old ≡ Some was → WasAnswered was request reply new → HasAnswer old request reply new
+answered_from request reply old new was is answered = subst (λ (o : Option Talk). HasAnswer o request reply new) (sym is) answered
 
-unanswered_from : (request : List ℕ) (old new : Option Talk) (was : Talk) → old ≡ Some was → WasLeft was request new → Unanswered old request new
-unanswered_from request old new was is left = subst (λ (o : Option Talk). Unanswered o request new) (sym is) (inr left)
+unanswered_from : (request : List ℕ) (old new : Option Talk) (was : Talk) → old ≡ Some was → WasLeft was request new → LacksAnswer old request new
+unanswered_from request old new was is left = subst (λ (o : Option Talk). LacksAnswer o request new) (sym is) (inr left)
 
 pub same_some : {X : Type 0} {a b : X} → Some a ≡ Some b → a ≡ b
 same_some e = cc
@@ -203,8 +203,8 @@ asks_told request reply old new short none begun stands asks = go old.scene.palm
       let was = none_talk old.cause old.begun old.id old.scene.desk.end old.scene.palm is in
       let now = none_talk new.cause new.begun new.id new.scene.desk.end new.scene.palm after in
       record {
-        answered = λ fine. subst (λ (o : Option Talk). Answered o request reply (talk_of new)) (sym was) now;
-        unanswered = λ failed. subst (λ (o : Option Talk). Unanswered o request (talk_of new)) (sym was) now;
+        answered = λ fine. subst (λ (o : Option Talk). HasAnswer o request reply (talk_of new)) (sym was) now;
+        unanswered = λ failed. subst (λ (o : Option Talk). LacksAnswer o request (talk_of new)) (sym was) now;
         stands = standing_none new.cause new.begun new.scene.desk.end new.scene.held new.id new.scene.palm after;
       }
   go (Some was) is =
@@ -247,6 +247,6 @@ begun_is begun cause none (inr some) =
     let f : false ≡ true = e in absurd cc
 
 -- it didn't go out
-pub unanswered_same : (told : Option Talk) (request : List ℕ) → Unanswered told request told
+pub unanswered_same : (told : Option Talk) (request : List ℕ) → LacksAnswer told request told
 unanswered_same None request = refl
 unanswered_same (Some talk) request = inl refl

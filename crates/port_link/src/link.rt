@@ -2,7 +2,7 @@
 ghost use Rattle.std.specs.Prelude.{◌≡◌, false, true, Err, IfSome, IsErrOf, OnErr, OnOk};
 ghost use Rattle.std.specs.Result.{result_err};
 ghost use Rattle.dlp_commands.specs.Links.{MayExchange, WentDown, first_fault};
-ghost use Rattle.dlp_commands.specs.Talks.{Answered, Unanswered};
+ghost use Rattle.dlp_commands.specs.Talks.{HasAnswer, LacksAnswer};
 ghost use Rattle.port_link.specs.Calls.{AnswersExchange, AnswersHello};
 
 use crate::greeting::id_of_next;
@@ -63,9 +63,9 @@ impl<P: Port> Link for PortLink<P> {
     #[tactic(auto, using(crate::proofs::LinkLaws::unanswered_same))]
     fn exchange(&mut self, request: &Message, reply: &mut Message) -> Result<(), LinkFault>
         requires { MayExchange (⟦<Self as Link>⟧.begun self.old) (⟦<Self as Link>⟧.fault self.old) }
-        ensures answered { OnOk result (Answered (⟦<Self as Link>⟧.talk self.old)
+        ensures answered { OnOk result (HasAnswer (⟦<Self as Link>⟧.talk self.old)
             request.now reply.new (⟦<Self as Link>⟧.talk self.new)) }
-        ensures unanswered { OnErr result (Unanswered (⟦<Self as Link>⟧.talk self.old)
+        ensures unanswered { OnErr result (LacksAnswer (⟦<Self as Link>⟧.talk self.old)
             request.now (⟦<Self as Link>⟧.talk self.new)) }
         ensures stays { IfSome (⟦<Self as Link>⟧.fault self.old) (λ fault. (result ≡ Err fault)
             × (⟦<Self as Link>⟧.talk self.new ≡ ⟦<Self as Link>⟧.talk self.old)) }

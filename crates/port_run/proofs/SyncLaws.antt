@@ -38,7 +38,7 @@ use Rattle.port_run.specs.Causes.{stop_status}
 use Rattle.port_run.specs.Ends.{BothLeft, LeftFor, SessionLeft}
 use Rattle.port_run.specs.Reports.{IsOver}
 use Rattle.port_run.specs.Syncs.{HasSynced, SentNothing, SessionRan, TracesTalk}
-use Rattle.port_run.specs.Talks.{DesktopRan, KeptSilent, StaysUnsaid, Talked}
+use Rattle.port_run.specs.Talks.{DesktopRan, KeptSilent, StaysUnsaid, PortSession}
 use Rattle.port_run.specs.Told.{PortTold, SyncTold}
 use Rattle.port_run.specs.declared.synced.CableReport.{CableReport}
 
@@ -167,7 +167,7 @@ module _ {cable : Cable} {slots : List SlotValue} (before after : SyncTold) {por
   both_sync last None both = tt
   both_sync last (Some palm) both = λ rests. both_from opened.slots_are opened.stands (both rests)
 
-  session_sync : Talked cable slots port after.port desk after.desk talk.said report → SessionRan cable before after status report
+  session_sync : PortSession cable slots port after.port desk after.desk talk.said report → SessionRan cable before after status report
   session_sync had = record {
     desktop = opened.desktop;
     opened = port;
@@ -183,7 +183,7 @@ module _ {cable : Cable} {slots : List SlotValue} (before after : SyncTold) {por
   not_in_use end e =
       let same = traced_in_use talk.said status end talk.traces.stands.status_is e in
       by_end_both report.end {A = KeptSilent port after.port desk after.desk talk.said report}
-      {B = Talked cable slots port after.port desk after.desk talk.said report} {C = ⊥} (λ kept. let memory = kept.memory in absurd cc) (λ had. over_not_in_use report.end report.cause talk.said end had.over same) talk.talked.shown
+      {B = PortSession cable slots port after.port desk after.desk talk.said report} {C = ⊥} (λ kept. let memory = kept.memory in absurd cc) (λ had. over_not_in_use report.end report.cause talk.said end had.over same) talk.talked.shown
 
   -- a call with a session
   pub by_session : HasSynced cable before after status report
@@ -191,7 +191,7 @@ module _ {cable : Cable} {slots : List SlotValue} (before after : SyncTold) {por
       let said = talk.traces.stands in
       record {
         shown = by_end_then report.end {A = KeptSilent port after.port desk after.desk talk.said report}
-            {B = Talked cable slots port after.port desk after.desk talk.said report} {C = SentNothing cable before after status report}
+            {B = PortSession cable slots port after.port desk after.desk talk.said report} {C = SentNothing cable before after status report}
             {D = SessionRan cable before after status report} silent_sync session_sync talk.talked.shown;
         blames = record {
           port = λ e. rose_earlier (2 ^ 64 - 1) before.port.faults port.faults after.port.faults opened.port_later

@@ -34,7 +34,7 @@ use Rattle.hotsync_looks.specs.declared.status.Status.TheVariants.{NoMemory}
 use Rattle.port_run.specs.Ends.{LeftFor}
 use Rattle.port_run.specs.Links.{LinkRan, link_over, port_of}
 use Rattle.port_run.specs.Reports.{IsOver, IsSilent}
-use Rattle.port_run.specs.Talks.{DesktopRan, HasTalked, KeptSilent, Talked}
+use Rattle.port_run.specs.Talks.{DesktopRan, HasTalked, KeptSilent, PortSession}
 use Rattle.port_run.specs.Told.{PortTold}
 use Rattle.port_run.specs.declared.closing.Closed.{Closed}
 use Rattle.port_run.specs.declared.synced.CableReport.{CableReport}
@@ -139,7 +139,7 @@ pub kept_silent : (cable : Cable) (slots : List SlotValue) {before after : PortT
     → status ≡ NoMemory → IsSilent report → after ≡ before → desk_after ≡ desk → HasTalked cable slots before after desk desk_after status report
 kept_silent cable slots {before} {after} {desk} {desk_after} {status} {report} memory silent port desktop = record {
   shown = subst (λ end. ByEnd end (KeptSilent before after desk desk_after status report)
-      (Talked cable slots before after desk desk_after status report)) (sym silent.end)
+      (PortSession cable slots before after desk desk_after status report)) (sym silent.end)
       (record { memory = memory; silent = silent; port = port; desktop = desktop });
   port = λ e. absurd cc;
   desktop = λ e. absurd cc;

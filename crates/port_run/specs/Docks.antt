@@ -24,7 +24,7 @@ use Rattle.hotsync_run.specs.Causes.{IsTracedStatus}
 use Rattle.hotsync_run.specs.Emulations.{WentWith}
 use Rattle.hotsync_run.specs.Refusals.{HandheldRefuses, HasHandheld, TraceRefuses}
 use Rattle.hotsync_run.specs.SessionCalls.{StaysAsItWas}
-use Rattle.hotsync_run.specs.Traces.{IsTraced}
+use Rattle.hotsync_run.specs.Traces.{TakesTrace}
 use Rattle.port_run.specs.LogTexts.{dock_text}
 use Rattle.port_run.specs.Refusals.{IsPortRefusal}
 use Rattle.port_run.specs.Talks.{StaysUnsaid}
@@ -95,7 +95,7 @@ pub record HasServed (dock : Dock) (before after : DockTold) (status : Status)
   pub said : Status
   pub had : HadDock device before after said report
   pub status_is : IsTracedStatus said status
-  pub traced : IsTraced dock.trace (dock_text (log_entries report.log)) before.trace after.trace
+  pub traced : TakesTrace dock.trace (dock_text (log_entries report.log)) before.trace after.trace
       status
 
 -- ---- every call

@@ -21,7 +21,7 @@ use Rattle.hotsync_run.specs.Refusals.{HasDesktop, LeavesDesktopUnread}
 use Rattle.hotsync_run.specs.Runs.{StandsAsItDid}
 use Rattle.hotsync_run.specs.SessionCalls.{StaysAsItWas}
 use Rattle.hotsync_run.specs.Told.{FolderTold}
-use Rattle.hotsync_run.specs.Traces.{IsTraced, TracesFrames}
+use Rattle.hotsync_run.specs.Traces.{TakesTrace, TracesFrames}
 use Rattle.hotsync_run.specs.declared.report.SessionEnd.{SessionEnd}
 use Rattle.port_run.specs.Ends.{BothLeft}
 use Rattle.port_run.specs.Links.{LinkRan}
@@ -65,7 +65,7 @@ pub record SessionRan (cable : Cable) (before after : SyncTold) (status : Status
   pub changed : DesktopRan (option_map finished before.desk.contents) before.desk after.desk
       report.end
   pub tells : TellsSession report status
-  pub traced : IsTraced cable.trace (cable_text (log_entries report.log)) before.trace after.trace
+  pub traced : TakesTrace cable.trace (cable_text (log_entries report.log)) before.trace after.trace
       status
   pub both : IfSome opened.palm (λ (palm : Palm). IsAtRest palm.hand.device
       → BothLeft cable palm.hand.device after.port.palm before.desk after.desk link.last report)

@@ -57,7 +57,7 @@ pub record KeptSilent (before after : PortTold) (desk desk_after : FolderTold) (
 
 -- What was said and heard, what became of the desktop's folder, and what the status says of both;
 -- and where the port tells a handheld on which nothing is open, what is left of both sides.
-pub record Talked (cable : Cable) (slots : List SlotValue) (before after : PortTold)
+pub record PortSession (cable : Cable) (slots : List SlotValue) (before after : PortTold)
     (desk desk_after : FolderTold) (status : Status) (report : CableReport) : Type 0 where
   pub link : LinkRan before after report.cause (log_entries report.log)
   pub changed : DesktopRan desk.contents desk desk_after report.end
@@ -70,7 +70,7 @@ pub record Talked (cable : Cable) (slots : List SlotValue) (before after : PortT
 pub record HasTalked (cable : Cable) (slots : List SlotValue) (before after : PortTold)
     (desk desk_after : FolderTold) (status : Status) (report : CableReport) : Type 0 where
   pub shown : ByEnd report.end (KeptSilent before after desk desk_after status report)
-      (Talked cable slots before after desk desk_after status report)
+      (PortSession cable slots before after desk desk_after status report)
   pub port : status ≡ PortFailed → Rose before.faults after.faults
   pub desktop : status ≡ DesktopFolder → Rose desk.faults desk_after.faults
   pub port_paths : after.paths ≡ before.paths

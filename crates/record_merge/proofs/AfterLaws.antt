@@ -10,7 +10,7 @@ use Rattle.pdb_values.specs.declared.record.Record.{Record}
 use Rattle.palm_device.specs.Records.{place_of_id, new_record, put_record, without_record, clean}
 use Rattle.palm_device.proofs.RecordLaws.{put_record_new}
 use Rattle.conduit_rules.specs.ById.{id_bound, each_below, each_id, with_id, at}
-use Rattle.conduit_rules.specs.States.{Held, nothing, first}
+use Rattle.conduit_rules.specs.States.{SideState, nothing, first}
 use Rattle.conduit_rules.specs.Choices.{Choice}
 use Rattle.conduit_rules.specs.Plans.{replacement, is_purged, replaced_rows, purged_ids}
 use Rattle.conduit_rules.proofs.ByIdLaws.{each_below-zero, each_below-suc, each_below-same}
@@ -88,7 +88,7 @@ after-purges (i ∷ is) records differ =
 abbrev pub finished : List ℕ → List Record → List Record
 finished is records = map clean (filter is_live (filter (λ r. not (has r.id is)) records))
 
-pub after-clearing : (ch : Choice) (h : ℕ → Held) (records : List Record) → RowsDiffer records
+pub after-clearing : (ch : Choice) (h : ℕ → SideState) (records : List Record) → RowsDiffer records
     → after (clearing ch h) records ≡ finished (purged_ids ch.keep h) records
 after-clearing ch h records differ =
     grind (arith, after-append (purges (purged_ids ch.keep h)) (clean_up ∷ reset ∷ []) records, after-purges (purged_ids ch.keep h) records differ)
@@ -99,7 +99,7 @@ finished-append is (x ∷ xs) ys = grind (arith, common_steps, finished-append i
 
 -- ---- the records that stay
 
-finished_one : (k : Option ContentValue) (h : Held) (r : Record) → is_held_live h ≡ is_live r
+finished_one : (k : Option ContentValue) (h : SideState) (r : Record) → is_held_live h ≡ is_live r
     → (if not (is_purged k h) && is_live (written_over (replacement k h) r) then clean (written_over (replacement k h) r) ∷ [] else []) ≡ kept_record k h r
 finished_one k h r shown = grind arith
 
@@ -110,15 +110,15 @@ finished-cons : (is : List ℕ) (x : Record) (xs : List Record)
     → finished is (x ∷ xs) ≡ (if not (has x.id is) && is_live x then clean x ∷ [] else []) ++ finished is xs
 finished-cons is x xs = grind (arith, common_steps)
 
-pub at-replaced : (keep : ℕ → Option ContentValue) (h : ℕ → Held) (i : ℕ) → nat_lt i id_bound ≡ true
+pub at-replaced : (keep : ℕ → Option ContentValue) (h : ℕ → SideState) (i : ℕ) → nat_lt i id_bound ≡ true
     → at i (replaced_rows keep h) ≡ replacement (keep i) (h i)
 at-replaced keep h i within = at-each_below (λ j. replacement (keep j) (h j)) id_bound i ∙ ap (λ b. if b then replacement (keep i) (h i) else None) within
 
-pub has-purged : (keep : ℕ → Option ContentValue) (h : ℕ → Held) (i : ℕ) → nat_lt i id_bound ≡ true
+pub has-purged : (keep : ℕ → Option ContentValue) (h : ℕ → SideState) (i : ℕ) → nat_lt i id_bound ≡ true
     → has i (purged_ids keep h) ≡ is_purged (keep i) (h i)
 has-purged keep h i within = has-each_below (λ j. is_purged (keep j) (h j)) id_bound i ∙ ap (λ b. b && is_purged (keep i) (h i)) within
 
-finished-kept : (keep : ℕ → Option ContentValue) (h : ℕ → Held) (records : List Record) → AreShown h records
+finished-kept : (keep : ℕ → Option ContentValue) (h : ℕ → SideState) (records : List Record) → AreShown h records
     → finished (purged_ids keep h) (map (replaced (replaced_rows keep h)) records) ≡ flat_map (λ r. kept_record (keep r.id) (h r.id) r) records
 finished-kept keep h [] shown = refl
 finished-kept keep h (r ∷ records) shown =
@@ -162,11 +162,11 @@ filter-each_below p f zero = ap (filter p) (each_below-zero f) ∙ sym (each_bel
 filter-each_below p f (suc n) = ap (filter p) (each_below-suc f n) ∙ filter-append p (each_below f n) (f n)
     ∙ ap (λ ys. ys ++ filter p (f n)) (filter-each_below p f n) ∙ sym (each_below-suc (λ i. filter p (f i)) n)
 
-new_one : (i : ℕ) (o : Option Record) (k : Option ContentValue) (h : Held) (records : List Record) → first i records ≡ o → (o ≡ None → h ≡ nothing)
+new_one : (i : ℕ) (o : Option Record) (k : Option ContentValue) (h : SideState) (records : List Record) → first i records ≡ o → (o ≡ None → h ≡ nothing)
     → filter (unheld records) (with_id i (replacement k h)) ≡ new_under i o k
 new_one i o k h records is shown = grind arith
 
-new-are : (keep : ℕ → Option ContentValue) (h : ℕ → Held) (records : List Record) → ShowsNoOther h records
+new-are : (keep : ℕ → Option ContentValue) (h : ℕ → SideState) (records : List Record) → ShowsNoOther h records
     → filter (unheld records) (replaced_rows keep h) ≡ each_id (λ i. new_under i (first i records) (keep i))
 new-are keep h records shown =
     filter-each_below (unheld records) (λ i. with_id i (replacement (keep i) (h i))) id_bound
@@ -182,16 +182,16 @@ unpurged-each_below is f zero un = subst (Unpurged is) (sym (each_below-zero f))
 unpurged-each_below is f (suc n) un =
     subst (Unpurged is) (sym (each_below-suc f n)) (unpurged-append is (each_below f n) (f n) (unpurged-each_below is f n un) (un n))
 
-kept_unpurged : (b : Bool) {k : Option ContentValue} (h : Held) {c : ContentValue} → k ≡ Some c → (b && is_purged k h) ≡ false
+kept_unpurged : (b : Bool) {k : Option ContentValue} (h : SideState) {c : ContentValue} → k ≡ Some c → (b && is_purged k h) ≡ false
 kept_unpurged b h is = grind arith
 
-unpurged_one : (keep : ℕ → Option ContentValue) (h : ℕ → Held) (i : ℕ) (o : Option Record) (k : Option ContentValue) → keep i ≡ k
+unpurged_one : (keep : ℕ → Option ContentValue) (h : ℕ → SideState) (i : ℕ) (o : Option Record) (k : Option ContentValue) → keep i ≡ k
     → Unpurged (purged_ids keep h) (new_under i o k)
 unpurged_one keep h i None None is = tt
 unpurged_one keep h i None (Some c) is = (has-each_below (λ j. is_purged (keep j) (h j)) id_bound i ∙ kept_unpurged (nat_lt i id_bound) (h i) is, tt)
 unpurged_one keep h i (Some r) k is = tt
 
-unpurged-new : (keep : ℕ → Option ContentValue) (h : ℕ → Held) (records : List Record)
+unpurged-new : (keep : ℕ → Option ContentValue) (h : ℕ → SideState) (records : List Record)
     → Unpurged (purged_ids keep h) (each_id (λ i. new_under i (first i records) (keep i)))
 unpurged-new keep h records = unpurged-each_below (purged_ids keep h) (λ i. new_under i (first i records) (keep i)) id_bound
     (λ i. unpurged_one keep h i (first i records) (keep i) refl)
@@ -209,10 +209,10 @@ pub free_before_all : (es : List (ℕ × ContentValue)) (records : List Record) 
 free_before_all [] records g none = none
 free_before_all (e ∷ es) records g none = free_before e.0 e.1 records g (free_before_all es (put_record e.0 e.1 records) g none)
 
-nothing_unpurged : (b : Bool) (k : Option ContentValue) {h : Held} → h ≡ nothing → (b && is_purged k h) ≡ false
+nothing_unpurged : (b : Bool) (k : Option ContentValue) {h : SideState} → h ≡ nothing → (b && is_purged k h) ≡ false
 nothing_unpurged b k is = grind arith
 
-unpurged-adds : (keep : ℕ → Option ContentValue) (h : ℕ → Held) (records now : List Record) → ShowsNoOther h records
+unpurged-adds : (keep : ℕ → Option ContentValue) (h : ℕ → SideState) (records now : List Record) → ShowsNoOther h records
     → ((g : ℕ) → first g now ≡ None → first g records ≡ None) → (adds : List (ℕ × ContentValue)) → AreFree adds now → Unpurged (purged_ids keep h) adds
 unpurged-adds keep h records now shown back [] free = tt
 unpurged-adds keep h records now shown back (e ∷ es) free = (
@@ -234,7 +234,7 @@ apart-rising low end (e ∷ es) rising = (at_below (suc e.0) end e.0 es rising.1
 -- ---- the whole
 
 -- a plan carried out makes the merged records
-pub after-all : (ch : Choice) (h : ℕ → Held) (given : List ℕ) (records : List Record) → RowsDiffer records → AreShown h records → ShowsNoOther h records
+pub after-all : (ch : Choice) (h : ℕ → SideState) (given : List ℕ) (records : List Record) → RowsDiffer records → AreShown h records → ShowsNoOther h records
     → AreFree (numbered given ch.adds) (after (replaces (replaced_rows ch.keep h)) records)
     → after (giving ch h given ++ clearing ch h) records ≡ merged_records ch h given records
 after-all ch h given records differ shown no_other free =

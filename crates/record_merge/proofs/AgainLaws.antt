@@ -9,7 +9,7 @@ use Rattle.conduit_rules.specs.Contents.{count_of}
 use Rattle.conduit_rules.specs.Fates.{Fate, fate_under}
 use Rattle.conduit_rules.specs.News.{unpaired, live_contents, archived_records}
 use Rattle.conduit_rules.specs.Plans.{gone_rows, replaced_rows}
-use Rattle.conduit_rules.specs.States.{Held, nothing, held, held_where, Based, no_base, base_at}
+use Rattle.conduit_rules.specs.States.{SideState, nothing, held, held_where, BaseState, no_base, base_at}
 use Rattle.conduit_rules.specs.Views.{view_held, slow_view}
 use Rattle.conduit_rules.specs.declared.action.Action.{Action}
 use Rattle.conduit_rules.specs.declared.action.Action.TheVariants.{Sync, Handheld, Desktop}
@@ -29,14 +29,14 @@ use Rattle.record_merge.proofs.ShownLaws.{slow_shows}
 abbrev only : Option ContentValue → Fate
 only k = record { keep = k; archive = []; news = None }
 
-by_handheld : (k : Option ContentValue) (b : Based) {h : Held} (d : Held) → h ≡ live_or k → fate_under Handheld b h d ≡ only k
+by_handheld : (k : Option ContentValue) (b : BaseState) {h : SideState} (d : SideState) → h ≡ live_or k → fate_under Handheld b h d ≡ only k
 by_handheld k b d is = grind arith
 
-by_desktop : (k : Option ContentValue) (b : Based) (h d : Held) → IsSettled k b h d → fate_under Desktop b h d ≡ only k
+by_desktop : (k : Option ContentValue) (b : BaseState) (h d : SideState) → IsSettled k b h d → fate_under Desktop b h d ≡ only k
 by_desktop k b h d is = grind arith
 
 -- what becomes of an id that was merged
-fate-merged : (a : Action) (k : Option ContentValue) (b : Based) {h : Held} (d : Held) → IsSettled k b h d → h ≡ live_or k → fate_under a b h d ≡ only k
+fate-merged : (a : Action) (k : Option ContentValue) (b : BaseState) {h : SideState} (d : SideState) → IsSettled k b h d → h ≡ live_or k → fate_under a b h d ≡ only k
 fate-merged Sync k b {h} d is shown = fate-settled k b h d is
 fate-merged Handheld k b d is shown = by_handheld k b d shown
 fate-merged Desktop k b {h} d is shown = by_desktop k b h d is
@@ -59,7 +59,7 @@ settled_choice a t keep fates no_live no_archived =
     }
 
 -- whatever was chosen, by whichever side: once it is merged, each action chooses the rows again, and archives and adds nothing
-pub choice-merged_for : (a : Action) (ch : Choice) (h : ℕ → Held) (given : List ℕ) (records : List Record) (view : List Seen) (gone_counts : Bool)
+pub choice-merged_for : (a : Action) (ch : Choice) (h : ℕ → SideState) (given : List ℕ) (records : List Record) (view : List Seen) (gone_counts : Bool)
     → RowsDiffer records → AreBounded records
     → ((i : ℕ) → h i ≡ held records i) → GotFreeIds ch h given records → row_under ch given 0 ≡ None
     → ((i : ℕ) → view_held view i ≡ held (after (whole ch h given) records) i)

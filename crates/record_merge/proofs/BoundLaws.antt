@@ -6,7 +6,7 @@ use Rattle.pdb_values.specs.Records.{is_live}
 use Rattle.pdb_values.specs.declared.record.Record.{Record}
 use Rattle.palm_device.specs.Records.{put_record, clean}
 use Rattle.conduit_rules.specs.ById.{id_bound}
-use Rattle.conduit_rules.specs.States.{Held}
+use Rattle.conduit_rules.specs.States.{SideState}
 use Rattle.conduit_rules.specs.Choices.{Choice}
 use Rattle.conduit_rules.specs.Plans.{replaced_rows, purged_ids}
 use Rattle.conduit_rules.proofs.ByIdLaws.{id_bound-is}
@@ -54,7 +54,7 @@ bounded-clean [] bounded = tt
 bounded-clean (r ∷ records) bounded = (bounded.0, bounded-clean records bounded.1)
 
 -- ids stay those of records
-pub bounded-after : (ch : Choice) (h : ℕ → Held) (given : List ℕ) (records : List Record) → RowsDiffer records → AreBounded records
+pub bounded-after : (ch : Choice) (h : ℕ → SideState) (given : List ℕ) (records : List Record) → RowsDiffer records → AreBounded records
     → AreFree (numbered given ch.adds) (after (replaces (replaced_rows ch.keep h)) records)
     → AreBounded (after (giving ch h given ++ clearing ch h) records)
 bounded-after ch h given records differ bounded free =

@@ -8,7 +8,7 @@ use Rattle.pdb_values.specs.Contents.{ContentValue}
 use Rattle.pdb_values.specs.declared.record.Record.{Record}
 use Rattle.palm_device.specs.Records.{put_record}
 use Rattle.conduit_rules.specs.ById.{id_bound, each_below, each_id, with_id, at, put}
-use Rattle.conduit_rules.specs.States.{Held, nothing, first, held, held_where, record_held, no_base}
+use Rattle.conduit_rules.specs.States.{SideState, nothing, first, held, held_where, record_held, no_base}
 use Rattle.conduit_rules.specs.Choices.{Choice}
 use Rattle.conduit_rules.specs.Plans.{replacement, replaced_rows, gone_rows, kept_rows}
 use Rattle.conduit_rules.proofs.ByIdLaws.{each_below-same, sum-each_below_put}
@@ -67,11 +67,11 @@ sum-rows w ch given new =
 
 -- ---- free ids are such
 
-not_kept : (b : Bool) (k : Option ContentValue) {h : Held} → b ≡ true → h ≡ nothing → (if b then replacement k h else None) ≡ None → k ≡ None
+not_kept : (b : Bool) (k : Option ContentValue) {h : SideState} → b ≡ true → h ≡ nothing → (if b then replacement k h else None) ≡ None → k ≡ None
 not_kept b k is bare e = grind arith
 
 -- under an id that is free after the replacements nothing is kept
-pub free_not_kept : (keep : ℕ → Option ContentValue) (h : ℕ → Held) (records : List Record) (g : ℕ) → ((i : ℕ) → h i ≡ held records i) → g < id_bound
+pub free_not_kept : (keep : ℕ → Option ContentValue) (h : ℕ → SideState) (records : List Record) (g : ℕ) → ((i : ℕ) → h i ≡ held records i) → g < id_bound
     → first g (put_all (replaced_rows keep h) records) ≡ None → keep g ≡ None
 free_not_kept keep h records g shows l none =
     let bare : h g ≡ nothing = shows g ∙ ap held_where (free_before_all (replaced_rows keep h) records g none) in
@@ -89,7 +89,7 @@ new-by keep now (e ∷ es) back free = (
   new-by keep (put_record e.0 e.1 now) es (λ g l none. back g l (free_before e.0 e.1 now g none)) free.1,
 )
 
-pub new-free : (ch : Choice) (h : ℕ → Held) (given : List ℕ) (records : List Record) → ((i : ℕ) → h i ≡ held records i)
+pub new-free : (ch : Choice) (h : ℕ → SideState) (given : List ℕ) (records : List Record) → ((i : ℕ) → h i ≡ held records i)
     → AreFree (numbered given ch.adds) (after (replaces (replaced_rows ch.keep h)) records) → AreNew ch.keep (numbered given ch.adds) id_bound
 new-free ch h given records shows free =
     new-by ch.keep (put_all (replaced_rows ch.keep h) records) (numbered given ch.adds) (λ g l none. free_not_kept ch.keep h records g shows l none)
@@ -102,7 +102,7 @@ honest_by : (zero : Bool) (k o : Option ContentValue) (r : Record) → record_he
 honest_by zero k o r is = grind arith
 
 -- so the next session may read fast
-pub honest-merged : (ch : Choice) (h : ℕ → Held) (given : List ℕ) (records : List Record) → RowsDiffer records → AreBounded records
+pub honest-merged : (ch : Choice) (h : ℕ → SideState) (given : List ℕ) (records : List Record) → RowsDiffer records → AreBounded records
     → ((i : ℕ) → h i ≡ held records i) → AreFree (numbered given ch.adds) (after (replaces (replaced_rows ch.keep h)) records)
     → IsHonest (merged_base ch h given) (after (giving ch h given ++ clearing ch h) records)
 honest-merged ch h given records differ bounded shows free i r e =

@@ -8,7 +8,7 @@ use Rattle.pdb_values.specs.Records.{is_live}
 use Rattle.pdb_values.specs.declared.record.Record.{Record}
 use Rattle.palm_device.specs.Records.{put_record, clean}
 use Rattle.conduit_rules.specs.ById.{id_bound, each_id, with_id, at}
-use Rattle.conduit_rules.specs.States.{Held, nothing, live, archived, first, held, held_where, record_held}
+use Rattle.conduit_rules.specs.States.{SideState, nothing, live, archived, first, held, held_where, record_held}
 use Rattle.conduit_rules.specs.Choices.{Choice}
 use Rattle.conduit_rules.specs.Plans.{replacement, is_purged, replaced_rows, purged_ids}
 use Rattle.conduit_rules.proofs.BoundLaws.{live_or}
@@ -23,12 +23,12 @@ use Rattle.record_merge.proofs.AfterLaws.{first-filter_none, differ-filter, fini
 use Rattle.record_merge.proofs.AfterLaws.{differ-put_all, place-first, free_before, free_before_all, apart-rising}
 use Rattle.record_merge.proofs.ShownLaws.{bounded-none}
 
-abbrev pub only_live : Held → Held
+abbrev pub only_live : SideState → SideState
 only_live nothing = nothing
 only_live (live c) = live c
 only_live (archived c) = nothing
 
-abbrev pub over : Option ContentValue → Held → Held
+abbrev pub over : Option ContentValue → SideState → SideState
 over None h = h
 over (Some c) h = live c
 
@@ -108,7 +108,7 @@ apart-free (x ∷ es) now free = (by (at x.0 es) refl, apart-free es (put_record
 
 -- ---- both sides
 
-merged_one : (b : Bool) (k : Option ContentValue) (h : Held) (a : Option ContentValue) → (b ≡ false → (h ≡ nothing) × (a ≡ None))
+merged_one : (b : Bool) (k : Option ContentValue) (h : SideState) (a : Option ContentValue) → (b ≡ false → (h ≡ nothing) × (a ≡ None))
     → ((c : ContentValue) → a ≡ Some c → (h ≡ nothing) × ((if b then replacement k h else None) ≡ None))
     → only_live (if b && is_purged k h then nothing else over a (over (if b then replacement k h else None) h)) ≡ live_or (if b then option_or k a else None)
 merged_one false k h a none new = grind (arith, (none refl).0, (none refl).1)
@@ -125,11 +125,11 @@ merged_one true (Some c) nothing (Some y) none new = absurd (let h : Some c ≡ 
 merged_one true (Some c) (live x) (Some y) none new = absurd (let h : live x ≡ nothing = (new y refl).0 in cc)
 merged_one true (Some c) (archived x) (Some y) none new = absurd (let h : archived x ≡ nothing = (new y refl).0 in cc)
 
-pub not_over : (o : Option ContentValue) (h : Held) → over o h ≡ nothing → o ≡ None
+pub not_over : (o : Option ContentValue) (h : SideState) → over o h ≡ nothing → o ≡ None
 not_over o h e = grind arith
 
 -- the handheld holds the rows, where the view shows what it held
-pub held-merged : (ch : Choice) (h : ℕ → Held) (given : List ℕ) (records : List Record) → RowsDiffer records → AreBounded records
+pub held-merged : (ch : Choice) (h : ℕ → SideState) (given : List ℕ) (records : List Record) → RowsDiffer records → AreBounded records
     → ((i : ℕ) → h i ≡ held records i) → AreFree (numbered given ch.adds) (after (replaces (replaced_rows ch.keep h)) records) → (i : ℕ)
     → held (after (giving ch h given ++ clearing ch h) records) i ≡ live_or (row_under ch given i)
 held-merged ch h given records differ bounded shows free i =
@@ -140,7 +140,7 @@ held-merged ch h given records differ bounded shows free i =
     let apart = apart-rising 0 id_bound es (replaced_rise ch.keep h) in
     let at_es = at-each_below (λ j. replacement (ch.keep j) (h j)) id_bound i in
     let held_es : held (put_all es records) i ≡ over (if nat_lt i id_bound then replacement (ch.keep i) (h i) else None) (h i) =
-    held-put_all es records i apart ∙ ap {A = Option ContentValue × Held} (λ p. over p.0 p.1) (λ k. (at_es k, sym (shows i) k)) in
+    held-put_all es records i apart ∙ ap {A = Option ContentValue × SideState} (λ p. over p.0 p.1) (λ k. (at_es k, sym (shows i) k)) in
     let given_all : after (giving ch h given) records ≡ put_all adds (put_all es records) = after-append (replaces es) (adding adds) records
     ∙ ap (after (adding adds)) (after-replaces es records) ∙ after-adding_all adds (put_all es records) in
     let held_5 : held (put_all adds (put_all es records)) i
@@ -149,7 +149,7 @@ held-merged ch h given records differ bounded shows free i =
     ap (λ rs. held rs i) (after-append (giving ch h given) (clearing ch h) records ∙ ap (after (clearing ch h)) given_all
     ∙ after-clearing ch h (put_all adds (put_all es records)) (differ-put_all adds (put_all es records) (differ-put_all es records differ)))
     ∙ held-finished is (put_all adds (put_all es records)) i (differ-put_all adds (put_all es records) (differ-put_all es records differ))
-    ∙ ap {A = Bool × Held} (λ p. only_live (if p.0 then nothing else p.1)) (λ k. (has-each_below (λ j. is_purged (ch.keep j) (h j)) id_bound i k, held_5 k))
+    ∙ ap {A = Bool × SideState} (λ p. only_live (if p.0 then nothing else p.1)) (λ k. (has-each_below (λ j. is_purged (ch.keep j) (h j)) id_bound i k, held_5 k))
     ∙ merged_one (nat_lt i id_bound) (ch.keep i) (h i) (at i adds)
     (λ over_bound. (
       shows i ∙ ap held_where (bounded-none records i bounded over_bound),
@@ -175,7 +175,7 @@ pub held-rows : (ch : Choice) (given : List ℕ) (i : ℕ) → held (merged_rows
 held-rows ch given i = first-rows (each_id (λ j. with_id j (row_at ch given j))) i ∙ ap live_or (at-each_below (row_at ch given) id_bound i)
 
 -- so both sides are equal
-pub sides-equal : (ch : Choice) (h : ℕ → Held) (given : List ℕ) (records : List Record) → RowsDiffer records → AreBounded records
+pub sides-equal : (ch : Choice) (h : ℕ → SideState) (given : List ℕ) (records : List Record) → RowsDiffer records → AreBounded records
     → ((i : ℕ) → h i ≡ held records i) → AreFree (numbered given ch.adds) (after (replaces (replaced_rows ch.keep h)) records) → (i : ℕ)
     → held (after (giving ch h given ++ clearing ch h) records) i ≡ held (merged_rows ch given) i
 sides-equal ch h given records differ bounded shows free i = held-merged ch h given records differ bounded shows free i ∙ sym (held-rows ch given i)

@@ -9,7 +9,7 @@ use Rattle.pdb_values.specs.declared.record.Record.{Record}
 use Rattle.palm_device.specs.Soundness.{ids_of, AreIds}
 use Rattle.conduit_rules.specs.ById.{id_bound, each_id, with_id, at}
 use Rattle.conduit_rules.specs.News.{loose}
-use Rattle.conduit_rules.specs.States.{Held, Based, no_base, row, gone, is_row, first, base_at, based_where, has_row}
+use Rattle.conduit_rules.specs.States.{SideState, BaseState, no_base, row, gone, is_row, first, base_at, based_where, has_row}
 use Rattle.conduit_rules.specs.Choices.{Choice}
 use Rattle.conduit_rules.specs.Plans.{gone_rows}
 use Rattle.conduit_rules.proofs.AgreedLaws.{IsIn, RowsDiffer, loose-none}
@@ -29,7 +29,7 @@ first-gone [] i = refl
 first-gone (e ∷ es) i = grind (arith, nat_tests, first-gone es i)
 
 -- what the base has by a row and a gone row
-abbrev pub based_two : Bool → Option ContentValue → Option ContentValue → Based
+abbrev pub based_two : Bool → Option ContentValue → Option ContentValue → BaseState
 based_two gone_counts (Some c) o = row c
 based_two gone_counts None None = no_base
 based_two gone_counts None (Some c) = if gone_counts then gone c else no_base
@@ -38,7 +38,7 @@ two : (g : Bool) (i : ℕ) (k o : Option ContentValue)
     → based_where g (option_or (option_map (λ c. settled_record (i, c)) k) (option_map (λ c. gone_record (i, c)) o)) ≡ based_two g k o
 two g i k o = grind arith
 
-pub based-merged : (ch : Choice) (h : ℕ → Held) (given : List ℕ) (g : Bool) (i : ℕ)
+pub based-merged : (ch : Choice) (h : ℕ → SideState) (given : List ℕ) (g : Bool) (i : ℕ)
     → base_at (merged_base ch h given) g i ≡ (if i == 0 then no_base else based_two g (row_under ch given i) (at i (gone_rows ch.keep h)))
 based-merged ch h given g i = ap (λ b. if i == 0 then no_base else b)
     (ap (based_where g) (find-append (λ (r : Record). r.id == i) (merged_rows ch given) (map gone_record (gone_rows ch.keep h))
@@ -50,7 +50,7 @@ based-merged ch h given g i = ap (λ b. if i == 0 then no_base else b)
     )))
     ∙ two g i (row_under ch given i) (at i (gone_rows ch.keep h)))
 
-pub settled_by : (zero : Bool) (g : Bool) (k o : Option ContentValue) {h d : Held} → (zero ≡ true → k ≡ None) → h ≡ live_or k → d ≡ live_or k
+pub settled_by : (zero : Bool) (g : Bool) (k o : Option ContentValue) {h d : SideState} → (zero ≡ true → k ≡ None) → h ≡ live_or k → d ≡ live_or k
     → IsSettled k (if zero then no_base else based_two g k o) h d
 settled_by zero g k o none is_h is_d = grind arith
 
@@ -72,7 +72,7 @@ row_by zero k o none some = grind arith
 pub at_zero : (ch : Choice) (given : List ℕ) (i : ℕ) → row_under ch given 0 ≡ None → (i == 0) ≡ true → row_under ch given i ≡ None
 at_zero ch given i none is = let same : i ≡ 0 = grind (arith, nat_tests, is) in ap (row_under ch given) same ∙ none
 
-pub none_loose : (ch : Choice) (h : ℕ → Held) (given : List ℕ) → row_under ch given 0 ≡ None
+pub none_loose : (ch : Choice) (h : ℕ → SideState) (given : List ℕ) → row_under ch given 0 ≡ None
     → loose (has_row (merged_base ch h given)) (merged_rows ch given) ≡ []
 none_loose ch h given none =
     let rows = each_id (λ j. with_id j (row_at ch given j)) in

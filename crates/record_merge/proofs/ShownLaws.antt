@@ -7,7 +7,7 @@ use Rattle.pdb_values.specs.Records.{is_live}
 use Rattle.pdb_values.specs.declared.record.Record.{Record}
 use Rattle.palm_device.specs.Soundness.{ids_of, AreIds}
 use Rattle.conduit_rules.specs.ById.{id_bound, each_below}
-use Rattle.conduit_rules.specs.States.{Held, held_where, held, record_held, first, Based, base_at}
+use Rattle.conduit_rules.specs.States.{SideState, held_where, held, record_held, first, BaseState, base_at}
 use Rattle.conduit_rules.specs.Views.{first_seen, seen_where, view_held, slow_seen, slow_view, fast_seen, fast_view, unread_where, IsHonest}
 use Rattle.conduit_rules.specs.Choices.{Choice}
 use Rattle.conduit_rules.specs.Plans.{replaced_rows}
@@ -51,15 +51,15 @@ fast_shows base records bounded honest i = by (nat_lt i id_bound) refl
 live_held : (r : Record) → is_held_live (record_held r) ≡ is_live r
 live_held r = grind arith
 
-live_by : (p : Bool) (b : Based) (r : Record) → (not r.dirty && not r.deleted) ≡ p
+live_by : (p : Bool) (b : BaseState) (r : Record) → (not r.dirty && not r.deleted) ≡ p
     → is_held_live (seen_where (Some (if p then unread_where b r else slow_seen r))) ≡ is_live r
 live_by p b r passed = grind arith
 
 -- where each first record of its id is shown as live where it is live
-abbrev LivesShow : (ℕ → Held) → List Record → Type 0
+abbrev LivesShow : (ℕ → SideState) → List Record → Type 0
 LivesShow h records = (i : ℕ) (r : Record) → first i records ≡ Some r → is_held_live (h i) ≡ is_live r
 
-are-shown : (h : ℕ → Held) (records : List Record) → RowsDiffer records → AreBounded records → LivesShow h records → AreShown h records
+are-shown : (h : ℕ → SideState) (records : List Record) → RowsDiffer records → AreBounded records → LivesShow h records → AreShown h records
 are-shown h [] differ bounded lives = tt
 are-shown h (x ∷ records) differ bounded lives =
     (bounded.0, lives x.id x (grind (arith, nat_tests)), are-shown h records differ.1 bounded.1 (λ i r e. lives i r (later i r e)))

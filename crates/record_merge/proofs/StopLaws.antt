@@ -5,7 +5,7 @@ use Rattle.pdb_values.specs.Contents.{ContentValue}
 use Rattle.pdb_values.specs.declared.record.Record.{Record}
 use Rattle.palm_device.specs.Records.{put_record}
 use Rattle.conduit_rules.specs.ById.{id_bound, put}
-use Rattle.conduit_rules.specs.States.{Held, live, held, held_where}
+use Rattle.conduit_rules.specs.States.{SideState, live, held, held_where}
 use Rattle.conduit_rules.specs.Choices.{Choice, Sides, choice, choice_for, sides_of}
 use Rattle.conduit_rules.specs.declared.action.Action.TheVariants.{Handheld, Desktop}
 use Rattle.conduit_rules.proofs.ActionLaws.{handheld-is, handheld-unwritten}
@@ -111,10 +111,10 @@ kept-append : (keep : ℕ → Option ContentValue) (xs ys : List (ℕ × Content
 kept-append keep [] ys kept more = more
 kept-append keep (x ∷ xs) ys kept more = (kept.0, kept-append keep xs ys kept.1 more)
 
-kept_one : (keep : ℕ → Option ContentValue) (i : ℕ) (k : Option ContentValue) (h : Held) → keep i ≡ k → AreKept keep (with_id i (replacement k h))
+kept_one : (keep : ℕ → Option ContentValue) (i : ℕ) (k : Option ContentValue) (h : SideState) → keep i ≡ k → AreKept keep (with_id i (replacement k h))
 kept_one keep i k h is = grind arith
 
-kept_below : (keep : ℕ → Option ContentValue) (h : ℕ → Held) (n : ℕ) → AreKept keep (each_below (λ i. with_id i (replacement (keep i) (h i))) n)
+kept_below : (keep : ℕ → Option ContentValue) (h : ℕ → SideState) (n : ℕ) → AreKept keep (each_below (λ i. with_id i (replacement (keep i) (h i))) n)
 kept_below keep h zero = subst (AreKept keep) (sym (each_below-zero (λ i. with_id i (replacement (keep i) (h i))))) tt
 kept_below keep h (suc n) = subst (AreKept keep) (sym (each_below-suc (λ i. with_id i (replacement (keep i) (h i))) n))
     (kept-append keep (each_below (λ i. with_id i (replacement (keep i) (h i))) n) (with_id n (replacement (keep n) (h n))) (kept_below keep h n)

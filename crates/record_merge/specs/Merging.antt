@@ -8,7 +8,7 @@ use Rattle.pdb_values.specs.declared.record.Record.{Record}
 use Rattle.palm_device.specs.Records.{rewritten, new_record, clean}
 use Rattle.conduit_rules.specs.ById.{id_bound, each_id, with_id, at}
 use Rattle.conduit_rules.specs.Contents.{same_content}
-use Rattle.conduit_rules.specs.States.{Held, nothing, live, archived, first}
+use Rattle.conduit_rules.specs.States.{SideState, nothing, live, archived, first}
 use Rattle.conduit_rules.specs.Choices.{Choice}
 use Rattle.conduit_rules.specs.Plans.{replacement, gone_rows}
 use Rattle.record_merge.specs.Writes.{numbered}
@@ -34,7 +34,7 @@ abbrev pub merged_rows : Choice → List ℕ → List Record
 merged_rows ch given = map settled_record (each_id (λ i. with_id i (row_at ch given i)))
 
 -- the base: the rows, then the gone rows
-abbrev pub merged_base : Choice → (ℕ → Held) → List ℕ → List Record
+abbrev pub merged_base : Choice → (ℕ → SideState) → List ℕ → List Record
 merged_base ch handheld given = merged_rows ch given ++ map gone_record (gone_rows ch.keep handheld)
 
 -- a record with what is written over it, if anything is
@@ -44,7 +44,7 @@ written_over (Some c) r = rewritten c r
 
 -- what becomes of a record by what is kept under its id: it goes, stays as it was, or has the kept
 -- content in its place
-abbrev pub kept_record : Option ContentValue → Held → Record → List Record
+abbrev pub kept_record : Option ContentValue → SideState → Record → List Record
 kept_record None h r = []
 kept_record (Some c) h r = clean (written_over (replacement (Some c) h) r) ∷ []
 
@@ -55,26 +55,26 @@ new_under i (Some r) keep = []
 
 -- the handheld's records: in their order, then the replacements under ids that no record has in
 -- rising ids, then the adds
-abbrev pub merged_records : Choice → (ℕ → Held) → List ℕ → List Record → List Record
+abbrev pub merged_records : Choice → (ℕ → SideState) → List ℕ → List Record → List Record
 merged_records ch handheld given records =
     flat_map (λ r. kept_record (ch.keep r.id) (handheld r.id) r) records
     ++ (map settled_record (each_id (λ i. new_under i (first i records) (ch.keep i)))
     ++ map settled_record (numbered given ch.adds))
 
-abbrev pub is_held_live : Held → Bool
+abbrev pub is_held_live : SideState → Bool
 is_held_live nothing = false
 is_held_live (live c) = true
 is_held_live (archived c) = false
 
 -- each record's id is one of a record, and it is shown as live where it is live
-abbrev pub AreShown : (ℕ → Held) → List Record → Type 0
+abbrev pub AreShown : (ℕ → SideState) → List Record → Type 0
 AreShown handheld [] = Unit {0}
 AreShown handheld (r ∷ records) =
     (nat_lt r.id id_bound ≡ true) × (is_held_live (handheld r.id) ≡ is_live r)
     × AreShown handheld records
 
 -- nothing is shown where no record is
-abbrev pub ShowsNoOther : (ℕ → Held) → List Record → Type 0
+abbrev pub ShowsNoOther : (ℕ → SideState) → List Record → Type 0
 ShowsNoOther handheld records = (i : ℕ) → first i records ≡ None → handheld i ≡ nothing
 
 -- ids that records can have

@@ -3,7 +3,7 @@
 use Rattle.std.specs.Prelude.{◌≡◌, ◌<◌, ℕ, List, [], ◌∷◌, Some}
 use Rattle.pdb_values.specs.Contents.{ContentValue}
 use Rattle.conduit_rules.specs.ById.{id_bound, put}
-use Rattle.conduit_rules.specs.States.{nothing, Based, no_base}
+use Rattle.conduit_rules.specs.States.{nothing, BaseState, no_base}
 use Rattle.conduit_rules.specs.Choices.{Choice, Sides}
 use Rattle.conduit_rules.specs.Writes.{given_to}
 use Rattle.record_merge.specs.Writes.{Write, replace, add, purge, clean_up, reset}
@@ -62,6 +62,6 @@ AreOf (clean_up ∷ ws) ch s = ⊥
 AreOf (reset ∷ ws) ch s = ⊥
 
 -- no id that an add gets has a base row
-abbrev pub NoBase : (ℕ → Based) → List ℕ → Type 0
+abbrev pub NoBase : (ℕ → BaseState) → List ℕ → Type 0
 NoBase base [] = Unit {0}
 NoBase base (g ∷ gs) = (base g ≡ no_base) × NoBase base gs

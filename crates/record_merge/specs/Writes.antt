@@ -3,7 +3,7 @@ use Rattle.std.specs.Prelude.{ℕ, List, [], ◌∷◌, ◌++◌, map}
 use Rattle.pdb_values.specs.Contents.{ContentValue}
 use Rattle.pdb_values.specs.declared.record.Record.{Record}
 use Rattle.palm_device.specs.Records.{IsFree, put_record, without_record, cleaned_up, reset_flags}
-use Rattle.conduit_rules.specs.States.{Held}
+use Rattle.conduit_rules.specs.States.{SideState}
 use Rattle.conduit_rules.specs.Choices.{Choice}
 use Rattle.conduit_rules.specs.Plans.{replaced_rows, purged_ids}
 
@@ -44,12 +44,12 @@ abbrev pub purges : List ℕ → List Write
 purges is = map purge is
 
 -- the replacements in rising ids, then the adds
-abbrev pub giving : Choice → (ℕ → Held) → List ℕ → List Write
+abbrev pub giving : Choice → (ℕ → SideState) → List ℕ → List Write
 giving ch handheld given =
     replaces (replaced_rows ch.keep handheld) ++ adding (numbered given ch.adds)
 
 -- the records that go, one by one; then those with the delete bit, and the flags
-abbrev pub clearing : Choice → (ℕ → Held) → List Write
+abbrev pub clearing : Choice → (ℕ → SideState) → List Write
 clearing ch handheld = purges (purged_ids ch.keep handheld) ++ clean_up ∷ reset ∷ []
 
 -- each id is one that no record has at its turn
@@ -58,10 +58,10 @@ AreFree [] records = Unit {0}
 AreFree (e ∷ es) records = IsFree e.0 records × AreFree es (put_record e.0 e.1 records)
 
 -- all writes of a session
-abbrev pub whole : Choice → (ℕ → Held) → List ℕ → List Write
+abbrev pub whole : Choice → (ℕ → SideState) → List ℕ → List Write
 whole ch handheld given = giving ch handheld given ++ clearing ch handheld
 
 -- the handheld gave each add an id that no record has at its turn
-abbrev pub GotFreeIds : Choice → (ℕ → Held) → List ℕ → List Record → Type 0
+abbrev pub GotFreeIds : Choice → (ℕ → SideState) → List ℕ → List Record → Type 0
 GotFreeIds ch handheld given records =
     AreFree (numbered given ch.adds) (after (replaces (replaced_rows ch.keep handheld)) records)

@@ -7,7 +7,7 @@ ghost use Rattle.palm_device.specs.Soundness.{ids_of, AreIds};
 ghost use Rattle.conduit_rules.specs.ById.{id_bound, each_id, with_id};
 ghost use Rattle.conduit_rules.specs.Choices.{Choice, Sides, choice, choice_for, sides_of};
 ghost use Rattle.conduit_rules.specs.Plans.{kept_rows};
-ghost use Rattle.conduit_rules.specs.States.{Held, held};
+ghost use Rattle.conduit_rules.specs.States.{SideState, held};
 ghost use Rattle.conduit_rules.specs.Views.{view_held, slow_view, fast_view, IsHonest};
 ghost use Rattle.conduit_rules.specs.declared.action.Action.{Action};
 ghost use Rattle.conduit_rules.specs.declared.action.Action.TheVariants.{Handheld, Desktop};
@@ -34,11 +34,11 @@ pub fn the_writes_make_the_merge()
 /// A handheld whose view showed its records has the desktop's rows under every id once the writes are
 /// made, and is honest against the new base.
 pub fn both_sides_are_equal()
-    ensures equal { (ch : Choice) (shown : ℕ → Held) (given : List ℕ) (records : List Record)
+    ensures equal { (ch : Choice) (shown : ℕ → SideState) (given : List ℕ) (records : List Record)
         → AreIds (ids_of records) → AreBounded records → ((i : ℕ) → shown i ≡ held records i)
         → GotFreeIds ch shown given records
         → (i : ℕ) → held (after (whole ch shown given) records) i ≡ held (merged_rows ch given) i }
-    ensures honest { (ch : Choice) (shown : ℕ → Held) (given : List ℕ) (records : List Record)
+    ensures honest { (ch : Choice) (shown : ℕ → SideState) (given : List ℕ) (records : List Record)
         → AreIds (ids_of records) → AreBounded records → ((i : ℕ) → shown i ≡ held records i)
         → GotFreeIds ch shown given records
         → IsHonest (merged_base ch shown given) (after (whole ch shown given) records) }
@@ -46,7 +46,7 @@ pub fn both_sides_are_equal()
 
 /// Whatever is counted of the merged rows is that of the kept rows and that of the adds.
 pub fn each_row_is_kept_or_added()
-    ensures { (w : ℕ × ContentValue → ℕ) (ch : Choice) (shown : ℕ → Held) (given : List ℕ)
+    ensures { (w : ℕ × ContentValue → ℕ) (ch : Choice) (shown : ℕ → SideState) (given : List ℕ)
         (records : List Record)
         → ((i : ℕ) → shown i ≡ held records i) → GotFreeIds ch shown given records
         → sum_by w (each_id (λ i. with_id i (row_at ch given i)))

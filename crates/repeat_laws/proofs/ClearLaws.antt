@@ -6,7 +6,7 @@ use Rattle.pdb_values.specs.Contents.{ContentValue}
 use Rattle.pdb_values.specs.Records.{is_live}
 use Rattle.pdb_values.specs.declared.record.Record.{Record}
 use Rattle.palm_device.specs.Records.{without_record, clean}
-use Rattle.conduit_rules.specs.States.{Held, nothing, live, archived, held, first}
+use Rattle.conduit_rules.specs.States.{SideState, nothing, live, archived, held, first}
 use Rattle.conduit_rules.specs.Plans.{is_purged, purged_ids}
 use Rattle.conduit_rules.proofs.AgreedLaws.{RowsDiffer}
 use Rattle.record_merge.specs.Merging.{AreShown, is_held_live}
@@ -56,7 +56,7 @@ held-without : (i : ℕ) (records : List Record) (j : ℕ) → RowsDiffer record
 held-without i [] j differ = grind (arith, without_record-nil i)
 held-without i (r ∷ records) j differ = grind (arith, without_record-cons i r records, held-without i records j differ.1)
 
-abbrev only_live : Held → Held
+abbrev only_live : SideState → SideState
 only_live nothing = nothing
 only_live (live c) = live c
 only_live (archived c) = nothing
@@ -78,18 +78,18 @@ differ-clean [] differ = tt
 differ-clean (r ∷ records) differ = (first-clean records r.id differ.0, differ-clean records differ.1)
 
 -- the row under an id is live, and an id without a row holds nothing, or what it held before
-abbrev pub Fits : Option ContentValue → Held → Held → Type 0
+abbrev pub Fits : Option ContentValue → SideState → SideState → Type 0
 Fits None h now = (now ≡ nothing) ⊎ (now ≡ h)
 Fits (Some c) h now = now ≡ live c
 
-abbrev pub AllFit : (ℕ → Option ContentValue) → (ℕ → Held) → List Record → Type 0
+abbrev pub AllFit : (ℕ → Option ContentValue) → (ℕ → SideState) → List Record → Type 0
 AllFit row h records = (i : ℕ) → Fits (row i) (h i) (held records i)
 
-fits-without : (row : ℕ → Option ContentValue) (h : ℕ → Held) (i : ℕ) (records : List Record) → row i ≡ None → RowsDiffer records → AllFit row h records
+fits-without : (row : ℕ → Option ContentValue) (h : ℕ → SideState) (i : ℕ) (records : List Record) → row i ≡ None → RowsDiffer records → AllFit row h records
     → AllFit row h (without_record i records)
 fits-without row h i records none differ fits j = grind (arith, held-without i records j differ)
 
-pub fits-after : (row : ℕ → Option ContentValue) (h : ℕ → Held) (ws : List Write) (records : List Record) → AreClearing row ws → RowsDiffer records
+pub fits-after : (row : ℕ → Option ContentValue) (h : ℕ → SideState) (ws : List Write) (records : List Record) → AreClearing row ws → RowsDiffer records
     → AllFit row h records → AllFit row h (after ws records)
 fits-after row h [] records are differ fits = fits
 fits-after row h (replace i c ∷ ws) records are differ fits = absurd are
@@ -140,10 +140,10 @@ rows-after row (clean_up ∷ ws) records are = rows-after row ws (filter is_live
 rows-after row (reset ∷ ws) records are = rows-after row ws (map clean records) are ∙ rows-clean row records
 
 -- and they are what all of the writes leave
-stays : (k : Option ContentValue) (h : Held) {lives : Bool} → is_held_live h ≡ lives → (not (is_purged k h) && lives) ≡ (is_some k && lives)
+stays : (k : Option ContentValue) (h : SideState) {lives : Bool} → is_held_live h ≡ lives → (not (is_purged k h) && lives) ≡ (is_some k && lives)
 stays k h is = grind arith
 
-pub finished-rows : (row : ℕ → Option ContentValue) (h : ℕ → Held) (records : List Record) → AreShown h records
+pub finished-rows : (row : ℕ → Option ContentValue) (h : ℕ → SideState) (records : List Record) → AreShown h records
     → finished (purged_ids row h) records ≡ with_rows row records
 finished-rows row h [] shown = refl
 finished-rows row h (r ∷ records) shown =

@@ -10,7 +10,7 @@ use Rattle.conduit_rules.specs.ById.{id_bound, with_id, at}
 use Rattle.conduit_rules.specs.Choices.{Choice, Sides, choice_for, sides_of, fate_for, row_of}
 use Rattle.conduit_rules.specs.News.{live_contents, archived_records}
 use Rattle.conduit_rules.specs.Plans.{replacement, lost, replaced_rows, gone_rows}
-use Rattle.conduit_rules.specs.States.{Held, nothing, live, live_of, archived_of, content_of, held, held_where, Based, no_base, base_at}
+use Rattle.conduit_rules.specs.States.{SideState, nothing, live, live_of, archived_of, content_of, held, held_where, BaseState, no_base, base_at}
 use Rattle.conduit_rules.specs.Views.{view_held}
 use Rattle.conduit_rules.specs.declared.action.Action.{Action}
 use Rattle.conduit_rules.specs.declared.action.Action.TheVariants.{Sync, Handheld, Desktop}
@@ -31,7 +31,7 @@ use Rattle.record_merge.proofs.HeldLaws.{held-rows, at-bounded}
 use Rattle.record_merge.proofs.PutLaws.{differ-ids}
 use Rattle.record_merge.proofs.ShownLaws.{bounded-none}
 use Rattle.record_merge.proofs.SettledLaws.{based-merged, based_two, at_zero, none_loose, first-zero}
-use Rattle.repeat_laws.specs.Repeats.{Found, IsRead, EndAlike, ended, sides, chosen, shown, GotIds, clearing_done, left_behind_commit, left_at_end}
+use Rattle.repeat_laws.specs.Repeats.{Finding, IsRead, EndAlike, ended, sides, chosen, shown, GotIds, clearing_done, left_behind_commit, left_at_end}
 use Rattle.repeat_laws.proofs.ClearLaws.{AreClearing, clearing-take, Fits, AllFit, fits-after, with_rows, rows-after, finished-rows}
 use Rattle.repeat_laws.proofs.GivenLaws.{FitsGiven, given-is, bounded-given, differ-given, purges-given, clearing-given}
 use Rattle.repeat_laws.proofs.NewsLaws.{whole-is, are_shown, live_held, ended_by}
@@ -41,16 +41,16 @@ use Rattle.repeat_laws.proofs.NewsLaws.{whole-is, are_shown, live_held, ended_by
 abbrev pub kept_alone : (ℕ → Option ContentValue) → Choice
 kept_alone keep = record { keep = keep; archive = []; adds = [] }
 
-settled : (zero g : Bool) (k o : Option ContentValue) (h now : Held) {d : Held} → (zero ≡ true → k ≡ None) → (zero ≡ true → now ≡ nothing)
+settled : (zero g : Bool) (k o : Option ContentValue) (h now : SideState) {d : SideState} → (zero ≡ true → k ≡ None) → (zero ≡ true → now ≡ nothing)
     → Fits k h now → d ≡ live_or k → (k ≡ None → content_of h ≡ o) → (g ≡ false → now ≡ live_or k)
     → IsSettled k (if zero then no_base else based_two g k o) now d
 settled zero g k o h now none bare fits is lost_is done = grind arith
 
-lost_by : (b : Bool) (k a : Option ContentValue) (h : Held) → (b ≡ false → h ≡ nothing) → (if b then option_or k a else None) ≡ None
+lost_by : (b : Bool) (k a : Option ContentValue) (h : SideState) → (b ≡ false → h ≡ nothing) → (if b then option_or k a else None) ≡ None
     → content_of h ≡ (if b then lost k h else None)
 lost_by b k a h bare none = grind arith
 
-zero_bare : (now : ℕ → Held) (i : ℕ) → now 0 ≡ nothing → (i == 0) ≡ true → now i ≡ nothing
+zero_bare : (now : ℕ → SideState) (i : ℕ) → now 0 ≡ nothing → (i == 0) ≡ true → now i ≡ nothing
 zero_bare now i bare is = let same : i ≡ 0 = grind (arith, nat_tests, is) in ap now same ∙ bare
 
 -- no row stands under id 0
@@ -64,24 +64,24 @@ add_zero : (es : List (ℕ × ContentValue)) (now : List Record) (o : Option Con
 add_zero es now None free e = refl
 add_zero es now (Some c) free e = let l = at-bounded es now 0 c free e in absurd (omega (arith, l.0))
 
-pub no_zero : (a : Action) {x : Found} (given : List ℕ) → IsRead x → GotIds a x given → row_under (chosen a x) given 0 ≡ None
+pub no_zero : (a : Action) {x : Finding} (given : List ℕ) → IsRead x → GotIds a x given → row_under (chosen a x) given 0 ≡ None
 no_zero a {x} given read got =
     zero_by (nat_lt 0 id_bound) (kept_zero a (sides x) refl (read.shows 0 ∙ ap held_where (first-zero x.records read.ids)))
     (add_zero (numbered given (chosen a x).adds) (after (replaces (replaced_rows (chosen a x).keep (shown x))) x.records)
     (at 0 (numbered given (chosen a x).adds)) got refl)
 
 -- what is needed of the first session and of what the next one finds
-record Behind (ch : Choice) (h : ℕ → Held) (given : List ℕ) (view : List Seen) (g : Bool) : Type 0 where
+record Behind (ch : Choice) (h : ℕ → SideState) (given : List ℕ) (view : List Seen) (g : Bool) : Type 0 where
   pub none : row_under ch given 0 ≡ None
   pub bare : view_held view 0 ≡ nothing
   pub over : (i : ℕ) → nat_lt i id_bound ≡ false → h i ≡ nothing
   pub fits : (i : ℕ) → Fits (row_under ch given i) (h i) (view_held view i)
   pub done : (i : ℕ) → g ≡ false → view_held view i ≡ live_or (row_under ch given i)
 
-abbrev next_sides : Choice → (ℕ → Held) → List ℕ → List Seen → Bool → Sides
+abbrev next_sides : Choice → (ℕ → SideState) → List ℕ → List Seen → Bool → Sides
 next_sides ch h given view g = sides_of view (merged_rows ch given) (merged_base ch h given) g
 
-all-settled : {ch : Choice} (h : ℕ → Held) {given : List ℕ} {view : List Seen} (g : Bool) → Behind ch h given view g → (i : ℕ)
+all-settled : {ch : Choice} (h : ℕ → SideState) {given : List ℕ} {view : List Seen} (g : Bool) → Behind ch h given view g → (i : ℕ)
     → IsSettled (row_under ch given i) ((next_sides ch h given view g).base i) (view_held view i) (held (merged_rows ch given) i)
 all-settled {ch} h {given} {view} g b i =
     subst (λ x. IsSettled (row_under ch given i) x (view_held view i) (held (merged_rows ch given) i)) (sym (based-merged ch h given g i))
@@ -91,13 +91,13 @@ all-settled {ch} h {given} {view} g b i =
     ∙ sym (at-each_below (λ j. lost (ch.keep j) (h j)) id_bound i))
     (b.done i))
 
-sync-behind : (ch : Choice) (h : ℕ → Held) {given : List ℕ} (view : List Seen) (g : Bool) → Behind ch h given view g
+sync-behind : (ch : Choice) (h : ℕ → SideState) {given : List ℕ} (view : List Seen) (g : Bool) → Behind ch h given view g
     → choice_for Sync (next_sides ch h given view g) ≡ kept_alone (row_under ch given)
 sync-behind ch h {given} view g b =
     choice-settled (next_sides ch h given view g) (row_under ch given) (all-settled h g b) (ap live_contents (none_loose ch h given b.none))
     (ap archived_records (none_loose ch h given b.none))
 
-desktop_row : (k : Option ContentValue) (b : Based) (now d : Held) → IsSettled k b now d → row_of b d ≡ live_or k
+desktop_row : (k : Option ContentValue) (b : BaseState) (now d : SideState) → IsSettled k b now d → row_of b d ≡ live_or k
 desktop_row k b now d is = grind arith
 
 live_or_is : (k : Option ContentValue) → live_of (live_or k) ≡ k
@@ -106,7 +106,7 @@ live_or_is k = grind arith
 none_archived : (k : Option ContentValue) → archived_of (live_or k) ≡ None
 none_archived k = grind arith
 
-desktop-behind : (ch : Choice) (h : ℕ → Held) {given : List ℕ} (view : List Seen) (g : Bool) → Behind ch h given view g
+desktop-behind : (ch : Choice) (h : ℕ → SideState) {given : List ℕ} (view : List Seen) (g : Bool) → Behind ch h given view g
     → choice_for Desktop (next_sides ch h given view g) ≡ kept_alone (row_under ch given)
 desktop-behind ch h {given} view g b =
     let t = next_sides ch h given view g in
@@ -155,7 +155,7 @@ under_again : (b : Bool) (o : Option ContentValue) {k : Option ContentValue} →
     → (if b then k else None) ≡ (if b then o else None)
 under_again b o is = grind arith
 
-pub base-again : (ch : Choice) (h h1 : ℕ → Held) (given later : List ℕ) (i : ℕ)
+pub base-again : (ch : Choice) (h h1 : ℕ → SideState) (given later : List ℕ) (i : ℕ)
     → base_at (merged_base (kept_alone (row_under ch given)) h1 later) false i ≡ base_at (merged_base ch h given) false i
 base-again ch h h1 given later i =
     based-merged (kept_alone (row_under ch given)) h1 later false i
@@ -163,7 +163,7 @@ base-again ch h h1 given later i =
     (under_again (nat_lt i id_bound) (row_at ch given i) (row_alone (row_under ch given) later i))
     ∙ sym (based-merged ch h given false i)
 
-kept_replacement : (k : Option ContentValue) (h now : Held) → Fits k h now → replacement k now ≡ None
+kept_replacement : (k : Option ContentValue) (h now : SideState) → Fits k h now → replacement k now ≡ None
 kept_replacement None h now fits = refl
 kept_replacement (Some c) h now fits = ap (replacement (Some c)) fits ∙ again
   where
@@ -171,7 +171,7 @@ kept_replacement (Some c) h now fits = ap (replacement (Some c)) fits ∙ again
     again = grind (arith, same_content-same c)
 
 -- nothing is given then
-giving-none : (keep : ℕ → Option ContentValue) (h now : ℕ → Held) (later : List ℕ) → ((i : ℕ) → Fits (keep i) (h i) (now i))
+giving-none : (keep : ℕ → Option ContentValue) (h now : ℕ → SideState) (later : List ℕ) → ((i : ℕ) → Fits (keep i) (h i) (now i))
     → giving (kept_alone keep) now later ≡ []
 giving-none keep h now later fits =
     ap {A = List (ℕ × ContentValue) × List (ℕ × ContentValue)} (λ p. replaces p.0 ++ adding p.1)
@@ -182,7 +182,7 @@ giving-none keep h now later fits =
     ))
 
 -- the rest of the purges leaves what all of them would have left
-pub records-again : (ch : Choice) (h : ℕ → Held) (given : List ℕ) (records : List Record) (ws : List Write) (now : ℕ → Held) (later : List ℕ)
+pub records-again : (ch : Choice) (h : ℕ → SideState) (given : List ℕ) (records : List Record) (ws : List Write) (now : ℕ → SideState) (later : List ℕ)
     → RowsDiffer records → AreBounded records → ((i : ℕ) → h i ≡ held records i) → GotFreeIds ch h given records → AreClearing (row_under ch given) ws
     → RowsDiffer (after (giving ch h given ++ ws) records) → AreBounded (after (giving ch h given ++ ws) records)
     → ((i : ℕ) → now i ≡ held (after (giving ch h given ++ ws) records) i) → ((i : ℕ) → Fits (row_under ch given i) (h i) (now i))
@@ -217,27 +217,27 @@ LooksAtRows Sync = Unit {0}
 LooksAtRows Handheld = ⊥
 LooksAtRows Desktop = Unit {0}
 
-chosen-behind : (a : Action) (ch : Choice) {h : ℕ → Held} {given : List ℕ} {view : List Seen} (g : Bool) → LooksAtRows a → Behind ch h given view g
+chosen-behind : (a : Action) (ch : Choice) {h : ℕ → SideState} {given : List ℕ} {view : List Seen} (g : Bool) → LooksAtRows a → Behind ch h given view g
     → choice_for a (next_sides ch h given view g) ≡ kept_alone (row_under ch given)
 chosen-behind Sync ch {h} {view} g looks b = sync-behind ch h view g b
 chosen-behind Handheld ch g looks b = absurd looks
 chosen-behind Desktop ch {h} {view} g looks b = desktop-behind ch h view g b
 
-ends-alike : (ch : Choice) (h : ℕ → Held) (given : List ℕ) (records : List Record) (archive : List (ℕ × ContentValue)) {c1 : Choice} (now : ℕ → Held)
+ends-alike : (ch : Choice) (h : ℕ → SideState) (given : List ℕ) (records : List Record) (archive : List (ℕ × ContentValue)) {c1 : Choice} (now : ℕ → SideState)
     (later : List ℕ) (z : List Record)
     → c1 ≡ kept_alone (row_under ch given) → merged_records (kept_alone (row_under ch given)) now later z ≡ merged_records ch h given records
     → EndAlike (ended_by c1 now later z (merged_archive ch archive)) (ended_by ch h given records archive)
 ends-alike ch h given records archive now later z is same =
     grind (arith, rows-again ch given later, base-again ch h now given later, archive-again ch (row_under ch given) archive)
 
-fit_given : (k : Option ContentValue) (h now : Held) → FitsGiven k h now → Fits k h now
+fit_given : (k : Option ContentValue) (h now : SideState) → FitsGiven k h now → Fits k h now
 fit_given k h now is = grind arith
 
-pub over_bound : (x : Found) → IsRead x → (i : ℕ) → nat_lt i id_bound ≡ false → shown x i ≡ nothing
+pub over_bound : (x : Finding) → IsRead x → (i : ℕ) → nat_lt i id_bound ≡ false → shown x i ≡ nothing
 over_bound x read i over = read.shows i ∙ ap held_where (bounded-none x.records i read.bounded over)
 
 -- what was done of the purges leaves each row live, and no other content than was there
-pub fits-behind : (a : Action) {x : Found} (given : List ℕ) (ws : List Write) → IsRead x → GotIds a x given
+pub fits-behind : (a : Action) {x : Finding} (given : List ℕ) (ws : List Write) → IsRead x → GotIds a x given
     → AreClearing (row_under (chosen a x) given) ws
     → AllFit (row_under (chosen a x) given) (shown x) (after (giving (chosen a x) (shown x) given ++ ws) x.records)
 fits-behind a {x} given ws read got are =
@@ -247,7 +247,7 @@ fits-behind a {x} given ws read got are =
     (fits-after (row_under ch given) (shown x) ws now are (differ-given ch (shown x) given x.records (differ-ids x.records read.ids))
     (λ i. fit_given (row_under ch given i) (shown x i) (held now i) (given-is ch (shown x) given x.records read.bounded read.shows got i).0))
 
-module _ (a : Action) (x : Found) (given : List ℕ) (n : ℕ) (looks : LooksAtRows a) (read : IsRead x) (got : GotIds a x given)
+module _ (a : Action) (x : Finding) (given : List ℕ) (n : ℕ) (looks : LooksAtRows a) (read : IsRead x) (got : GotIds a x given)
     (then_read : IsRead (left_behind_commit a x given n)) where
   pub chosen-commit : (chosen a (left_behind_commit a x given n) ≡ kept_alone (row_under (chosen a x) given)) ×
       ((i : ℕ) → Fits (row_under (chosen a x) given i) (shown x i) (shown (left_behind_commit a x given n) i))
@@ -283,7 +283,7 @@ module _ (a : Action) (x : Found) (given : List ℕ) (n : ℕ) (looks : LooksAtR
   commit-adds = ap (λ c. Choice.adds c) (chosen-commit).0
 
 -- what is merged on both sides is kept, and nothing else
-pub chosen-end : (a : Action) (x : Found) (given : List ℕ) (view : List Seen) (g : Bool) → IsRead x → GotIds a x given
+pub chosen-end : (a : Action) (x : Finding) (given : List ℕ) (view : List Seen) (g : Bool) → IsRead x → GotIds a x given
     → IsRead (left_at_end a x given view g) → chosen a (left_at_end a x given view g) ≡ kept_alone (row_under (chosen a x) given)
 chosen-end a x given view g read got then_read =
     let ch = chosen a x in
@@ -292,12 +292,12 @@ chosen-end a x given view g read got then_read =
     choice-merged_for a ch (shown x) given x.records view g differ read.bounded read.shows got (no_zero a given read got)
     (λ i. then_read.shows i ∙ ap (λ rs. held rs i) (sym all))
 
-pub end-adds : (a : Action) (x : Found) (given : List ℕ) (view : List Seen) (g : Bool) → IsRead x → GotIds a x given
+pub end-adds : (a : Action) (x : Finding) (given : List ℕ) (view : List Seen) (g : Bool) → IsRead x → GotIds a x given
     → IsRead (left_at_end a x given view g) → (chosen a (left_at_end a x given view g)).adds ≡ []
 end-adds a x given view g read got then_read = ap (λ c. Choice.adds c) (chosen-end a x given view g read got then_read)
 
 -- how that ends, whichever way it is read then
-pub at-end : (a : Action) (x : Found) (given later : List ℕ) (view : List Seen) (g : Bool) → IsRead x → GotIds a x given
+pub at-end : (a : Action) (x : Finding) (given later : List ℕ) (view : List Seen) (g : Bool) → IsRead x → GotIds a x given
     → IsRead (left_at_end a x given view g) → EndAlike (ended a (left_at_end a x given view g) later) (ended a x given)
 at-end a x given later view g read got then_read =
     let ch = chosen a x in
@@ -315,7 +315,7 @@ at-end a x given later view g read got then_read =
     (subst RowsDiffer (sym all) (differ-ids y.records then_read.ids)) (subst AreBounded (sym all) then_read.bounded) shows fits)
 
 -- what the handheld held doesn't matter to the base rows that aren't gone
-pub base-alike : (ch : Choice) (h h1 : ℕ → Held) (given : List ℕ) (i : ℕ)
+pub base-alike : (ch : Choice) (h h1 : ℕ → SideState) (given : List ℕ) (i : ℕ)
     → base_at (merged_base ch h given) false i ≡ base_at (merged_base ch h1 given) false i
 base-alike ch h h1 given i =
     based-merged ch h given false i

@@ -9,7 +9,7 @@ use Rattle.palm_device.proofs.RecordLaws.{put_record_new}
 use Rattle.conduit_rules.specs.ById.{id_bound, with_id, at, put}
 use Rattle.conduit_rules.specs.Choices.{Choice}
 use Rattle.conduit_rules.specs.Plans.{replacement, replaced_rows, purged_ids}
-use Rattle.conduit_rules.specs.States.{Held, live, held, first}
+use Rattle.conduit_rules.specs.States.{SideState, live, held, first}
 use Rattle.conduit_rules.specs.declared.action.Action.TheVariants.{Desktop}
 use Rattle.conduit_rules.proofs.ActionLaws.{desktop-is}
 use Rattle.conduit_rules.proofs.AgreedLaws.{RowsDiffer}
@@ -21,7 +21,7 @@ use Rattle.record_merge.specs.Writes.{GotFreeIds}
 use Rattle.record_merge.proofs.AfterLaws.{place-first}
 use Rattle.record_merge.proofs.CountLaws.{new-free}
 use Rattle.record_merge.proofs.PutLaws.{held-put, first-put, put_over, differ-put, differ-ids}
-use Rattle.repeat_laws.specs.Repeats.{Found, IsRead, EndAlike, ended, sides, chosen, shown, GotIds, news_done, left_among_news}
+use Rattle.repeat_laws.specs.Repeats.{Finding, IsRead, EndAlike, ended, sides, chosen, shown, GotIds, news_done, left_among_news}
 use Rattle.repeat_laws.proofs.FirstLaws.{first-out}
 use Rattle.repeat_laws.proofs.GivenLaws.{bounded-put}
 use Rattle.repeat_laws.proofs.CommitLaws.{base-alike}
@@ -69,10 +69,10 @@ last_goes : (f : Record → List Record) (xs : List Record) (y : Record) → f y
 last_goes f [] y none = ap (λ zs. zs ++ []) none
 last_goes f (x ∷ xs) y none = ap (λ zs. f x ++ zs) (last_goes f xs y none)
 
-abbrev kept_of : (ℕ → Option ContentValue) → (ℕ → Held) → List Record → List Record
+abbrev kept_of : (ℕ → Option ContentValue) → (ℕ → SideState) → List Record → List Record
 kept_of keep h records = flat_map (λ r. kept_record (keep r.id) (h r.id) r) records
 
-same_kept : (keep : ℕ → Option ContentValue) (h1 h : ℕ → Held) (g : ℕ) (records : List Record) → first g records ≡ None
+same_kept : (keep : ℕ → Option ContentValue) (h1 h : ℕ → SideState) (g : ℕ) (records : List Record) → first g records ≡ None
     → ((j : ℕ) → (j == g) ≡ false → h1 j ≡ h j) → kept_of keep h1 records ≡ kept_of keep h records
 same_kept keep h1 h g [] none same = refl
 same_kept keep h1 h g (r ∷ records) none same = grind (arith, same_kept keep h1 h g records)
@@ -152,10 +152,10 @@ again-adds (clean_up ∷ ws) (e ∷ es) more ch later records is free new none g
 again-adds (reset ∷ ws) [] more ch later records is free new none got = absurd (cc)
 again-adds (reset ∷ ws) (e ∷ es) more ch later records is free new none got = absurd (cc)
 
-kept_by : (b : Bool) (k : Option ContentValue) (h : Held) {c : ContentValue} → (if b then replacement k h else None) ≡ Some c → k ≡ Some c
+kept_by : (b : Bool) (k : Option ContentValue) (h : SideState) {c : ContentValue} → (if b then replacement k h else None) ≡ Some c → k ≡ Some c
 kept_by b k h is = grind arith
 
-kept_first : (keep : ℕ → Option ContentValue) (h : ℕ → Held) (i : ℕ) (c : ContentValue) {rest : List (ℕ × ContentValue)}
+kept_first : (keep : ℕ → Option ContentValue) (h : ℕ → SideState) (i : ℕ) (c : ContentValue) {rest : List (ℕ × ContentValue)}
     → replaced_rows keep h ≡ (i, c) ∷ rest → keep i ≡ Some c
 kept_first keep h i c {rest} is =
     kept_by (nat_lt i id_bound) (keep i) (h i) (sym (at-each_below (λ j. replacement (keep j) (h j)) id_bound i) ∙ ap (at i) is ∙ there)
@@ -222,10 +222,10 @@ again-news (reset ∷ ws) more ch given later records is differ bounded got then
 
 -- ---- one session after the other
 
-pub chosen-again : (x : Found) (given : List ℕ) (n : ℕ) → chosen Desktop (left_among_news Desktop x given n) ≡ chosen Desktop x
+pub chosen-again : (x : Finding) (given : List ℕ) (n : ℕ) → chosen Desktop (left_among_news Desktop x given n) ≡ chosen Desktop x
 chosen-again x given n = grind (arith, desktop-is (sides (left_among_news Desktop x given n)), desktop-is (sides x))
 
-pub desktop-news : (x : Found) (given later : List ℕ) (n : ℕ) → IsRead x → GotIds Desktop x given → IsRead (left_among_news Desktop x given n)
+pub desktop-news : (x : Finding) (given later : List ℕ) (n : ℕ) → IsRead x → GotIds Desktop x given → IsRead (left_among_news Desktop x given n)
     → GotIds Desktop (left_among_news Desktop x given n) later
     → GotIds Desktop x later × EndAlike (ended Desktop (left_among_news Desktop x given n) later) (ended Desktop x later)
 desktop-news x given later n read got then_read later_got =
@@ -238,7 +238,7 @@ desktop-news x given later n read got then_read later_got =
     let front : giving ch (held x.records) given ≡ done ++ drop n (giving ch (shown x) given) = ap (λ h. giving ch h given) (sym x_shown)
     ∙ sym (take-append-drop n (giving ch (shown x) given)) in
     let then_got : GotFreeIds ch (held y.records) later y.records =
-    subst (λ (p : Choice × (ℕ → Held)). GotFreeIds p.0 p.1 later y.records) (λ k. (same k, y_shown k)) later_got in
+    subst (λ (p : Choice × (ℕ → SideState)). GotFreeIds p.0 p.1 later y.records) (λ k. (same k, y_shown k)) later_got in
     let again = again-news done (drop n (giving ch (shown x) given)) ch given later x.records front (differ-ids x.records read.ids) read.bounded
     (subst (λ h. GotFreeIds ch h given x.records) x_shown got) then_got in (
       subst (λ h. GotFreeIds ch h later x.records) (sym x_shown) again.0,

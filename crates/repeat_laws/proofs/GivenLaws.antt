@@ -9,7 +9,7 @@ use Rattle.palm_device.specs.Records.{put_record}
 use Rattle.conduit_rules.specs.ById.{id_bound, each_below, at}
 use Rattle.conduit_rules.specs.Choices.{Choice}
 use Rattle.conduit_rules.specs.Plans.{replacement, is_purged, purged_at, replaced_rows, purged_ids}
-use Rattle.conduit_rules.specs.States.{Held, nothing, live, archived, held, held_where}
+use Rattle.conduit_rules.specs.States.{SideState, nothing, live, archived, held, held_where}
 use Rattle.conduit_rules.proofs.AgreedLaws.{RowsDiffer}
 use Rattle.conduit_rules.proofs.ByIdLaws.{id_bound-is, each_below-zero, each_below-suc, each_below-same}
 use Rattle.conduit_rules.proofs.ContentLaws.{same_content-is}
@@ -53,7 +53,7 @@ have-free (e ∷ es) now free = (subst (λ n. nat_lt e.0 n ≡ true) (sym id_bou
     below : (n : ℕ) → n ≤ 16777215 → nat_lt n (2 ^ 24) ≡ true
     below n l = grind (arith, nat_tests, l)
 
-module _ (ch : Choice) (h : ℕ → Held) (given : List ℕ) (records : List Record) where
+module _ (ch : Choice) (h : ℕ → SideState) (given : List ℕ) (records : List Record) where
   pub given-puts : after (giving ch h given) records ≡ put_all (numbered given ch.adds) (put_all (replaced_rows ch.keep h) records)
   given-puts =
       grind (
@@ -78,15 +78,15 @@ module _ (ch : Choice) (h : ℕ → Held) (given : List ℕ) (records : List Rec
 -- ---- what each id holds
 
 -- the row under an id is live, and an id without a row holds what it held before
-abbrev pub FitsGiven : Option ContentValue → Held → Held → Type 0
+abbrev pub FitsGiven : Option ContentValue → SideState → SideState → Type 0
 FitsGiven None h now = now ≡ h
 FitsGiven (Some c) h now = now ≡ live c
 
 -- and what is purged is what is live without a row
-abbrev pub IsGiven : Bool → Option ContentValue → Option ContentValue → Held → Held → Type 0
+abbrev pub IsGiven : Bool → Option ContentValue → Option ContentValue → SideState → SideState → Type 0
 IsGiven within k row h now = FitsGiven row h now × ((within && is_purged k h) ≡ (within && is_purged row now))
 
-given_one : (b : Bool) (k : Option ContentValue) (h : Held) (a : Option ContentValue) → (b ≡ false → (h ≡ nothing) × (a ≡ None))
+given_one : (b : Bool) (k : Option ContentValue) (h : SideState) (a : Option ContentValue) → (b ≡ false → (h ≡ nothing) × (a ≡ None))
     → ((c : ContentValue) → a ≡ Some c → (h ≡ nothing) × ((if b then replacement k h else None) ≡ None))
     → IsGiven b k (if b then option_or k a else None) h (over a (over (if b then replacement k h else None) h))
 given_one false k h a none new = (ap (λ o. over o h) (none refl).1, refl)
@@ -103,7 +103,7 @@ given_one true (Some c) nothing (Some y) none new = absurd (let h : Some c ≡ N
 given_one true (Some c) (live x) (Some y) none new = absurd (let h : live x ≡ nothing = (new y refl).0 in cc)
 given_one true (Some c) (archived x) (Some y) none new = absurd (let h : archived x ≡ nothing = (new y refl).0 in cc)
 
-pub given-is : (ch : Choice) (h : ℕ → Held) (given : List ℕ) (records : List Record) → AreBounded records → ((i : ℕ) → h i ≡ held records i)
+pub given-is : (ch : Choice) (h : ℕ → SideState) (given : List ℕ) (records : List Record) → AreBounded records → ((i : ℕ) → h i ≡ held records i)
     → GotFreeIds ch h given records → (i : ℕ)
     → IsGiven (nat_lt i id_bound) (ch.keep i) (row_under ch given i) (h i) (held (after (giving ch h given) records) i)
 given-is ch h given records bounded shows free i =
@@ -113,7 +113,7 @@ given-is ch h given records bounded shows free i =
     let put_here = at-each_below (λ j. replacement (ch.keep j) (h j)) id_bound i in
     let held_es : held (put_all es records) i ≡ over (if nat_lt i id_bound then replacement (ch.keep i) (h i) else None) (h i) =
     held-put_all es records i (apart-rising 0 id_bound es (replaced_rise ch.keep h))
-    ∙ ap {A = Option ContentValue × Held} (λ p. over p.0 p.1) (λ k. (put_here k, sym (shows i) k)) in
+    ∙ ap {A = Option ContentValue × SideState} (λ p. over p.0 p.1) (λ k. (put_here k, sym (shows i) k)) in
     let held_all : held (after (giving ch h given) records) i
     ≡ over (at i adds) (over (if nat_lt i id_bound then replacement (ch.keep i) (h i) else None) (h i)) =
     ap (λ rs. held rs i) (given-puts ch h given records) ∙ held-put_all adds (put_all es records) i (apart-free adds (put_all es records) free_then)
@@ -137,10 +137,10 @@ given-is ch h given records bounded shows free i =
 
 -- ---- what is purged
 
-purged_by : (i : ℕ) (b : Bool) (k row : Option ContentValue) (h now : Held) → b ≡ true → IsGiven b k row h now → purged_at k h i ≡ purged_at row now i
+purged_by : (i : ℕ) (b : Bool) (k row : Option ContentValue) (h now : SideState) → b ≡ true → IsGiven b k row h now → purged_at k h i ≡ purged_at row now i
 purged_by i b k row h now within is = grind arith
 
-pub purges-given : (ch : Choice) (h : ℕ → Held) (given : List ℕ) (records : List Record) → AreBounded records → ((i : ℕ) → h i ≡ held records i)
+pub purges-given : (ch : Choice) (h : ℕ → SideState) (given : List ℕ) (records : List Record) → AreBounded records → ((i : ℕ) → h i ≡ held records i)
     → GotFreeIds ch h given records → purged_ids ch.keep h ≡ purged_ids (row_under ch given) (held (after (giving ch h given) records))
 purges-given ch h given records bounded shows free =
     each_below-same (λ i. purged_at (ch.keep i) (h i) i) (λ i. purged_at (row_under ch given i) (held (after (giving ch h given) records) i) i) id_bound
@@ -156,10 +156,10 @@ none-append : (row : ℕ → Option ContentValue) (xs ys : List ℕ) → NoRows 
 none-append row [] ys none more = more
 none-append row (x ∷ xs) ys none more = (none.0, none-append row xs ys none.1 more)
 
-none_one : (row : ℕ → Option ContentValue) (i : ℕ) (k : Option ContentValue) (now : Held) → row i ≡ k → NoRows row (purged_at k now i)
+none_one : (row : ℕ → Option ContentValue) (i : ℕ) (k : Option ContentValue) (now : SideState) → row i ≡ k → NoRows row (purged_at k now i)
 none_one row i k now is = grind arith
 
-none_below : (row : ℕ → Option ContentValue) (now : ℕ → Held) (n : ℕ) → NoRows row (each_below (λ i. purged_at (row i) (now i) i) n)
+none_below : (row : ℕ → Option ContentValue) (now : ℕ → SideState) (n : ℕ) → NoRows row (each_below (λ i. purged_at (row i) (now i) i) n)
 none_below row now zero = subst (NoRows row) (sym (each_below-zero (λ i. purged_at (row i) (now i) i))) tt
 none_below row now (suc n) =
     subst (NoRows row) (sym (each_below-suc (λ i. purged_at (row i) (now i) i) n))
@@ -171,7 +171,7 @@ clearing_of row [] none = tt
 clearing_of row (i ∷ is) none = (none.0, clearing_of row is none.1)
 
 -- the purges are of ids without a row
-pub clearing-given : (ch : Choice) (h : ℕ → Held) (given : List ℕ) (records : List Record) → AreBounded records → ((i : ℕ) → h i ≡ held records i)
+pub clearing-given : (ch : Choice) (h : ℕ → SideState) (given : List ℕ) (records : List Record) → AreBounded records → ((i : ℕ) → h i ≡ held records i)
     → GotFreeIds ch h given records → AreClearing (row_under ch given) (clearing ch h)
 clearing-given ch h given records bounded shows free =
     grind (

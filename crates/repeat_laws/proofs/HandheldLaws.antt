@@ -9,7 +9,7 @@ use Rattle.pdb_values.specs.declared.record.Record.{Record}
 use Rattle.conduit_rules.specs.ById.{id_bound, each_id, with_id}
 use Rattle.conduit_rules.specs.Choices.{Choice}
 use Rattle.conduit_rules.specs.Contents.{same_content}
-use Rattle.conduit_rules.specs.States.{Held, nothing, live_of, archived_of, held}
+use Rattle.conduit_rules.specs.States.{SideState, nothing, live_of, archived_of, held}
 use Rattle.conduit_rules.specs.declared.action.Action.TheVariants.{Handheld}
 use Rattle.conduit_rules.proofs.ActionLaws.{handheld-is}
 use Rattle.conduit_rules.proofs.ByIdLaws.{each_below-zero}
@@ -19,7 +19,7 @@ use Rattle.record_merge.specs.Writes.{Write, after, clearing}
 use Rattle.record_merge.proofs.ArchiveLaws.{copies-stand}
 use Rattle.record_merge.proofs.PutLaws.{differ-ids}
 use Rattle.record_merge.proofs.StopLaws.{handheld-given}
-use Rattle.repeat_laws.specs.Repeats.{Found, IsRead, EndAlike, ended, sides, chosen, shown, GotIds, news_done, clearing_done, left_among_news}
+use Rattle.repeat_laws.specs.Repeats.{Finding, IsRead, EndAlike, ended, sides, chosen, shown, GotIds, news_done, clearing_done, left_among_news}
 use Rattle.repeat_laws.specs.Repeats.{left_behind_commit}
 use Rattle.repeat_laws.proofs.ClearLaws.{clearing-take, Fits}
 use Rattle.repeat_laws.proofs.CommitLaws.{copies-again, rows-again, base-again, records-again, fits-behind, no_contents, over_bound}
@@ -33,20 +33,20 @@ take_none : (n : ℕ) {ws : List Write} → ws ≡ [] → take n ws ≡ []
 take_none n is = grind arith
 
 -- it gave nothing
-none_done : (x : Found) (given : List ℕ) (n : ℕ) → news_done Handheld x given n ≡ []
+none_done : (x : Finding) (given : List ℕ) (n : ℕ) → news_done Handheld x given n ≡ []
 none_done x given n = take_none n (handheld-given (sides x) given)
 
-abbrev by_held : (ℕ → Held) → Choice
+abbrev by_held : (ℕ → SideState) → Choice
 by_held h = record { keep = λ i. live_of (h i); archive = each_id (λ i. with_id i (archived_of (h i))); adds = [] }
 
-pub handheld-news : (x : Found) (given later : List ℕ) (n : ℕ) → IsRead x → IsRead (left_among_news Handheld x given n)
+pub handheld-news : (x : Finding) (given later : List ℕ) (n : ℕ) → IsRead x → IsRead (left_among_news Handheld x given n)
     → ended Handheld (left_among_news Handheld x given n) later ≡ ended Handheld x later
 handheld-news x given later n read then_read =
     let y = left_among_news Handheld x given n in
     let records : y.records ≡ x.records = ap (λ ws. after ws x.records) (none_done x given n) in
     let shows : shown y ≡ shown x = λ k i. (then_read.shows i ∙ ap (λ rs. held rs i) records ∙ sym (read.shows i)) k in
     let same : chosen Handheld y ≡ chosen Handheld x = handheld-is (sides y) ∙ ap by_held shows ∙ sym (handheld-is (sides x)) in
-    ap {A = Choice × ((ℕ → Held) × List Record)} (λ p. ended_by p.0 p.1.0 later p.1.1 x.archive) (λ k. (same k, (shows k, records k)))
+    ap {A = Choice × ((ℕ → SideState) × List Record)} (λ p. ended_by p.0 p.1.0 later p.1.1 x.archive) (λ k. (same k, (shows k, records k)))
 
 -- ---- what stands in an archive isn't put there again
 
@@ -133,21 +133,21 @@ all-below xs f (suc n) stand =
 
 -- ---- a stop behind the commit
 
-live_none : (b : Bool) (h : Held) → (b ≡ false → h ≡ nothing) → (if b then option_or (live_of h) None else None) ≡ None → live_of h ≡ None
+live_none : (b : Bool) (h : SideState) → (b ≡ false → h ≡ nothing) → (if b then option_or (live_of h) None else None) ≡ None → live_of h ≡ None
 live_none b h bare is = grind arith
 
-kept_now : (k : Option ContentValue) (h now : Held) → (k ≡ None → live_of h ≡ None) → Fits k h now → live_of now ≡ k
+kept_now : (k : Option ContentValue) (h now : SideState) → (k ≡ None → live_of h ≡ None) → Fits k h now → live_of now ≡ k
 kept_now k h now none fits = grind arith
 
-archived_before : (k : Option ContentValue) (h now : Held) {c : ContentValue} → Fits k h now → archived_of now ≡ Some c → archived_of h ≡ Some c
+archived_before : (k : Option ContentValue) (h now : SideState) {c : ContentValue} → Fits k h now → archived_of now ≡ Some c → archived_of h ≡ Some c
 archived_before k h now fits is = grind arith
 
-row_is : (x : Found) (given : List ℕ) (i : ℕ)
+row_is : (x : Finding) (given : List ℕ) (i : ℕ)
     → row_under (chosen Handheld x) given i ≡ (if nat_lt i id_bound then option_or (live_of (shown x i)) None else None)
 row_is x given i = grind (arith, handheld-is (sides x), no_contents given)
 
 -- what it archives stands in the archive
-archived-stands : (x : Found) (i : ℕ) (c : ContentValue) → i < id_bound → archived_of (shown x i) ≡ Some c
+archived-stands : (x : Finding) (i : ℕ) (c : ContentValue) → i < id_bound → archived_of (shown x i) ≡ Some c
     → is_archived (i, c) (merged_archive (chosen Handheld x) x.archive) ≡ true
 archived-stands x i c l is =
     copies-stand (i, c) [] (x.archive ++ (chosen Handheld x).archive)
@@ -159,7 +159,7 @@ archived-stands x i c l is =
 abbrev kept_and : (ℕ → Option ContentValue) → List (ℕ × ContentValue) → Choice
 kept_and keep archive = record { keep = keep; archive = archive; adds = [] }
 
-pub handheld-behind : (x : Found) (given later : List ℕ) (n : ℕ) → IsRead x → GotIds Handheld x given → IsRead (left_behind_commit Handheld x given n)
+pub handheld-behind : (x : Finding) (given later : List ℕ) (n : ℕ) → IsRead x → GotIds Handheld x given → IsRead (left_behind_commit Handheld x given n)
     → EndAlike (ended Handheld (left_behind_commit Handheld x given n) later) (ended Handheld x given)
 handheld-behind x given later n read got then_read =
     let ch = chosen Handheld x in

@@ -26,7 +26,7 @@ use Rattle.record_merge.specs.Writes.{GotFreeIds, Write, add, after, clean_up, g
 use Rattle.record_merge.proofs.StopLaws.{choice-after, giving-of, of-take, sides-again, writes-of}
 use Rattle.session_plan.specs.Losses.{is_lost, stays}
 use Rattle.repeat_laws.specs.Losses.{loses_rows}
-use Rattle.repeat_laws.specs.Repeats.{Found, GotIds, IsRead, StopsAmongNews, chosen, left_among_news, left_at_end, left_behind_commit, news_done}
+use Rattle.repeat_laws.specs.Repeats.{Finding, GotIds, IsRead, StopsAmongNews, chosen, left_among_news, left_at_end, left_behind_commit, news_done}
 use Rattle.repeat_laws.proofs.CommitLaws.{chosen-commit, chosen-end, kept_alone}
 use Rattle.repeat_laws.proofs.NewsLaws.{choice-counted}
 use Rattle.repeat_laws.proofs.ResumeLaws.{not_kept}
@@ -143,7 +143,7 @@ none-lost ch now grows (r ∷ rows) is =
     (stays (kept_rows now.keep) now.adds r.content) (grows r.content) parts.0 in
     rw here (none-lost ch now grows rows parts.1)
 
-pub news-loses : (x : Found) (given : List ℕ) (n : ℕ) → StopsAmongNews Sync x given n → loses_rows x ≡ false
+pub news-loses : (x : Finding) (given : List ℕ) (n : ℕ) → StopsAmongNews Sync x given n → loses_rows x ≡ false
     → loses_rows (left_among_news Sync x given n) ≡ false
 news-loses x given n stops keeps =
     let s = sides_of x.view x.rows x.base true in
@@ -191,12 +191,12 @@ merged-loses ch given now is =
     ap (λ c. list_any (lost_of c) (map settled_record rows)) is ∙ ap (λ es. list_any (is_lost es []) (map settled_record rows)) kept
     ∙ settled-stay [] rows
 
-pub commit-loses : (x : Found) (given : List ℕ) (n : ℕ) → IsRead x → GotIds Sync x given → loses_rows (left_behind_commit Sync x given n) ≡ false
+pub commit-loses : (x : Finding) (given : List ℕ) (n : ℕ) → IsRead x → GotIds Sync x given → loses_rows (left_behind_commit Sync x given n) ≡ false
 commit-loses x given n read got =
     merged-loses (chosen Sync x) given (chosen Sync (left_behind_commit Sync x given n))
     (chosen-commit Sync x given n tt read got (read-commit Sync x given n read got)).0
 
-pub end-loses : (x : Found) (given : List ℕ) (view : List Seen) (gone_counts : Bool) → IsRead x → GotIds Sync x given
+pub end-loses : (x : Finding) (given : List ℕ) (view : List Seen) (gone_counts : Bool) → IsRead x → GotIds Sync x given
     → IsRead (left_at_end Sync x given view gone_counts) → loses_rows (left_at_end Sync x given view gone_counts) ≡ false
 end-loses x given view gone_counts read got then_read =
     merged-loses (chosen Sync x) given (chosen Sync (left_at_end Sync x given view gone_counts)) (chosen-end Sync x given view gone_counts read got then_read)

@@ -15,7 +15,7 @@ use Rattle.session_plan.specs.Tasks.{Meeting, Task, action_of_word, task_of, slo
 use Rattle.repeat_laws.specs.Meetings.{found, found_of, action_at, AsksTheSame, IsUnderWay, LeftAmongNews, LeftBehindCommit, LeftAtEnd, Follows, AllFollow}
 use Rattle.repeat_laws.specs.Meetings.{last_of, places_of}
 use Rattle.repeat_laws.specs.Renaming.{AreUnknown, SameEnds}
-use Rattle.repeat_laws.specs.Repeats.{IsRead, Found, ended, GotAllIds, Place, among_news, behind_commit, at_end, left_by, all_ids, AreStops}
+use Rattle.repeat_laws.specs.Repeats.{IsRead, Finding, ended, GotAllIds, Place, among_news, behind_commit, at_end, left_by, all_ids, AreStops}
 use Rattle.repeat_laws.proofs.RepeatLaws.{repeat_anew}
 
 -- ---- the marks
@@ -86,7 +86,7 @@ meetings-same meeting name es later new follow read stops all_got un new_all new
     let a = action_at meeting name in
     let x = found_of meeting name in
     let all = all-follow meeting name es follow in
-    subst (λ (p : Action × Found). SameEnds x (ended p.0 p.1 later) (ended a x new)) (sym (λ k. (all.0 k, all.1 k)))
+    subst (λ (p : Action × Finding). SameEnds x (ended p.0 p.1 later) (ended a x new)) (sym (λ k. (all.0 k, all.1 k)))
     (repeat_anew a x (places_of es) later new read stops (subst (λ y. GotAllIds a y later) all.1 all_got) un new_all new_un)
 
 -- ---- what a session reads

@@ -5,7 +5,7 @@ use Rattle.pdb_values.specs.Contents.{ContentValue}
 use Rattle.pdb_values.specs.Records.{is_live}
 use Rattle.pdb_values.specs.declared.record.Record.{Record}
 use Rattle.conduit_rules.specs.Choices.{Choice, Sides, choice, sides_of}
-use Rattle.conduit_rules.specs.States.{Held, nothing, held, record_held, first, Based, no_base, based_where}
+use Rattle.conduit_rules.specs.States.{SideState, nothing, held, record_held, first, BaseState, no_base, based_where}
 use Rattle.conduit_rules.specs.Views.{view_held, slow_view}
 use Rattle.conduit_rules.specs.Writes.{given_to}
 use Rattle.conduit_rules.specs.declared.action.Action.TheVariants.{Sync}
@@ -18,7 +18,7 @@ use Rattle.record_merge.specs.Writes.{Write, replace, add, purge, clean_up, rese
 use Rattle.record_merge.proofs.AfterLaws.{after-all, after-append}
 use Rattle.record_merge.proofs.PutLaws.{differ-ids}
 use Rattle.record_merge.proofs.StopLaws.{sides-again, choice-after, of-take, writes-of, giving-of}
-use Rattle.repeat_laws.specs.Repeats.{Found, IsRead, Ended, ended, chosen, shown, GotIds, news_done, given_by, left_among_news, NothingIfGone, NoneUnderGone}
+use Rattle.repeat_laws.specs.Repeats.{Finding, IsRead, Ending, ended, chosen, shown, GotIds, news_done, given_by, left_among_news, NothingIfGone, NoneUnderGone}
 use Rattle.repeat_laws.specs.Repeats.{StopsAmongNews}
 use Rattle.repeat_laws.proofs.ResumeLaws.{Resumed, resume}
 
@@ -28,7 +28,7 @@ pub counted : (zero : Bool) (o : Option Record)
     → (if zero then no_base else based_where false o) ≡ without_gone (if zero then no_base else based_where true o)
 counted zero o = grind arith
 
-if_gone : (b : Based) {h k : Held} → k ≡ h → NothingIfGone b h → IfGone b (k ≡ nothing)
+if_gone : (b : BaseState) {h k : SideState} → k ≡ h → NothingIfGone b h → IfGone b (k ≡ nothing)
 if_gone b same free = grind arith
 
 -- whether they count doesn't matter then
@@ -51,20 +51,20 @@ choice-counted view rows base records false shows free =
 pub live_held : (r : Record) → is_held_live (record_held r) ≡ is_live r
 live_held r = grind arith
 
-abbrev pub LivesShow : (ℕ → Held) → List Record → Type 0
+abbrev pub LivesShow : (ℕ → SideState) → List Record → Type 0
 LivesShow h records = (i : ℕ) (r : Record) → first i records ≡ Some r → is_held_live (h i) ≡ is_live r
 
-pub are_shown : (h : ℕ → Held) (records : List Record) → RowsDiffer records → AreBounded records → LivesShow h records → AreShown h records
+pub are_shown : (h : ℕ → SideState) (records : List Record) → RowsDiffer records → AreBounded records → LivesShow h records → AreShown h records
 are_shown h [] differ bounded lives = tt
 are_shown h (x ∷ records) differ bounded lives = grind (arith, are_shown h records differ.1 bounded.1)
 
-pub whole-is : (ch : Choice) (h : ℕ → Held) (given : List ℕ) (records : List Record) → RowsDiffer records → AreBounded records
+pub whole-is : (ch : Choice) (h : ℕ → SideState) (given : List ℕ) (records : List Record) → RowsDiffer records → AreBounded records
     → ((i : ℕ) → h i ≡ held records i) → GotFreeIds ch h given records → after (whole ch h given) records ≡ merged_records ch h given records
 whole-is ch h given records differ bounded shows free = grind (arith, after-all ch h given records differ, are_shown h records differ bounded)
 
 -- ---- one session after the other
 
-abbrev pub ended_by : Choice → (ℕ → Held) → List ℕ → List Record → List (ℕ × ContentValue) → Ended
+abbrev pub ended_by : Choice → (ℕ → SideState) → List ℕ → List Record → List (ℕ × ContentValue) → Ending
 ended_by ch h given records archive = record {
   records = merged_records ch h given records;
   rows = merged_rows ch given;
@@ -101,7 +101,7 @@ resumed-end done ch s {later} records archive r differ bounded shows got then_di
     )
 
 -- ids that are free in both sessions are free in one, and that ends as the second does
-pub news_and_ids : (x : Found) {given : List ℕ} (later : List ℕ) (n : ℕ) → StopsAmongNews Sync x given n → IsRead (left_among_news Sync x given n)
+pub news_and_ids : (x : Finding) {given : List ℕ} (later : List ℕ) (n : ℕ) → StopsAmongNews Sync x given n → IsRead (left_among_news Sync x given n)
     → GotIds Sync (left_among_news Sync x given n) later
     → GotIds Sync x (given ++ later) × (ended Sync (left_among_news Sync x given n) later ≡ ended Sync x (given ++ later))
 news_and_ids x {given} later n stops read later_got =
@@ -122,15 +122,15 @@ news_and_ids x {given} later n stops read later_got =
     let shown_is : shown y ≡ (sides_after done s).handheld = ap (λ (t : Sides). t.handheld) sides_are in
     let got : GotFreeIds ch s.handheld (given_by done) x.records = subst (λ ids. GotFreeIds ch s.handheld ids x.records) (sym stops.all) stops.got in
     let then_got : GotFreeIds (rest_of done ch) (sides_after done s).handheld later (after done x.records) =
-    subst (λ (p : Choice × (ℕ → Held)). GotFreeIds p.0 p.1 later y.records) (λ k. (chosen_is k, shown_is k)) later_got in (
+    subst (λ (p : Choice × (ℕ → SideState)). GotFreeIds p.0 p.1 later y.records) (λ k. (chosen_is k, shown_is k)) later_got in (
       subst (λ ids. GotFreeIds ch s.handheld (ids ++ later) x.records) stops.all (r.free x.records got then_got),
-      ap {A = Choice × (ℕ → Held)} (λ p. ended_by p.0 p.1 later y.records x.archive) (λ k. (chosen_is k, shown_is k))
+      ap {A = Choice × (ℕ → SideState)} (λ p. ended_by p.0 p.1 later y.records x.archive) (λ k. (chosen_is k, shown_is k))
           ∙ resumed-end done ch s x.records x.archive r (differ-ids x.records stops.read.ids) stops.read.bounded stops.read.shows got
-          (differ-ids y.records read.ids) read.bounded (λ i. ap (λ (h : ℕ → Held). h i) (sym shown_is) ∙ read.shows i) then_got
+          (differ-ids y.records read.ids) read.bounded (λ i. ap (λ (h : ℕ → SideState). h i) (sym shown_is) ∙ read.shows i) then_got
           ∙ ap (λ ids. ended_by ch s.handheld (ids ++ later) x.records x.archive) stops.all,
     )
 
-pub news : (x : Found) {given : List ℕ} (later : List ℕ) (n : ℕ) → StopsAmongNews Sync x given n → IsRead (left_among_news Sync x given n)
+pub news : (x : Finding) {given : List ℕ} (later : List ℕ) (n : ℕ) → StopsAmongNews Sync x given n → IsRead (left_among_news Sync x given n)
     → GotIds Sync (left_among_news Sync x given n) later → ended Sync (left_among_news Sync x given n) later ≡ ended Sync x (given ++ later)
 news x later n stops read later_got = (news_and_ids x later n stops read later_got).1
 
@@ -144,7 +144,7 @@ rest-adds (purge i ∷ ws) ch s of = absurd of
 rest-adds (clean_up ∷ ws) ch s of = absurd of
 rest-adds (reset ∷ ws) ch s of = absurd of
 
-pub news-adds : (x : Found) (given : List ℕ) (n : ℕ) → StopsAmongNews Sync x given n → IsRead (left_among_news Sync x given n)
+pub news-adds : (x : Finding) (given : List ℕ) (n : ℕ) → StopsAmongNews Sync x given n → IsRead (left_among_news Sync x given n)
     → length given + length (chosen Sync (left_among_news Sync x given n)).adds ≡ length (chosen Sync x).adds
 news-adds x given n stops read =
     let s = sides_of x.view x.rows x.base true in

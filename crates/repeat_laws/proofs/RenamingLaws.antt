@@ -24,7 +24,7 @@ use Rattle.record_merge.proofs.CountLaws.{sum-rows, new-free}
 use Rattle.record_merge.proofs.HeldLaws.{held-merged, held-rows}
 use Rattle.record_merge.proofs.PutLaws.{differ-ids}
 use Rattle.repeat_laws.specs.Renaming.{is_known, AreUnknown, is_new_with, SameEnds}
-use Rattle.repeat_laws.specs.Repeats.{Found, IsRead, ended, chosen, shown, GotIds, GotAllIds}
+use Rattle.repeat_laws.specs.Repeats.{Finding, IsRead, ended, chosen, shown, GotIds, GotAllIds}
 use Rattle.repeat_laws.proofs.ClearLaws.{differ-after}
 use Rattle.repeat_laws.proofs.GivenLaws.{differ-given, clearing-given}
 use Rattle.repeat_laws.proofs.NewsLaws.{whole-is}
@@ -77,14 +77,14 @@ sum-records u (r ∷ records) differ bounded =
 
 -- ---- the weight of a content under ids that nothing had
 
-abbrev weight : Found → ContentValue → ℕ × ContentValue → ℕ
+abbrev weight : Finding → ContentValue → ℕ × ContentValue → ℕ
 weight x c e = cond (not (is_known x e.0) && same_content e.1 c) 1 0
 
-sum-settled : (x : Found) (c : ContentValue) (es : List (ℕ × ContentValue))
+sum-settled : (x : Finding) (c : ContentValue) (es : List (ℕ × ContentValue))
     → count_by (is_new_with x c) (map settled_record es) ≡ sum_by (weight x c) es
 sum-settled x c es = grind (arith, common_steps)
 
-sum-unknown : (x : Found) (c : ContentValue) (given : List ℕ) (cs : List ContentValue) → AreUnknown x given → length given ≡ length cs
+sum-unknown : (x : Finding) (c : ContentValue) (given : List ℕ) (cs : List ContentValue) → AreUnknown x given → length given ≡ length cs
     → sum_by (weight x c) (numbered given cs) ≡ sum_by (λ d. cond (same_content d c) 1 0) cs
 sum-unknown x c [] [] un is = refl
 sum-unknown x c [] (d ∷ cs) un is = absurd (omega (arith, is))
@@ -95,7 +95,7 @@ sum-unknown x c (g ∷ given) (d ∷ cs) un is =
     ∙ sym (sum_by-cons (λ e. cond (same_content e c) 1 0) d cs)
 
 -- the rows' count, whatever the ids
-rows-count : (a : Action) (x : Found) {given : List ℕ} (c : ContentValue) → IsRead x → GotAllIds a x given → AreUnknown x given
+rows-count : (a : Action) (x : Finding) {given : List ℕ} (c : ContentValue) → IsRead x → GotAllIds a x given → AreUnknown x given
     → sum_by (weight x c) (each_id (λ i. with_id i (row_at (chosen a x) given i))) ≡ sum_by (weight x c) (kept_rows (chosen a x).keep) + sum_by
     (λ d. cond (same_content d c) 1 0) (chosen a x).adds
 rows-count a x {given} c read all un =
@@ -104,23 +104,23 @@ rows-count a x {given} c read all un =
 
 -- ---- a known id
 
-unknown_at : (x : Found) (i : ℕ) (given : List ℕ) (cs : List ContentValue) → is_known x i ≡ true → AreUnknown x given → at i (numbered given cs) ≡ None
+unknown_at : (x : Finding) (i : ℕ) (given : List ℕ) (cs : List ContentValue) → is_known x i ≡ true → AreUnknown x given → at i (numbered given cs) ≡ None
 unknown_at x i [] cs known un = refl
 unknown_at x i (g ∷ given) [] known un = refl
 unknown_at x i (g ∷ given) (c ∷ cs) known un = grind (arith, unknown_at x i given cs known un.1)
 
-known-row : (a : Action) (x : Found) (given : List ℕ) (i : ℕ) → is_known x i ≡ true → AreUnknown x given
+known-row : (a : Action) (x : Finding) (given : List ℕ) (i : ℕ) → is_known x i ≡ true → AreUnknown x given
     → row_under (chosen a x) given i ≡ (if nat_lt i id_bound then option_or ((chosen a x).keep i) None else None)
 known-row a x given i known un = grind (arith, unknown_at x i given (chosen a x).adds known un)
 
 -- ---- the handheld
 
-record_row : (x : Found) (c : ContentValue) (i : ℕ) (o : Option Record) (k : Option ContentValue) → ((r : Record) → o ≡ Some r → r.id ≡ i)
+record_row : (x : Finding) (c : ContentValue) (i : ℕ) (o : Option Record) (k : Option ContentValue) → ((r : Record) → o ≡ Some r → r.id ≡ i)
     → held_where o ≡ live_or k
     → sum_by (λ (r : Record). cond (is_new_with x c r) 1 0) (option_to_list o) ≡ sum_by (weight x c) (with_id i k)
 record_row x c i o k bears is = grind arith
 
-records-count : (a : Action) (x : Found) (given : List ℕ) (c : ContentValue) → IsRead x → GotIds a x given
+records-count : (a : Action) (x : Finding) (given : List ℕ) (c : ContentValue) → IsRead x → GotIds a x given
     → count_by (is_new_with x c) (ended a x given).records ≡ sum_by (weight x c) (each_id (λ i. with_id i (row_at (chosen a x) given i)))
 records-count a x given c read got =
     let ch = chosen a x in
@@ -144,7 +144,7 @@ records-count a x given c read got =
 
 -- ---- both ends
 
-pub renamed : (a : Action) (x : Found) (given other : List ℕ) → IsRead x → GotAllIds a x given → GotAllIds a x other → AreUnknown x given
+pub renamed : (a : Action) (x : Finding) (given other : List ℕ) → IsRead x → GotAllIds a x given → GotAllIds a x other → AreUnknown x given
     → AreUnknown x other → SameEnds x (ended a x given) (ended a x other)
 renamed a x given other read all all_too un un_too =
     let ch = chosen a x in

@@ -9,7 +9,7 @@ use Rattle.conduit_rules.specs.ById.{id_bound, put, with_id}
 use Rattle.conduit_rules.specs.Choices.{Choice, Sides, choice}
 use Rattle.conduit_rules.specs.Fates.{Fate, fate}
 use Rattle.conduit_rules.specs.Plans.{replacement, lost, purged_at, replaced_rows, purged_ids, gone_rows}
-use Rattle.conduit_rules.specs.States.{Held, nothing, live, Based, no_base}
+use Rattle.conduit_rules.specs.States.{SideState, nothing, live, BaseState, no_base}
 use Rattle.conduit_rules.specs.Writes.{given_to}
 use Rattle.conduit_rules.proofs.ByIdLaws.{each_below-same}
 use Rattle.conduit_rules.proofs.ChoiceLaws.{choice-put, choice-add}
@@ -22,7 +22,7 @@ use Rattle.repeat_laws.proofs.FirstLaws.{first-out}
 
 -- ---- a replacement that was made
 
-module _ (keep : ℕ → Option ContentValue) (h : ℕ → Held) (i : ℕ) {c : ContentValue} (kept : keep i ≡ Some c) where
+module _ (keep : ℕ → Option ContentValue) (h : ℕ → SideState) (i : ℕ) {c : ContentValue} (kept : keep i ≡ Some c) where
   put_replacement : (j : ℕ) → replacement (keep j) (put h i (live c) j) ≡ put (λ m. replacement (keep m) (h m)) i None j
   put_replacement j = by (j == i) refl
     where
@@ -53,7 +53,7 @@ module _ (keep : ℕ → Option ContentValue) (h : ℕ → Held) (i : ℕ) {c : 
 -- ---- an add that was made
 
 -- whatever is looked at by what is kept and what is held, and is the same for nothing as for the add
-add_same : {A : Type 0} (F : ℕ → Option ContentValue → Held → A) (keep : ℕ → Option ContentValue) (h : ℕ → Held) (g : ℕ) (a : ContentValue)
+add_same : {A : Type 0} (F : ℕ → Option ContentValue → SideState → A) (keep : ℕ → Option ContentValue) (h : ℕ → SideState) (g : ℕ) (a : ContentValue)
     → keep g ≡ None → h g ≡ nothing → F g None nothing ≡ F g (Some a) (live a) → (j : ℕ)
     → F j (keep j) (h j) ≡ F j (put keep g (Some a) j) (put h g (live a) j)
 add_same {A} F keep h g a none bare same j = grind arith
@@ -61,7 +61,7 @@ add_same {A} F keep h g a none bare same j = grind arith
 no_replacement : (a : ContentValue) → replacement None nothing ≡ replacement (Some a) (live a)
 no_replacement a = grind (arith, same_content-same a)
 
-module _ (keep : ℕ → Option ContentValue) (h : ℕ → Held) (g : ℕ) (a : ContentValue) (none : keep g ≡ None) (bare : h g ≡ nothing) where
+module _ (keep : ℕ → Option ContentValue) (h : ℕ → SideState) (g : ℕ) (a : ContentValue) (none : keep g ≡ None) (bare : h g ≡ nothing) where
   replaced_add : replaced_rows keep h ≡ replaced_rows (put keep g (Some a)) (put h g (live a))
   replaced_add =
       each_below-same (λ j. with_id j (replacement (keep j) (h j))) (λ j. with_id j (replacement (put keep g (Some a) j) (put h g (live a) j))) id_bound
@@ -87,8 +87,8 @@ row_add : (ch : Choice) (g : ℕ) {a : ContentValue} (gs : List ℕ) (i : ℕ) �
 row_add ch g gs i none next = grind arith
 
 -- nothing is kept under an id that has no base row and that nothing holds
-pub not_kept : {b : Based} {h : Held} (d : Held) → b ≡ no_base → h ≡ nothing → (fate b h d).keep ≡ None
-not_kept d none bare = ap {A = Based × Held} (λ p. Fate.keep (fate p.0 p.1 d)) (λ k. (none k, bare k))
+pub not_kept : {b : BaseState} {h : SideState} (d : SideState) → b ≡ no_base → h ≡ nothing → (fate b h d).keep ≡ None
+not_kept d none bare = ap {A = BaseState × SideState} (λ p. Fate.keep (fate p.0 p.1 d)) (λ k. (none k, bare k))
 
 -- ---- the first of the writes
 

@@ -10,7 +10,7 @@ use Rattle.record_merge.specs.Merging.{merged_archive, one_copy_behind}
 use Rattle.desk_store.specs.Shelves.{ShelvesValue}
 use Rattle.session_plan.specs.Archives.{archive_records, entries_of}
 use Rattle.session_plan.specs.Choosing.{choice, add_count}
-use Rattle.session_plan.specs.Merges.{rows_before, archive_of, Merged, merged_of, put_archive, shelved, shelve, merged_shelves}
+use Rattle.session_plan.specs.Merges.{rows_before, archive_of, DesktopMerge, merged_of, put_archive, shelved, shelve, merged_shelves}
 use Rattle.session_plan.specs.Tasks.{Meeting, Task, task_of, slot_of, records_of}
 use Rattle.repeat_laws.specs.Meetings.{ids_dealt}
 use Rattle.repeat_laws.proofs.MergedLaws.{AreTasks, IsTask, NotNamed, PutsOwn, others-stay, puts, own-changes}
@@ -18,16 +18,16 @@ use Rattle.repeat_laws.proofs.MergedLaws.{AreTasks, IsTask, NotNamed, PutsOwn, o
 -- ---- one role of a merged database
 
 -- a role's database, under the head of the rows
-abbrev pub HasHead : (Merged → Option DatabaseValue) → Type 0
+abbrev pub HasHead : (DesktopMerge → Option DatabaseValue) → Type 0
 HasHead f = (m : Meeting) (t : Task) (ids : List ℕ) (r d : DatabaseValue) → f (merged_of m t ids r) ≡ Some d → d.head.name ≡ r.head.name
 
-abbrev pub rows_in : Merged → Option DatabaseValue
+abbrev pub rows_in : DesktopMerge → Option DatabaseValue
 rows_in x = Some x.rows
 
-abbrev pub base_in : Merged → Option DatabaseValue
+abbrev pub base_in : DesktopMerge → Option DatabaseValue
 base_in x = Some x.base
 
-abbrev pub archive_in : Merged → Option DatabaseValue
+abbrev pub archive_in : DesktopMerge → Option DatabaseValue
 archive_in x = x.archive
 
 pub rows-head : HasHead rows_in
@@ -42,7 +42,7 @@ archive_head r records is = grind arith
 pub archive-head : HasHead archive_in
 archive-head m t ids r d is = archive_head r (archive_records (merged_archive (choice m t) (entries_of (records_of t.archive)))) is
 
-abbrev put_role : (Merged → Option DatabaseValue) → Meeting → Task → List ℕ → Option DatabaseValue → List DatabaseValue → List DatabaseValue
+abbrev put_role : (DesktopMerge → Option DatabaseValue) → Meeting → Task → List ℕ → Option DatabaseValue → List DatabaseValue → List DatabaseValue
 put_role f m t ids None databases = databases
 put_role f m t ids (Some r) databases = put_archive (f (merged_of m t ids r)) databases
 
@@ -50,7 +50,7 @@ abbrev pub if_put : Option DatabaseValue → Option DatabaseValue → Option Dat
 if_put None old = old
 if_put (Some d) old = Some d
 
-abbrev own_role : (Merged → Option DatabaseValue) → Meeting → Task → List ℕ → Option DatabaseValue → Option DatabaseValue → Option DatabaseValue
+abbrev own_role : (DesktopMerge → Option DatabaseValue) → Meeting → Task → List ℕ → Option DatabaseValue → Option DatabaseValue → Option DatabaseValue
 own_role f m t ids None old = old
 own_role f m t ids (Some r) old = if_put (f (merged_of m t ids r)) old
 
@@ -69,7 +69,7 @@ rows_name m t is before =
       database_of-name t.name m.device.databases,
     )
 
-abbrev put_task : (Merged → Option DatabaseValue) → Meeting → Task → List ℕ → List DatabaseValue → List DatabaseValue
+abbrev put_task : (DesktopMerge → Option DatabaseValue) → Meeting → Task → List ℕ → List DatabaseValue → List DatabaseValue
 put_task f m t ids databases = put_role f m t ids (rows_before m.wishes.date t.rows t.handheld) databases
 
 looked_other : (name : List ℕ) (o : Option DatabaseValue) (databases : List DatabaseValue)
@@ -83,7 +83,7 @@ looked_here : (name : List ℕ) (o : Option DatabaseValue) (databases : List Dat
 looked_here name None databases same = refl
 looked_here name (Some d) databases same = grind (arith, database_of-with_put name d databases)
 
-role-own : (f : Merged → Option DatabaseValue) → HasHead f → (m : Meeting)
+role-own : (f : DesktopMerge → Option DatabaseValue) → HasHead f → (m : Meeting)
     → PutsOwn m (put_task f m) (λ t ids old. own_role f m t ids (rows_before m.wishes.date t.rows t.handheld) old)
 role-own f head m = record {
   other = λ t ids databases name is apart. other_by t ids databases name apart (rows_before m.wishes.date t.rows t.handheld) (λ r e. rows_name m t is e);
@@ -104,10 +104,10 @@ role-own f head m = record {
         looked_here t.name (f (merged_of m t ids r)) databases (λ d e. ap (λ n. bytes_eq n t.name) (head m t ids r d e ∙ named r refl) ∙ bytes_eq-own t.name)
 
 -- a shelf of the merged ones
-abbrev pub IsShelf : (ShelvesValue → List DatabaseValue) → (Merged → Option DatabaseValue) → Type 0
-IsShelf g f = (x : Merged) (shelves : ShelvesValue) → g (shelved x shelves) ≡ put_archive (f x) (g shelves)
+abbrev pub IsShelf : (ShelvesValue → List DatabaseValue) → (DesktopMerge → Option DatabaseValue) → Type 0
+IsShelf g f = (x : DesktopMerge) (shelves : ShelvesValue) → g (shelved x shelves) ≡ put_archive (f x) (g shelves)
 
-shelf-puts : (g : ShelvesValue → List DatabaseValue) (f : Merged → Option DatabaseValue) → IsShelf g f
+shelf-puts : (g : ShelvesValue → List DatabaseValue) (f : DesktopMerge → Option DatabaseValue) → IsShelf g f
     → (m : Meeting) (ts : List Task) (given : List ℕ) (shelves : ShelvesValue)
     → g (merged_shelves m ts given shelves) ≡ puts m (put_task f m) ts given (g shelves)
 unfolding merged_shelves
@@ -119,7 +119,7 @@ shelf-puts g f is m (t ∷ ts) given shelves =
           (shelve m t (take (add_count m t) given) (rows_before m.wishes.date t.rows t.handheld) shelves),
     )
 
-pub shelf-merged : (g : ShelvesValue → List DatabaseValue) (f : Merged → Option DatabaseValue) → IsShelf g f → HasHead f
+pub shelf-merged : (g : ShelvesValue → List DatabaseValue) (f : DesktopMerge → Option DatabaseValue) → IsShelf g f → HasHead f
     → (m : Meeting) (ts : List Task) (given : List ℕ) (shelves : ShelvesValue) (t : Task) {r : DatabaseValue} → AreTasks m ts → IsTask t ts
     → rows_before m.wishes.date t.rows t.handheld ≡ Some r
     → database_of t.name (g (merged_shelves m ts given shelves)) ≡ if_put (f (merged_of m t (ids_dealt m ts given t.name) r)) (database_of t.name (g shelves))
@@ -132,7 +132,7 @@ shelf-merged g f is head m ts given shelves t are there before =
     )
 
 -- what the session doesn't take stays
-pub shelf-others : (g : ShelvesValue → List DatabaseValue) (f : Merged → Option DatabaseValue) → IsShelf g f → HasHead f
+pub shelf-others : (g : ShelvesValue → List DatabaseValue) (f : DesktopMerge → Option DatabaseValue) → IsShelf g f → HasHead f
     → (m : Meeting) (ts : List Task) (given : List ℕ) (shelves : ShelvesValue) (name : List ℕ) → AreTasks m ts → NotNamed name ts
     → database_of name (g (merged_shelves m ts given shelves)) ≡ database_of name (g shelves)
 shelf-others g f is head m ts given shelves name are unnamed =

@@ -18,7 +18,7 @@ use Rattle.record_merge.specs.Writes.{Write, replace, add, purge, clean_up, rese
 use Rattle.record_merge.proofs.PutLaws.{without_record-nil, without_record-cons}
 use Rattle.record_merge.proofs.SettledLaws.{first-zero}
 use Rattle.record_merge.proofs.ShownLaws.{slow_shows}
-use Rattle.repeat_laws.specs.Repeats.{Found, IsRead, chosen, shown, sides, GotIds, news_done, clearing_done, left_among_news, left_behind_commit}
+use Rattle.repeat_laws.specs.Repeats.{Finding, IsRead, chosen, shown, sides, GotIds, news_done, clearing_done, left_among_news, left_behind_commit}
 use Rattle.repeat_laws.proofs.CommitLaws.{kept_zero}
 use Rattle.repeat_laws.proofs.FirstLaws.{with_ids, with_ids-suc}
 use Rattle.repeat_laws.proofs.GivenLaws.{bounded-put}
@@ -117,7 +117,7 @@ can-purges : (is : List ℕ) (ws : List Write) → CanWrite ws → CanWrite (pur
 can-purges [] ws can = can
 can-purges (i ∷ is) ws can = can-purges is ws can
 
-can-giving : (a : Action) (x : Found) (given : List ℕ) → IsRead x → GotIds a x given → CanWrite (giving (chosen a x) (shown x) given)
+can-giving : (a : Action) (x : Finding) (given : List ℕ) → IsRead x → GotIds a x given → CanWrite (giving (chosen a x) (shown x) given)
 can-giving a x given read got =
     let ch = chosen a x in
     let none : ch.keep 0 ≡ None = kept_zero a (sides x) refl (read.shows 0 ∙ ap held_where (first-zero x.records read.ids)) in
@@ -127,14 +127,14 @@ can-giving a x given read got =
 
 -- ---- what is left can be read
 
-pub read-news : (a : Action) (x : Found) (given : List ℕ) (n : ℕ) → IsRead x → GotIds a x given → IsRead (left_among_news a x given n)
+pub read-news : (a : Action) (x : Finding) (given : List ℕ) (n : ℕ) → IsRead x → GotIds a x given → IsRead (left_among_news a x given n)
 read-news a x given n read got =
     let ws = news_done a x given n in
     let can = can-take n (giving (chosen a x) (shown x) given) (can-giving a x given read got) in
     let bounded = bounded-after ws x.records can read.bounded in
     record { ids = ids-after ws x.records can read.ids; bounded = bounded; shows = slow_shows (after ws x.records) bounded }
 
-pub read-commit : (a : Action) (x : Found) (given : List ℕ) (n : ℕ) → IsRead x → GotIds a x given → IsRead (left_behind_commit a x given n)
+pub read-commit : (a : Action) (x : Finding) (given : List ℕ) (n : ℕ) → IsRead x → GotIds a x given → IsRead (left_behind_commit a x given n)
 read-commit a x given n read got =
     let ch = chosen a x in
     let ws = giving ch (shown x) given ++ clearing_done a x n in

@@ -3,7 +3,7 @@ use Rattle.std.proofs.Common.{arith, ◌&&◌, false, is_none, ◌≡◌, ◌||�
 use Rattle.pdb_values.specs.Databases.{DatabaseValue}
 use Rattle.pdb_values.specs.NamedDatabases.{database_of}
 use Rattle.conduit_rules.specs.Choices.{Choice}
-use Rattle.conduit_rules.specs.States.{Held}
+use Rattle.conduit_rules.specs.States.{SideState}
 use Rattle.record_merge.specs.Merging.{merged_archive, merged_base, merged_records, merged_rows}
 use Rattle.desk_store.specs.Shelves.{SlotValue}
 use Rattle.session_plan.specs.Archives.{entries_of}
@@ -86,7 +86,7 @@ merged-at m next given name slot is =
     record {
       there = ap is_some rows;
       rows = ap records_of rows ∙ ap (λ c. merged_rows c ids) (chosen-is m t);
-      base = ap records_of base ∙ ap {A = Choice × (ℕ → Held)} (λ p. merged_base p.0 p.1 ids) (λ k. (chosen-is m t k, shown-is m t k));
+      base = ap records_of base ∙ ap {A = Choice × (ℕ → SideState)} (λ p. merged_base p.0 p.1 ids) (λ k. (chosen-is m t k, shown-is m t k));
       archive = ap (λ o. entries_of (records_of o)) archive ∙ archive-entries r.0 t.archive (choice m t).archive
           ∙ ap (λ c. merged_archive c (entries_of (records_of t.archive))) (chosen-is m t);
     }
@@ -104,7 +104,7 @@ whole-found m next given name left is =
       merged = merged-at m next given name left.slot is;
       records = ap records_of databases
           ∙ ap (merged_records (choice m t) (seen_held m t) ids) (before_records t.handheld t.rows b.1)
-          ∙ ap {A = Choice × (ℕ → Held)} (λ p. merged_records p.0 p.1 ids (records_of t.handheld)) (λ k. (chosen-is m t k, shown-is m t k));
+          ∙ ap {A = Choice × (ℕ → SideState)} (λ p. merged_records p.0 p.1 ids (records_of t.handheld)) (λ k. (chosen-is m t k, shown-is m t k));
     }
 
 -- ---- what both sides hold

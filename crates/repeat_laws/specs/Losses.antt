@@ -5,8 +5,8 @@ use Rattle.std.specs.List.{list_any}
 use Rattle.conduit_rules.specs.Plans.{kept_rows}
 use Rattle.conduit_rules.specs.declared.action.Action.TheVariants.{Sync}
 use Rattle.session_plan.specs.Losses.{is_lost}
-use Rattle.repeat_laws.specs.Repeats.{Found, chosen}
+use Rattle.repeat_laws.specs.Repeats.{Finding, chosen}
 
 -- its merge leaves out the content of some live row
-abbrev pub loses_rows : Found → Bool
+abbrev pub loses_rows : Finding → Bool
 loses_rows x = list_any (is_lost (kept_rows (chosen Sync x).keep) (chosen Sync x).adds) x.rows

@@ -14,12 +14,12 @@ use Rattle.session_plan.specs.Choosing.{action_or_sync, agrees, base_rows, view,
 use Rattle.session_plan.specs.Merges.{merged_device, merged_slot}
 use Rattle.session_plan.specs.Skips.{active, head_of, skip_of}
 use Rattle.session_plan.specs.Tasks.{Meeting, Task, names, task_of, slot_of, records_of}
-use Rattle.repeat_laws.specs.Repeats.{Found, Ended, ended, chosen, shown, Place, left, news_done, clearing_done}
+use Rattle.repeat_laws.specs.Repeats.{Finding, Ending, ended, chosen, shown, Place, left, news_done, clearing_done}
 
 -- ---- one meeting
 
 -- a database as its session finds it
-abbrev pub found : Meeting → Task → Found
+abbrev pub found : Meeting → Task → Finding
 found meeting task = record {
   view = view meeting task;
   records = records_of task.handheld;
@@ -29,7 +29,7 @@ found meeting task = record {
   gone_counts = not (agrees meeting);
 }
 
-abbrev pub found_of : Meeting → List ℕ → Found
+abbrev pub found_of : Meeting → List ℕ → Finding
 found_of meeting name = found meeting (task_of meeting name)
 
 -- by whichever sides it goes
@@ -61,7 +61,7 @@ pub record LeftAmongNews (meeting next : Meeting) (given : List ℕ → List ℕ
       (count name)) (found_of meeting name).records
 
 -- the desktop has the merge of a database
-pub record IsMergedAt (next : Meeting) (name : List ℕ) (end : Ended) : Type 0 where
+pub record IsMergedAt (next : Meeting) (name : List ℕ) (end : Ending) : Type 0 where
   pub there : is_some (task_of next name).rows ≡ true
   pub rows : records_of (task_of next name).rows ≡ end.rows
   pub base : records_of (task_of next name).base ≡ end.base
@@ -131,7 +131,7 @@ pub record LeftMerged (meeting next : Meeting) (given : List ℕ) : Type 0 where
   pub slot : slot_of next ≡ merged_slot meeting given
 
 -- what both sides hold under a name
-abbrev pub holding : Device → SlotValue → List ℕ → Ended
+abbrev pub holding : Device → SlotValue → List ℕ → Ending
 holding device slot name = record {
   records = records_of (database_of name device.databases);
   rows = records_of (database_of name slot.shelves.rows);
@@ -140,7 +140,7 @@ holding device slot name = record {
 }
 
 -- what they hold once a meeting has ended
-abbrev pub holding_after : Meeting → List ℕ → List ℕ → Ended
+abbrev pub holding_after : Meeting → List ℕ → List ℕ → Ending
 holding_after meeting given name =
     holding (merged_device meeting given) (merged_slot meeting given) name
 

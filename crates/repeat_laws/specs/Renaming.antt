@@ -5,29 +5,29 @@ use Rattle.pdb_values.specs.Records.{is_live}
 use Rattle.pdb_values.specs.declared.record.Record.{Record}
 use Rattle.conduit_rules.specs.Contents.{same_content}
 use Rattle.conduit_rules.specs.States.{held, first, live_of}
-use Rattle.repeat_laws.specs.Repeats.{Found, Ended}
+use Rattle.repeat_laws.specs.Repeats.{Finding, Ending}
 
 -- a record or a base row, gone or not, had the id
-abbrev pub is_known : Found → ℕ → Bool
+abbrev pub is_known : Finding → ℕ → Bool
 is_known x i = is_some (first i x.records) || is_some (first i x.base)
 
 -- nothing had any of these ids
-abbrev pub AreUnknown : Found → List ℕ → Type 0
+abbrev pub AreUnknown : Finding → List ℕ → Type 0
 AreUnknown x [] = Unit {0}
 AreUnknown x (g ∷ gs) = (is_known x g ≡ false) × AreUnknown x gs
 
 -- a live record with this content, under an id that nothing had
-abbrev pub is_new_with : Found → ContentValue → Record → Bool
+abbrev pub is_new_with : Finding → ContentValue → Record → Bool
 is_new_with x c r = is_live r && (not (is_known x r.id) && same_content r.content c)
 
 -- under each known id the same is live, and each content is as often live under an id that nothing
 -- had
-pub record SameLive (x : Found) (records others : List Record) : Type 0 where
+pub record SameLive (x : Finding) (records others : List Record) : Type 0 where
   pub known : (i : ℕ) → is_known x i ≡ true → live_of (held records i) ≡ live_of (held others i)
   pub new : (c : ContentValue)
       → count_by (is_new_with x c) records ≡ count_by (is_new_with x c) others
 
-pub record SameEnds (x : Found) (e f : Ended) : Type 0 where
+pub record SameEnds (x : Finding) (e f : Ending) : Type 0 where
   pub records : SameLive x e.records f.records
   pub rows : SameLive x e.rows f.rows
   pub archive : e.archive ≡ f.archive

@@ -5,7 +5,7 @@ ghost use Rattle.conduit_rules.specs.declared.action.Action.{Action};
 ghost use Rattle.conduit_rules.specs.declared.action.Action.TheVariants.{Sync, Handheld, Desktop};
 ghost use Rattle.conduit_rules.specs.declared.view.Seen.{Seen};
 ghost use Rattle.repeat_laws.specs.Losses.{loses_rows};
-ghost use Rattle.repeat_laws.specs.Repeats.{Found, IsRead, EndAlike, GotIds, ended, Place};
+ghost use Rattle.repeat_laws.specs.Repeats.{Finding, IsRead, EndAlike, GotIds, ended, Place};
 ghost use Rattle.repeat_laws.specs.Repeats.{StopsAmongNews, left_among_news, left_behind_commit};
 ghost use Rattle.repeat_laws.specs.Renaming.{AreUnknown, SameEnds};
 ghost use Rattle.repeat_laws.specs.Repeats.{GotAllIds, left_at_end, AreStops, left_by, all_ids};
@@ -13,7 +13,7 @@ ghost use Rattle.repeat_laws.specs.Repeats.{GotAllIds, left_at_end, AreStops, le
 /// A session of both sides that stops among its replacements and adds is taken up by the next one: that
 /// ends at the merge of what the first one found, under the ids that were given in both.
 pub fn news_are_taken_up()
-    ensures { (x : Found) (given later : List ℕ) (n : ℕ)
+    ensures { (x : Finding) (given later : List ℕ) (n : ℕ)
         → StopsAmongNews Sync x given n
         → let y = left_among_news Sync x given n in
         GotIds Sync y later
@@ -23,7 +23,7 @@ pub fn news_are_taken_up()
 /// A session that goes by the handheld and stops before the desktop's commit has given it nothing, and the
 /// next one ends as it would have ended.
 pub fn a_handheld_is_read_again()
-    ensures { (x : Found) (given later : List ℕ) (n : ℕ) → IsRead x
+    ensures { (x : Finding) (given later : List ℕ) (n : ℕ) → IsRead x
         → let y = left_among_news Handheld x given n in
         ended Handheld y later ≡ ended Handheld x later }
 {}
@@ -31,7 +31,7 @@ pub fn a_handheld_is_read_again()
 /// A session that goes by the desktop and stops among its replacements and adds is begun anew by the next
 /// one, under the ids that are given then: what was added before is purged.
 pub fn a_desktop_is_sent_again()
-    ensures { (x : Found) (given later : List ℕ) (n : ℕ) → IsRead x → GotIds Desktop x given
+    ensures { (x : Finding) (given later : List ℕ) (n : ℕ) → IsRead x → GotIds Desktop x given
         → let y = left_among_news Desktop x given n in
         GotIds Desktop y later
         → EndAlike (ended Desktop y later) (ended Desktop x later) }
@@ -40,7 +40,7 @@ pub fn a_desktop_is_sent_again()
 /// A session that stops behind the desktop's commit, anywhere among its purges, its clean up and its reset,
 /// is ended by the next one as it would have ended.
 pub fn purges_are_taken_up()
-    ensures { (a : Action) (x : Found) (given later : List ℕ) (n : ℕ) → IsRead x → GotIds a x given
+    ensures { (a : Action) (x : Finding) (given later : List ℕ) (n : ℕ) → IsRead x → GotIds a x given
         → let y = left_behind_commit a x given n in
         EndAlike (ended a y later) (ended a x given) }
 {}
@@ -48,12 +48,12 @@ pub fn purges_are_taken_up()
 /// A session that costs the desktop no live row of a database costs it none where it is run again, wherever
 /// it stopped; and behind the desktop's commit it costs it none, whatever the one that stopped did.
 pub fn a_stop_costs_no_row()
-    ensures news { (x : Found) (given : List ℕ) (n : ℕ) → StopsAmongNews Sync x given n
+    ensures news { (x : Finding) (given : List ℕ) (n : ℕ) → StopsAmongNews Sync x given n
         → loses_rows x ≡ false
         → loses_rows (left_among_news Sync x given n) ≡ false }
-    ensures commit { (x : Found) (given : List ℕ) (n : ℕ) → IsRead x → GotIds Sync x given
+    ensures commit { (x : Finding) (given : List ℕ) (n : ℕ) → IsRead x → GotIds Sync x given
         → loses_rows (left_behind_commit Sync x given n) ≡ false }
-    ensures end { (x : Found) (given : List ℕ) (view : List Seen) (gone_counts : Bool) → IsRead x
+    ensures end { (x : Finding) (given : List ℕ) (view : List Seen) (gone_counts : Bool) → IsRead x
         → GotIds Sync x given
         → let y = left_at_end Sync x given view gone_counts in
         IsRead y → loses_rows y ≡ false }
@@ -62,7 +62,7 @@ pub fn a_stop_costs_no_row()
 /// What is merged on both sides stays as it is, whichever sides the sessions go by, and whichever way the
 /// next one reads.
 pub fn an_ended_session_is_not_undone()
-    ensures { (a : Action) (x : Found) (given later : List ℕ) (view : List Seen)
+    ensures { (a : Action) (x : Finding) (given later : List ℕ) (view : List Seen)
         (gone_counts : Bool)
         → IsRead x → GotIds a x given
         → let y = left_at_end a x given view gone_counts in
@@ -73,7 +73,7 @@ pub fn an_ended_session_is_not_undone()
 /// ended, under the ids that were given in all of them; where they go by the desktop, under those from the
 /// commit on.
 pub fn stopped_sessions_end_as_one()
-    ensures { (a : Action) (x : Found) (places : List Place) (later : List ℕ) → IsRead x
+    ensures { (a : Action) (x : Finding) (places : List Place) (later : List ℕ) → IsRead x
         → AreStops a x places
         → let y = left_by a x places in
         GotIds a y later
@@ -82,7 +82,7 @@ pub fn stopped_sessions_end_as_one()
 
 /// Which ids the new records got doesn't matter, as long as nothing had them.
 pub fn new_ids_are_of_no_account()
-    ensures { (a : Action) (x : Found) (given other : List ℕ) → IsRead x
+    ensures { (a : Action) (x : Finding) (given other : List ℕ) → IsRead x
         → GotAllIds a x given → GotAllIds a x other → AreUnknown x given → AreUnknown x other
         → SameEnds x (ended a x given) (ended a x other) }
 {}
@@ -90,7 +90,7 @@ pub fn new_ids_are_of_no_account()
 /// After any number of sessions that stopped, the one that ends leaves what one whole session would have
 /// left, whichever ids that one would have given to its new records.
 pub fn nothing_is_doubled_or_lost()
-    ensures { (a : Action) (x : Found) (places : List Place) (later new : List ℕ) → IsRead x
+    ensures { (a : Action) (x : Finding) (places : List Place) (later new : List ℕ) → IsRead x
         → AreStops a x places
         → let y = left_by a x places in
         GotAllIds a y later → AreUnknown x (all_ids a places later)

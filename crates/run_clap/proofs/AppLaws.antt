@@ -2,7 +2,7 @@
 use Rattle.std.proofs.Common.{◌≡◌, ◌<◌, ◌≤◌, ◌+◌, ℕ, zero, suc, List, [], ◌∷◌, ◌++◌, length, map, drop, get_or, append-nil, append_assoc, refl, sym, ap, ◌∙◌, arith}
 use Rattle.clap.specs.Words.{App, Rule, with_rule}
 use Rattle.run_clap.specs.Apps.{empty_app, flag_rule, form_app, form_rules, option_rule, plain_rule, with_rules}
-use Rattle.run_words.specs.Forms.{Form}
+use Rattle.run_words.specs.Forms.{WordFormValue}
 
 pub with_rules-append : (app : App) (xs ys : List Rule) → with_rules app (xs ++ ys) ≡ with_rules (with_rules app xs) ys
 with_rules-append app [] ys = refl
@@ -38,12 +38,12 @@ with_rules-are app (x ∷ xs) =
 abbrev pub app_with : List Rule → App
 app_with rules = record empty_app { top = record empty_app.top { rules = rules } }
 
-pub form_app-is : (form : Form) → form_app form ≡ app_with (form_rules form)
+pub form_app-is : (form : WordFormValue) → form_app form ≡ app_with (form_rules form)
 unfolding form_app
 form_app-is form = with_rules-are empty_app (form_rules form)
 
 -- the command of a form, made in three steps
-pub form_app-made : (form : Form) (empty plain named whole : App) → empty ≡ empty_app → plain ≡ with_rules empty (map plain_rule form.plain)
+pub form_app-made : (form : WordFormValue) (empty plain named whole : App) → empty ≡ empty_app → plain ≡ with_rules empty (map plain_rule form.plain)
     → named ≡ with_rules plain (map option_rule form.options) → whole ≡ with_rules named (map flag_rule form.flags) → whole ≡ form_app form
 unfolding form_app
 form_app-made form empty plain named whole a b c d =

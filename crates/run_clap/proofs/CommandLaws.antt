@@ -9,7 +9,7 @@ use Rattle.clap.specs.declared.parser.matches.Found.{Found}
 use Rattle.run_words.specs.Betweens.{Between, between_form, between_in, between_of}
 use Rattle.run_words.specs.Captures.{capture_form, capture_in, capture_of}
 use Rattle.run_words.specs.Choices.{is_only_right}
-use Rattle.run_words.specs.Commands.{Task, Sync, DryRun, LookAt, Scan, Make, Install, Backup, Restore, Emulate, Categories, Help, deed_of, export_form, export_of, export_task_in, file_form, file_of, hex_bytes, import_form, import_of, import_task_in, install_between, install_of, make_form, make_in, make_of, packet_form, packet_of, sync_by, sync_in, sync_of, plain_form, show_form, show_look, show_of}
+use Rattle.run_words.specs.Commands.{WordTask, Sync, DryRun, LookAt, Scan, Make, Install, Backup, Restore, Emulate, Categories, Help, deed_of, export_form, export_of, export_task_in, file_form, file_of, hex_bytes, import_form, import_of, import_task_in, install_between, install_of, make_form, make_in, make_of, packet_form, packet_of, sync_by, sync_in, sync_of, plain_form, show_form, show_look, show_of}
 use Rattle.run_words.specs.Exports.{export_in, import_in}
 use Rattle.run_words.specs.Forms.{has_flag, is_of_form, plain_at}
 use Rattle.run_words.specs.Runs.{Run, are_actions_right, run_form, run_in, run_of}
@@ -23,7 +23,7 @@ use Rattle.run_clap.proofs.EndLaws.{form_holds, form_is_simple, form_takes}
 use Rattle.run_clap.proofs.UseLaws.{Proper}
 
 -- the words of a task, at the date now
-pub record IsAsked (now : Option ℕ) (words : List (List ℕ)) (task : Task) : Type 0 where
+pub record IsAsked (now : Option ℕ) (words : List (List ℕ)) (task : WordTask) : Type 0 where
   pub first : List ℕ
   pub rest : List (List ℕ)
   pub are : words ≡ first ∷ rest
@@ -34,11 +34,11 @@ kept : {A : Type 0} (b : Bool) (o : Option A) {a : A} → cond b o None ≡ Some
 kept true o e = (refl, e)
 kept false o e = cc
 
-mapped : {A : Type 0} (f : A → Task) (o : Option A) {task : Task} → option_map f o ≡ Some task → (a : A) × (o ≡ Some a) × (f a ≡ task)
+mapped : {A : Type 0} (f : A → WordTask) (o : Option A) {task : WordTask} → option_map f o ≡ Some task → (a : A) × (o ≡ Some a) × (f a ≡ task)
 mapped f None e = cc
 mapped f (Some a) e = (a, refl, cc)
 
-module _ (now : Option ℕ) (first : List ℕ) (rest : List (List ℕ)) {task : Task} where
+module _ (now : Option ℕ) (first : List ℕ) (rest : List (List ℕ)) {task : WordTask} where
   run_asked : sync_of now rest ≡ Some task → IsAsked now (first ∷ rest) task
   unfolding run_of
   run_asked e =
@@ -226,7 +226,7 @@ module _ (now : Option ℕ) (first : List ℕ) (rest : List (List ℕ)) {task : 
   chosen false false false false false false false false false false false false false true e = categories_asked e
   chosen false false false false false false false false false false false false false false e = cc
 
-words_ask : (now : Option ℕ) (words : List (List ℕ)) {task : Task} → deed_of now words ≡ Some task → IsAsked now words task
+words_ask : (now : Option ℕ) (words : List (List ℕ)) {task : WordTask} → deed_of now words ≡ Some task → IsAsked now words task
 unfolding deed_of
 words_ask now [] e = cc
 words_ask now (first ∷ rest) e =
@@ -375,7 +375,7 @@ look_proper (Import form) = import_proper
 look_proper Verify = file_proper
 look_proper Picture = file_proper
 
-task_proper : (task : Task) → Proper (task_form task)
+task_proper : (task : WordTask) → Proper (task_form task)
 task_proper (Sync run) = run_proper
 task_proper (DryRun run) = run_proper
 task_proper (LookAt look file) = look_proper look
@@ -390,12 +390,12 @@ task_proper (Help topic) = none_proper
 
 -- ---- words in the form are taken by the command of their form, and its matches hold what they ask for
 
-pub task_takes : (now : Option ℕ) (words : List (List ℕ)) (task : Task) → deed_of now words ≡ Some task → takes (form_app (task_form task)) words ≡ true
+pub task_takes : (now : Option ℕ) (words : List (List ℕ)) (task : WordTask) → deed_of now words ≡ Some task → takes (form_app (task_form task)) words ≡ true
 task_takes now words task e =
     let asked = words_ask now words e in
     ap (takes (form_app (task_form task))) asked.are ∙ form_takes (task_form task) (task_proper task) asked.first asked.rest asked.right
 
-pub task_holds : (now : Option ℕ) (words : List (List ℕ)) (task : Task) (found : Found) → deed_of now words ≡ Some task
+pub task_holds : (now : Option ℕ) (words : List (List ℕ)) (task : WordTask) (found : Found) → deed_of now words ≡ Some task
     → rows_of found ≡ matches_of (form_app (task_form task)) words → HoldsTask now found task
 task_holds now words task found e rows =
     let asked = words_ask now words e in
@@ -405,5 +405,5 @@ task_holds now words task found e rows =
       asks = asked.asks;
     }
 
-pub task_is_simple : (task : Task) → is_simple (form_app (task_form task)) ≡ true
+pub task_is_simple : (task : WordTask) → is_simple (form_app (task_form task)) ≡ true
 task_is_simple task = form_is_simple (task_form task) (task_proper task)

@@ -17,7 +17,7 @@ use Rattle.clap.specs.declared.parser.matches.ValueSource.TheVariants.{DefaultVa
 use Rattle.clap.specs.declared.builder.value_parser.Reading.TheVariants.{AsWritten}
 use Rattle.clap.proofs.TakesLemmas.{leaf_takes}
 use Rattle.clap.proofs.WalkLemmas.{first_value-rows, one_text-rows}
-use Rattle.run_words.specs.Forms.{Form, NamedOption, fits_flag, fits_option, flag_count, has_flag, is_of_form, is_word, option_count, plain_at, plain_words, value_of}
+use Rattle.run_words.specs.Forms.{WordFormValue, NamedOption, fits_flag, fits_option, flag_count, has_flag, is_of_form, is_word, option_count, plain_at, plain_words, value_of}
 use Rattle.run_clap.specs.Apps.{flag_rule, form_app, form_rules, option_rule, plain_rule}
 use Rattle.run_clap.specs.Reads.{HoldsPlain, HoldsWords, flag_text}
 use Rattle.run_clap.proofs.AppLaws.{app_with, form_app-is}
@@ -49,7 +49,7 @@ option_defaults rows (option ∷ options) rest =
 abbrev pub with_flags : List Row → List Text → List Row
 with_flags rows flags = with_defaults rows (map flag_in flags)
 
-pub finished-is : (form : Form) (h : Held) → finished (rules_of form) h ≡ with_flags (settled (rules_of form) h).rows form.flags
+pub finished-is : (form : WordFormValue) (h : Held) → finished (rules_of form) h ≡ with_flags (settled (rules_of form) h).rows form.flags
 finished-is form h =
     let rows = (settled (rules_of form) h).rows in
     plain_defaults rows 1 form.plain _ ∙ option_defaults rows form.options (map flag_in form.flags)
@@ -152,12 +152,12 @@ eq_of m n e = grind (arith, nat_tests)
 implied : (a b : Bool) → (not a || b) ≡ true → a ≡ true → b ≡ true
 implied a b e t = grind arith
 
-pub record IsRight (form : Form) (words : List Text) : Type 0 where
+pub record IsRight (form : WordFormValue) (words : List Text) : Type 0 where
   pub counted : Counted form words
   pub same : length (plain_words words) ≡ length form.plain
   pub required : (option : NamedOption) → IsIn option form.options → option.is_required ≡ true → is_some (value_of option.name words) ≡ true
 
-pub right-is : (form : Form) (words : List Text) → is_of_form form words ≡ true → IsRight form words
+pub right-is : (form : WordFormValue) (words : List Text) → is_of_form form words ≡ true → IsRight form words
 unfolding is_of_form
 right-is form words e =
     let one = and_parts (list_all (is_word form) words) _ e in
@@ -201,7 +201,7 @@ simple_made : (raw rules : List Rule) → filled_from 1 raw ≡ rules → list_a
     → is_in_order rules ≡ true → is_simple (app_with raw) ≡ true
 simple_made raw rules is one two three = rw (one, is, two, three) refl
 
-rules_are_simple : (form : Form) → Proper form → is_simple (app_with (form_rules form)) ≡ true
+rules_are_simple : (form : WordFormValue) → Proper form → is_simple (app_with (form_rules form)) ≡ true
 rules_are_simple form proper =
     simple_made (form_rules form) (rules_of form) (rules-are form proper.few)
     (mapped_pass (λ (a : Rule). a.is_simple) plain_rule form.plain _ (λ x i. refl)
@@ -212,10 +212,10 @@ rules_are_simple form proper =
     (ap not (none_pass (is_early_multiple _) (rules_of form) (rules_pass form (λ (a : Rule). not (is_early_multiple _ a)) (λ n id i. refl) (λ o i. refl) (λ f i. refl))))
 
 -- the command of a form is one of which `clap`'s rules speak
-pub form_is_simple : (form : Form) → Proper form → is_simple (form_app form) ≡ true
+pub form_is_simple : (form : WordFormValue) → Proper form → is_simple (form_app form) ≡ true
 form_is_simple form proper = ap is_simple (form_app-is form) ∙ rules_are_simple form proper
 
-module _ (form : Form) (proper : Proper form) (words : List Text) (right : IsRight form words) where
+module _ (form : WordFormValue) (proper : Proper form) (words : List Text) (right : IsRight form words) where
   abbrev us : List (Text × Text)
   us = uses form.plain 0 words
 
@@ -326,12 +326,12 @@ module _ (form : Form) (proper : Proper form) (words : List Text) (right : IsRig
   }
 
 -- words of a form are taken by its command
-pub form_takes : (form : Form) → Proper form → (first : Text) (words : List Text) → is_of_form form words ≡ true → takes (form_app form) (first ∷ words) ≡ true
+pub form_takes : (form : WordFormValue) → Proper form → (first : Text) (words : List Text) → is_of_form form words ≡ true → takes (form_app form) (first ∷ words) ≡ true
 form_takes form proper first words e =
     ap (λ app. takes app (first ∷ words)) (form_app-is form) ∙ takes_words form proper words (right-is form words e) first
 
 -- and its matches have what they hold
-pub form_holds : (form : Form) → Proper form → (first : Text) (words : List Text) (found : Found) → is_of_form form words ≡ true
+pub form_holds : (form : WordFormValue) → Proper form → (first : Text) (words : List Text) (found : Found) → is_of_form form words ≡ true
     → rows_of found ≡ matches_of (form_app form) (first ∷ words) → HoldsWords form words found
 form_holds form proper first words found e rows =
     let right = right-is form words e in

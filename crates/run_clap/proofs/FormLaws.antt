@@ -11,7 +11,7 @@ use Rattle.std.specs.Str.{bytes_eq}
 use Rattle.std.specs.List.{filter, list_all, list_any}
 use Rattle.clap.specs.Walk.{Held, Row, Rule, has_row, nothing_held, walked}
 use Rattle.clap.specs.Takes.{walk_passes}
-use Rattle.run_words.specs.Forms.{Form, NamedOption, flag_count, has_flag, is_flag, is_option, is_word, option_count, plain_at, plain_words, value_in, value_of}
+use Rattle.run_words.specs.Forms.{WordFormValue, NamedOption, flag_count, has_flag, is_flag, is_option, is_word, option_count, plain_at, plain_words, value_in, value_of}
 use Rattle.run_words.specs.Words.{is_plain}
 use Rattle.run_clap.proofs.Lists.{IsIn, Text, disjoint_in}
 use Rattle.run_clap.proofs.RuleLaws.{at_place, by_flag, by_id, by_option, names_of, rules_of}
@@ -90,13 +90,13 @@ no_flag name (word ∷ words) e =
     ap (λ b. b || has_flag name words) parts.0 ∙ no_flag name words parts.1
 
 -- what is counted of words of a form
-pub record Counted (form : Form) (words : List Text) : Type 0 where
+pub record Counted (form : WordFormValue) (words : List Text) : Type 0 where
   pub all : list_all (is_word form) words ≡ true
   pub plain : length (plain_words words) ≤ length form.plain
   pub options : (option : NamedOption) → IsIn option form.options → option_count option.name words ≤ 1
   pub flags : (flag : Text) → IsIn flag form.flags → flag_count flag words ≤ 1
 
-part_counted : (form : Form) (seen words : List Text) → Counted form (seen ++ words) → Counted form seen
+part_counted : (form : WordFormValue) (seen words : List Text) → Counted form (seen ++ words) → Counted form seen
 part_counted form seen words c = record {
   all = (and_parts (list_all (is_word form) seen) (list_all (is_word form) words) (sym (list_all-append (is_word form) seen words) ∙ c.all)).0;
   plain =
@@ -115,7 +115,7 @@ part_counted form seen words c = record {
 
 -- ---- the walk
 
-module _ (form : Form) (proper : Proper form) where
+module _ (form : WordFormValue) (proper : Proper form) where
   abbrev pub rules : List Rule
   rules = rules_of form
 

@@ -6,7 +6,7 @@ use Rattle.std.specs.Prelude.{bytes_eq, slice_get, min}
 use Rattle.std.specs.List.{list_all, list_any}
 use Rattle.clap.specs.Walk.{Rule, arg_by_id, arg_by_index, arg_by_long}
 use Rattle.clap.specs.Simple.{filled, filled_from, with_index}
-use Rattle.run_words.specs.Forms.{Form, NamedOption}
+use Rattle.run_words.specs.Forms.{WordFormValue, NamedOption}
 use Rattle.run_clap.specs.Apps.{flag_rule, form_rules, option_rule, plain_rule}
 use Rattle.run_clap.proofs.Lists.{IsIn, Text, apart, apart_first, differs_at, differs_in, in-map, or_false, same_text}
 
@@ -27,7 +27,7 @@ abbrev pub names_of : List NamedOption → List Text
 names_of options = map (λ (option : NamedOption). option.name) options
 
 -- the arguments of a form, filled in
-abbrev pub rules_of : Form → List Rule
+abbrev pub rules_of : WordFormValue → List Rule
 rules_of form = numbered 1 form.plain ++ (map option_in form.options ++ map flag_in form.flags)
 
 least : (place : ℕ) → suc place ≤ 18446744073709551615 → min (place + 1) 18446744073709551615 ≡ suc place
@@ -49,7 +49,7 @@ filled_flags : (place : ℕ) (flags : List Text) → filled_from place (map flag
 filled_flags place [] = refl
 filled_flags place (flag ∷ flags) = ap (λ rules. flag_in flag ∷ rules) (filled_flags place flags)
 
-pub rules-are : (form : Form) → length form.plain < 18446744073709551615 → filled_from 1 (form_rules form) ≡ rules_of form
+pub rules-are : (form : WordFormValue) → length form.plain < 18446744073709551615 → filled_from 1 (form_rules form) ≡ rules_of form
 rules-are form few =
     filled_plain 1 form.plain (map option_rule form.options ++ map flag_rule form.flags) _ (omega arith)
     (λ next. filled_options next form.options (map flag_rule form.flags) _ (filled_flags next form.flags))
@@ -114,11 +114,11 @@ among_flags (x ∷ flags) flag differ (inr more) =
     let other = differs_in x flags flag first.0 more in
     rw other (among_flags flags flag first.1 more)
 
-pub by_option : (form : Form) (option : NamedOption) → apart (names_of form.options) ≡ true → IsIn option form.options
+pub by_option : (form : WordFormValue) (option : NamedOption) → apart (names_of form.options) ≡ true → IsIn option form.options
     → arg_by_long (rules_of form) option.name ≡ Some (option_in option)
 by_option form option differ i = behind_plain 1 form.plain _ option.name ∙ among_options form.options (map flag_in form.flags) option differ i
 
-pub by_flag : (form : Form) (flag : Text) → apart form.flags ≡ true → list_any (λ (option : NamedOption). bytes_eq option.name flag) form.options ≡ false
+pub by_flag : (form : WordFormValue) (flag : Text) → apart form.flags ≡ true → list_any (λ (option : NamedOption). bytes_eq option.name flag) form.options ≡ false
     → IsIn flag form.flags → arg_by_long (rules_of form) flag ≡ Some (flag_in flag)
 by_flag form flag differ other i = behind_plain 1 form.plain _ flag ∙ behind_options form.options (map flag_in form.flags) flag other ∙ among_flags form.flags flag differ i
 
@@ -142,7 +142,7 @@ flags_pass : (p : Rule → Bool) (flags : List Text) → ((flag : Text) → IsIn
 flags_pass p [] h = refl
 flags_pass p (flag ∷ flags) h = let first = h flag (inl refl) in rw first (flags_pass p flags (λ y i. h y (inr i)))
 
-pub rules_pass : (form : Form) (p : Rule → Bool) → ((n : ℕ) (id : Text) → IsIn id form.plain → p (plain_in n id) ≡ true)
+pub rules_pass : (form : WordFormValue) (p : Rule → Bool) → ((n : ℕ) (id : Text) → IsIn id form.plain → p (plain_in n id) ≡ true)
     → ((option : NamedOption) → IsIn option form.options → p (option_in option) ≡ true) → ((flag : Text) → IsIn flag form.flags → p (flag_in flag) ≡ true)
     → list_all p (rules_of form) ≡ true
 rules_pass form p a b c =

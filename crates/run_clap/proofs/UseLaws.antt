@@ -10,7 +10,7 @@ use Rattle.std.specs.List.{find, list_all, list_any}
 use Rattle.clap.specs.Lexer.{long_of}
 use Rattle.clap.proofs.CutLemmas.{Lacks}
 use Rattle.clap.proofs.LexerLemmas.{name_and_value-at, name_and_value-without}
-use Rattle.run_words.specs.Forms.{Form, NamedOption, has_flag, has_value, is_flag, is_word, plain_at, plain_words, value_in, value_of}
+use Rattle.run_words.specs.Forms.{WordFormValue, NamedOption, has_flag, has_value, is_flag, is_word, plain_at, plain_words, value_in, value_of}
 use Rattle.run_words.specs.Words.{is_plain}
 use Rattle.run_words.proofs.WordLaws.{after-is}
 use Rattle.run_clap.proofs.Lists.{IsIn, Text, apart, apart_first, differs_at, disjoint, disjoint_in, each_passes, in-map, in_at, not_true, or_false, passing, same_is, same_text, some_at}
@@ -21,7 +21,7 @@ abbrev pub is_name : Text → Bool
 is_name name = not (length name == 0) && not (list_any (λ byte. byte == 61) name)
 
 -- the names of a form differ, can be told in a word, and its plain words can be counted
-pub record Proper (form : Form) : Type 0 where
+pub record Proper (form : WordFormValue) : Type 0 where
   pub few : length form.plain < 18446744073709551615
   pub plain : apart form.plain ≡ true
   pub options : apart (names_of form.options) ≡ true
@@ -117,7 +117,7 @@ plain_flag name {word} p = let apart_byte = p.no_dash in ap (is_flag name) p.is 
 
 -- ---- what a word of a form is
 
-pub record IsOptionOf (form : Form) (word : Text) : Type 0 where
+pub record IsOptionOf (form : WordFormValue) (word : Text) : Type 0 where
   pub option : NamedOption
   pub value : Text
   pub among : IsIn option form.options
@@ -125,14 +125,14 @@ pub record IsOptionOf (form : Form) (word : Text) : Type 0 where
   pub long : long_of word ≡ Some (option.name, Some value)
   pub other : is_plain word ≡ false
 
-pub record IsFlagOf (form : Form) (word : Text) : Type 0 where
+pub record IsFlagOf (form : WordFormValue) (word : Text) : Type 0 where
   pub flag : Text
   pub among : IsIn flag form.flags
   pub is : is_flag flag word ≡ true
   pub long : long_of word ≡ Some (flag, None)
   pub other : is_plain word ≡ false
 
-abbrev pub IsWord : Form → Text → Type 0
+abbrev pub IsWord : WordFormValue → Text → Type 0
 IsWord form word = IsPlain word ⊎ (IsOptionOf form word ⊎ IsFlagOf form word)
 
 some_value : (o : Option Text) → option_map_or (λ (value : Text). not (length value == 0)) o false ≡ true → (value : Text) × (o ≡ Some value)
@@ -142,7 +142,7 @@ some_value (Some value) e = (value, refl)
 or_true : (a b : Bool) → a ≡ false → (a || b) ≡ true → b ≡ true
 or_true a b n e = grind arith
 
-pub word_is : (form : Form) (word : Text) → Proper form → is_word form word ≡ true → IsWord form word
+pub word_is : (form : WordFormValue) (word : Text) → Proper form → is_word form word ≡ true → IsWord form word
 word_is form word proper e = go (is_plain word) (list_any (λ (option : NamedOption). has_value option.name word) form.options) refl refl
   where
     go : (a b : Bool) → is_plain word ≡ a → list_any (λ (option : NamedOption). has_value option.name word) form.options ≡ b → IsWord form word
@@ -246,7 +246,7 @@ apart_places (z ∷ zs) zero (suc j) x y e lt a b =
 apart_places (z ∷ zs) (suc i) zero x y e lt a b = absurd (omega arith)
 apart_places (z ∷ zs) (suc i) (suc j) x y e lt a b = apart_places zs i j x y (apart_first z zs e).1 (omega arith) a b
 
-module _ (form : Form) (proper : Proper form) where
+module _ (form : WordFormValue) (proper : Proper form) where
   abbrev pub AllWords : List Text → Type 0
   AllWords words = list_all (is_word form) words ≡ true
 

@@ -2,7 +2,7 @@
 use Rattle.std.specs.Prelude.{ℕ, List, [], ◌∷◌, ◌++◌, map, true, Some, codes}
 use Rattle.clap.specs.Words.{App, Rule, new_app, new_rule, with_rule}
 use Rattle.clap.specs.declared.builder.ArgAction.TheVariants.{SetTrue}
-use Rattle.run_words.specs.Forms.{Form, NamedOption}
+use Rattle.run_words.specs.Forms.{WordFormValue, NamedOption}
 
 -- a plain word, which has to stand
 abbrev pub plain_rule : List ℕ → Rule
@@ -29,10 +29,10 @@ with_rules app [] = app
 with_rules app (rule ∷ rules) = with_rules (with_rule app rule) rules
 
 -- the arguments of a form
-abbrev pub form_rules : Form → List Rule
+abbrev pub form_rules : WordFormValue → List Rule
 form_rules form =
     map plain_rule form.plain ++ (map option_rule form.options ++ map flag_rule form.flags)
 
 -- the command of a form
-unfoldable pub form_app : Form → App
+unfoldable pub form_app : WordFormValue → App
 form_app form = with_rules empty_app (form_rules form)

@@ -1,9 +1,9 @@
 -- Which words ask for something between a handheld and another path, and what they give.
 use Rattle.std.specs.Prelude.{ℕ, false, List, [], ◌∷◌, Option, None, codes, option_map, option_and_then, if◌then◌else◌}
-use Rattle.run_words.specs.Forms.{Form, is_of_form, plain_at, value_of}
+use Rattle.run_words.specs.Forms.{WordFormValue, is_of_form, plain_at, value_of}
 
 -- `HANDHELD OTHER [--script=F] [--trace=F]`
-abbrev pub between_form : Form
+abbrev pub between_form : WordFormValue
 between_form = record {
   plain = codes "handheld" ∷ codes "other" ∷ [];
   options =

@@ -2,14 +2,14 @@
 use Rattle.std.specs.Prelude.{◌&&◌, ℕ, Bool, false, not, true, List, [], ◌∷◌, Option, Some, None, codes, bytes_eq, is_none, option_map, option_and_then, if◌then◌else◌}
 use Rattle.std.specs.Option.{option_or}
 use Rattle.run_words.specs.Choices.{given_actions, is_only_right, restricted_to}
-use Rattle.run_words.specs.Forms.{Form, has_flag, is_of_form, plain_at, value_of}
+use Rattle.run_words.specs.Forms.{WordFormValue, has_flag, is_of_form, plain_at, value_of}
 use Rattle.run_words.specs.Runs.{are_actions_right, date_of}
 use Rattle.run_words.specs.declared.action.NamedAction.{NamedAction}
 
 -- ---- the words
 
 -- `PORT DESKTOP --date=D [--only=L] [--trace=F] [--actions=L] [--slow] [--add-user]`
-abbrev pub cable_form : Form
+abbrev pub cable_form : WordFormValue
 cable_form = record {
   plain = codes "port" ∷ codes "desktop" ∷ [];
   options = record { name = codes "date"; is_required = true } ∷ record {

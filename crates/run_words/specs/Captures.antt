@@ -1,9 +1,9 @@
 -- Which words ask for a handheld over captured bytes, and what they give.
 use Rattle.std.specs.Prelude.{ℕ, true, List, [], ◌∷◌, Option, None, codes, option_map, option_and_then, if◌then◌else◌}
-use Rattle.run_words.specs.Forms.{Form, is_of_form, plain_at, value_of}
+use Rattle.run_words.specs.Forms.{WordFormValue, is_of_form, plain_at, value_of}
 
 -- `HANDHELD --in=F --out=F`
-abbrev pub capture_form : Form
+abbrev pub capture_form : WordFormValue
 capture_form = record {
   plain = codes "handheld" ∷ [];
   options =

@@ -11,12 +11,12 @@ use Rattle.run_words.specs.declared.action.NamedAction.{NamedAction}
 use Rattle.run_words.specs.declared.action.Target.TheVariants.{Others, One}
 
 -- the text of `--only`, and that of `--actions`
-pub record Choice : Type 0 where
+pub record ChoiceTexts : Type 0 where
   pub only : Option (List ℕ)
   pub actions : Option (List ℕ)
 
 -- the choice that words make
-abbrev pub choice_in : List (List ℕ) → Choice
+abbrev pub choice_in : List (List ℕ) → ChoiceTexts
 choice_in words = record {
   only = value_of (codes "only") words;
   actions = value_of (codes "actions") words;
@@ -54,7 +54,7 @@ given_actions (Some text) = actions_in text
 
 -- what is done with the databases: what the words say, and where they name some, nothing with all
 -- others
-abbrev pub chosen_actions : Choice → List NamedAction
+abbrev pub chosen_actions : ChoiceTexts → List NamedAction
 chosen_actions choice = restricted_to choice.only (given_actions choice.actions)
 
 -- one of these names

@@ -6,7 +6,7 @@ use Rattle.run_words.specs.Captures.{Capture, capture_of}
 use Rattle.run_words.specs.declared.look.Look.{Look}
 use Rattle.run_words.specs.declared.look.Look.TheVariants.{Check, Show, Records, Export, Import, Verify, Picture}
 use Rattle.run_words.specs.Exports.{export_in, import_in}
-use Rattle.run_words.specs.Forms.{Form, NamedOption, has_flag, is_of_form, plain_at}
+use Rattle.run_words.specs.Forms.{WordFormValue, NamedOption, has_flag, is_of_form, plain_at}
 use Rattle.run_words.specs.Helps.{help_of}
 use Rattle.run_words.specs.Numbers.{number_of, count_of}
 use Rattle.run_words.specs.Runs.{Run, run_in, run_of}
@@ -16,29 +16,29 @@ use Rattle.run_words.specs.declared.topic.Topic.{Topic}
 -- a run, a dry one, a look at a file, the packets in some bytes, a run over made folders, an
 -- install of a file, a backup into a folder, a restore of one, a handheld over captured
 -- bytes, categories that are brought together, or help
-pub data Task : Type 0 where
-  Sync : Run → Task
-  DryRun : Run → Task
-  LookAt : Look → List ℕ → Task
-  Scan : List ℕ → Task
-  Make : ℕ → ℕ → Task
-  Install : Between → Task
-  Backup : Between → Task
-  Restore : Between → Task
-  Emulate : Capture → Task
-  Categories : Between → Task
-  Help : Topic → Task
+pub data WordTask : Type 0 where
+  Sync : Run → WordTask
+  DryRun : Run → WordTask
+  LookAt : Look → List ℕ → WordTask
+  Scan : List ℕ → WordTask
+  Make : ℕ → ℕ → WordTask
+  Install : Between → WordTask
+  Backup : Between → WordTask
+  Restore : Between → WordTask
+  Emulate : Capture → WordTask
+  Categories : Between → WordTask
+  Help : Topic → WordTask
 
 -- plain words alone, of these names
-abbrev pub plain_form : List (List ℕ) → Form
+abbrev pub plain_form : List (List ℕ) → WordFormValue
 plain_form names = record { plain = names; options = []; flags = [] }
 
 -- `FILE`, behind `check`, `verify` and `picture`
-abbrev pub file_form : Form
+abbrev pub file_form : WordFormValue
 file_form = plain_form (codes "file" ∷ [])
 
 -- `FILE [--records]`, behind `show`
-abbrev pub show_form : Form
+abbrev pub show_form : WordFormValue
 show_form = record { plain = codes "file" ∷ []; options = []; flags = codes "records" ∷ [] }
 
 -- `--as=FORM`
@@ -46,7 +46,7 @@ abbrev pub form_option : NamedOption
 form_option = record { name = codes "as"; is_required = true }
 
 -- `FILE --as=FORM [--date=D] [--without-private] [--keep-broken]`, behind `export`
-abbrev pub export_form : Form
+abbrev pub export_form : WordFormValue
 export_form = record {
   plain = codes "file" ∷ [];
   options = form_option ∷ record { name = codes "date"; is_required = false } ∷ [];
@@ -54,15 +54,15 @@ export_form = record {
 }
 
 -- `FILE --as=FORM`, behind `import`
-abbrev pub import_form : Form
+abbrev pub import_form : WordFormValue
 import_form = record { plain = codes "file" ∷ []; options = form_option ∷ []; flags = [] }
 
 -- `HEX`, behind `packet`
-abbrev pub packet_form : Form
+abbrev pub packet_form : WordFormValue
 packet_form = plain_form (codes "hex" ∷ [])
 
 -- `SEED N`, behind `make`
-abbrev pub make_form : Form
+abbrev pub make_form : WordFormValue
 make_form = plain_form (codes "seed" ∷ codes "count" ∷ [])
 
 -- the file that the words behind `check`, `verify` or `picture` name
@@ -74,7 +74,7 @@ abbrev pub show_look : List (List ℕ) → Look
 show_look words = if has_flag (codes "records") words then Records else Show
 
 -- the file behind `show`, and what is shown of it
-unfoldable pub show_of : List (List ℕ) → Option Task
+unfoldable pub show_of : List (List ℕ) → Option WordTask
 show_of words =
     if is_of_form show_form words then option_map (LookAt (show_look words)) (plain_at 0 words)
     else None
@@ -89,58 +89,58 @@ packet_of words =
     if is_of_form packet_form words then option_and_then hex_bytes (plain_at 0 words) else None
 
 -- the run over made folders that words of its form give
-abbrev pub make_in : List (List ℕ) → Option Task
+abbrev pub make_in : List (List ℕ) → Option WordTask
 make_in words =
     option_and_then (λ seed. option_map (Make seed) (option_and_then count_of (plain_at 1 words)))
     (option_and_then number_of (plain_at 0 words))
 
 -- the seed and the count behind `make`
-unfoldable pub make_of : List (List ℕ) → Option Task
+unfoldable pub make_of : List (List ℕ) → Option WordTask
 make_of words = if is_of_form make_form words then make_in words else None
 
 -- the export that words of its form give, at the date now
-abbrev pub export_task_in : Option ℕ → List (List ℕ) → Option Task
+abbrev pub export_task_in : Option ℕ → List (List ℕ) → Option WordTask
 export_task_in now words =
     option_and_then
     (λ file. option_map (λ export. LookAt (Export export) file) (export_in now words))
     (plain_at 0 words)
 
 -- the file behind `export`, and how it is exported
-unfoldable pub export_of : Option ℕ → List (List ℕ) → Option Task
+unfoldable pub export_of : Option ℕ → List (List ℕ) → Option WordTask
 export_of now words = if is_of_form export_form words then export_task_in now words else None
 
 -- the import that words of its form give
-abbrev pub import_task_in : List (List ℕ) → Option Task
+abbrev pub import_task_in : List (List ℕ) → Option WordTask
 import_task_in words =
     option_and_then (λ file. option_map (λ form. LookAt (Import form) file) (import_in words))
     (plain_at 0 words)
 
 -- the file behind `import`, and the form of its text
-unfoldable pub import_of : List (List ℕ) → Option Task
+unfoldable pub import_of : List (List ℕ) → Option WordTask
 import_of words = if is_of_form import_form words then import_task_in words else None
 
 -- the install of these words, which give no script: its line loses nothing
-abbrev pub install_between : Between → Option Task
+abbrev pub install_between : Between → Option WordTask
 install_between between = if is_some between.script then None else Some (Install between)
 
 -- the install that the words behind `install` ask for
-unfoldable pub install_of : List (List ℕ) → Option Task
+unfoldable pub install_of : List (List ℕ) → Option WordTask
 install_of words = option_and_then install_between (between_of words)
 
 -- the run of these words: a dry one where they say so
-abbrev pub sync_by : List (List ℕ) → Run → Task
+abbrev pub sync_by : List (List ℕ) → Run → WordTask
 sync_by words run = if has_flag (codes "dry-run") words then DryRun run else Sync run
 
 -- the run, or the dry one, that words of its form give, at the date now
-abbrev pub sync_in : Option ℕ → List (List ℕ) → Option Task
+abbrev pub sync_in : Option ℕ → List (List ℕ) → Option WordTask
 sync_in now words = option_map (sync_by words) (run_in now words)
 
 -- the run, or the dry one, that the words behind `run` ask for
-abbrev pub sync_of : Option ℕ → List (List ℕ) → Option Task
+abbrev pub sync_of : Option ℕ → List (List ℕ) → Option WordTask
 sync_of now words = option_map (sync_by words) (run_of now words)
 
 -- what the words behind a command ask for, at the date now
-abbrev pub task_behind : Option ℕ → List ℕ → List (List ℕ) → Option Task
+abbrev pub task_behind : Option ℕ → List ℕ → List (List ℕ) → Option WordTask
 task_behind now command words =
     if bytes_eq command (codes "run") then sync_of now words
     else (if bytes_eq command (codes "check") then option_map (LookAt Check) (file_of words)
@@ -159,11 +159,11 @@ task_behind now command words =
     else None)))))))))))))
 
 -- what these words ask for beside help, at the date now
-unfoldable pub deed_of : Option ℕ → List (List ℕ) → Option Task
+unfoldable pub deed_of : Option ℕ → List (List ℕ) → Option WordTask
 deed_of now [] = None
 deed_of now (command ∷ words) = task_behind now command words
 
 -- what these words ask for, where the date now is this, if it can be told: words that ask for
 -- nothing else may ask for help
-unfoldable pub task_of : Option ℕ → List (List ℕ) → Option Task
+unfoldable pub task_of : Option ℕ → List (List ℕ) → Option WordTask
 task_of now words = option_or (deed_of now words) (option_map Help (help_of words))

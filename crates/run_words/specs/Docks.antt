@@ -1,9 +1,9 @@
 -- Which words ask for a handheld at a port, and what they give.
 use Rattle.std.specs.Prelude.{◌&&◌, ℕ, Bool, false, true, List, [], ◌∷◌, Option, None, codes, bytes_eq, is_some, option_map, option_and_then, if◌then◌else◌}
-use Rattle.run_words.specs.Forms.{Form, is_of_form, plain_at, value_of}
+use Rattle.run_words.specs.Forms.{WordFormValue, is_of_form, plain_at, value_of}
 
 -- `HANDHELD --port=PORT [--trace=F]`
-abbrev pub dock_form : Form
+abbrev pub dock_form : WordFormValue
 dock_form = record {
   plain = codes "handheld" ∷ [];
   options =

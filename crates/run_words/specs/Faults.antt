@@ -9,7 +9,7 @@ use Rattle.run_words.specs.Captures.{capture_form}
 use Rattle.run_words.specs.Choices.{are_stems}
 use Rattle.run_words.specs.Commands.{export_form, file_form, import_form, make_form, packet_form, show_form}
 use Rattle.run_words.specs.Exports.{is_form_word}
-use Rattle.run_words.specs.Forms.{Form, NamedOption, flag_count, is_flag, is_option, is_word, option_count, plain_at, plain_words, value_of}
+use Rattle.run_words.specs.Forms.{WordFormValue, NamedOption, flag_count, is_flag, is_option, is_word, option_count, plain_at, plain_words, value_of}
 use Rattle.run_words.specs.Helps.{command_word}
 use Rattle.run_words.specs.Numbers.{count_of, number_of}
 use Rattle.run_words.specs.Runs.{date_at, run_form}
@@ -28,7 +28,7 @@ abbrev pub fault_in : FaultKind → List ℕ → Fault
 fault_in kind word = record { kind = kind; word = word }
 
 -- `HANDHELD FILE [--trace=F]`, behind `install`, whose line loses nothing
-abbrev pub install_form : Form
+abbrev pub install_form : WordFormValue
 install_form = record {
   plain = codes "handheld" ∷ codes "file" ∷ [];
   options = record { name = codes "trace"; is_required = false } ∷ [];
@@ -36,7 +36,7 @@ install_form = record {
 }
 
 -- the form of the words behind a command
-abbrev pub form_behind : CommandWord → Form
+abbrev pub form_behind : CommandWord → WordFormValue
 form_behind Run = run_form
 form_behind Check = file_form
 form_behind Show = show_form
@@ -60,25 +60,25 @@ abbrev pub lacks_this : List ℕ → NamedOption → Bool
 lacks_this word option = is_flag option.name word || is_option option.name word
 
 -- a word is an option of the form without a value
-abbrev pub lacks_value : Form → List ℕ → Bool
+abbrev pub lacks_value : WordFormValue → List ℕ → Bool
 lacks_value form word = list_any (lacks_this word) form.options
 
 -- a word is a flag of the form with a value
-abbrev pub gives_value : Form → List ℕ → Bool
+abbrev pub gives_value : WordFormValue → List ℕ → Bool
 gives_value form word = list_any (λ flag. is_option flag word) form.flags
 
 -- what is wrong with a word that is none of the form
-abbrev pub strange_kind : Form → List ℕ → FaultKind
+abbrev pub strange_kind : WordFormValue → List ℕ → FaultKind
 strange_kind form word =
     if lacks_value form word then NoValue
     else (if gives_value form word then ExtraValue else UnknownOption)
 
 -- a word is none of the form, and not empty
-abbrev pub is_strange : Form → List ℕ → Bool
+abbrev pub is_strange : WordFormValue → List ℕ → Bool
 is_strange form word = not (is_word form word) && not (length word == 0)
 
 -- the first such word
-abbrev pub strange_word : Form → List (List ℕ) → Option Fault
+abbrev pub strange_word : WordFormValue → List (List ℕ) → Option Fault
 strange_word form words =
     option_map (λ word. fault_in (strange_kind form word) word) (find (is_strange form) words)
 
@@ -93,14 +93,14 @@ abbrev pub is_flag_twice : List (List ℕ) → List ℕ → Bool
 is_flag_twice words flag = nat_lt 1 (flag_count flag words)
 
 -- the first option that stands more than once, or else the first such flag
-abbrev pub twice_fault : Form → List (List ℕ) → Option Fault
+abbrev pub twice_fault : WordFormValue → List (List ℕ) → Option Fault
 twice_fault form words =
     option_or
     (option_map (λ option. fault_in Twice option.name) (find (is_twice words) form.options))
     (option_map (fault_in Twice) (find (is_flag_twice words) form.flags))
 
 -- the first plain word behind those of the form
-abbrev pub extra_word : Form → List (List ℕ) → Option Fault
+abbrev pub extra_word : WordFormValue → List (List ℕ) → Option Fault
 extra_word form words = option_map (fault_in Extra) (plain_at (length form.plain) words)
 
 -- an option has to stand and doesn't
@@ -108,19 +108,19 @@ abbrev pub is_missing : List (List ℕ) → NamedOption → Bool
 is_missing words option = option.is_required && (option_count option.name words == 0)
 
 -- the first such option
-abbrev pub missing_fault : Form → List (List ℕ) → Option Fault
+abbrev pub missing_fault : WordFormValue → List (List ℕ) → Option Fault
 missing_fault form words =
     option_map (λ option. fault_in Missing option.name) (find (is_missing words) form.options)
 
 -- the command, where fewer plain words stand behind it than its form has
-abbrev pub few_words : Form → List ℕ → List (List ℕ) → Option Fault
+abbrev pub few_words : WordFormValue → List ℕ → List (List ℕ) → Option Fault
 few_words form command words =
     if nat_lt (length (plain_words words)) (length form.plain) then Some (fault_in TooFew command)
     else None
 
 -- how words are not of a form: a word that is none of it, or what stands more than once, or a plain
 -- word too many, or an option that is missing, or too few plain words
-abbrev pub form_fault : Form → List ℕ → List (List ℕ) → Option Fault
+abbrev pub form_fault : WordFormValue → List ℕ → List (List ℕ) → Option Fault
 form_fault form command words =
     option_or (strange_word form words)
     (option_or (twice_fault form words)
@@ -143,7 +143,7 @@ is_wrong now words option =
     option_map_or (is_bad_value now option.name) (value_of option.name words) false
 
 -- the first such option
-abbrev pub value_fault : Option ℕ → Form → List (List ℕ) → Option Fault
+abbrev pub value_fault : Option ℕ → WordFormValue → List (List ℕ) → Option Fault
 value_fault now form words =
     option_map (λ option. fault_in BadOption option.name) (find (is_wrong now words) form.options)
 

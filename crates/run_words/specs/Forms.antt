@@ -11,7 +11,7 @@ pub record NamedOption : Type 0 where
 
 -- the names of the plain words in their order, the options with a value, and the names of the flags
 -- `--NAME`
-pub record Form : Type 0 where
+pub record WordFormValue : Type 0 where
   pub plain : List (List ℕ)
   pub options : List NamedOption
   pub flags : List (List ℕ)
@@ -50,7 +50,7 @@ abbrev pub has_flag : List ℕ → List (List ℕ) → Bool
 has_flag name words = list_any (is_flag name) words
 
 -- a plain word, or an option of the form with a value that isn't empty, or a flag of it
-abbrev pub is_word : Form → List ℕ → Bool
+abbrev pub is_word : WordFormValue → List ℕ → Bool
 is_word form word =
     is_plain word
     || (list_any (λ option. has_value option.name word) form.options
@@ -76,7 +76,7 @@ fits_flag words flag = nat_le (flag_count flag words) 1
 
 -- words are of a form: each is one of it, as many are plain as it has, and each option and each
 -- flag of it stands as it has to
-unfoldable pub is_of_form : Form → List (List ℕ) → Bool
+unfoldable pub is_of_form : WordFormValue → List (List ℕ) → Bool
 is_of_form form words =
     list_all (is_word form) words && ((length (plain_words words) == length form.plain) &&
     (list_all (fits_option words) form.options && list_all (fits_flag words) form.flags))

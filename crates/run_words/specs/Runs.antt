@@ -3,8 +3,8 @@ use Rattle.std.specs.Prelude.{ℕ, Bool, true, false, ◌&&◌, List, [], ◌∷
 use Rattle.std.specs.Option.{option_map_or}
 use Rattle.pdb_values.specs.PalmDates.{if_later, read_text}
 use Rattle.run_words.specs.Actions.{is_actions_text}
-use Rattle.run_words.specs.Choices.{Choice, choice_in, chosen_actions, is_only_right}
-use Rattle.run_words.specs.Forms.{Form, has_flag, is_of_form, plain_at, value_of}
+use Rattle.run_words.specs.Choices.{ChoiceTexts, choice_in, chosen_actions, is_only_right}
+use Rattle.run_words.specs.Forms.{WordFormValue, has_flag, is_of_form, plain_at, value_of}
 use Rattle.run_words.specs.declared.action.NamedAction.{NamedAction}
 
 -- the seconds of a date word, where these are the seconds of the date now: `now`, unless they are
@@ -14,7 +14,7 @@ date_at now word = if bytes_eq word (codes "now") then if_later now else read_te
 
 -- `HANDHELD DESKTOP --date=D [--script=F] [--trace=F] [--only=L] [--actions=L] [--slow]
 -- [--add-user] [--dry-run]`
-abbrev pub run_form : Form
+abbrev pub run_form : WordFormValue
 run_form = record {
   plain = codes "handheld" ∷ codes "desktop" ∷ [];
   options = record { name = codes "date"; is_required = true } ∷ record {
@@ -34,7 +34,7 @@ pub record Run : Type 0 where
   pub date : ℕ
   pub script : Option (List ℕ)
   pub trace : Option (List ℕ)
-  pub choice : Choice
+  pub choice : ChoiceTexts
   pub slow : Bool
   pub add_user : Bool
 

@@ -3,11 +3,11 @@ use Rattle.std.specs.Prelude.{map, option_copied}
 use Rattle.run_words.specs.Betweens.{Between}
 use Rattle.run_words.specs.Cables.{Cable}
 use Rattle.run_words.specs.Captures.{Capture}
-use Rattle.run_words.specs.Choices.{Choice}
-use Rattle.run_words.specs.Commands.{Task, Sync, DryRun, LookAt, Scan, Make, Install, Backup, Restore, Emulate, Categories, Help}
+use Rattle.run_words.specs.Choices.{ChoiceTexts}
+use Rattle.run_words.specs.Commands.{WordTask, Sync, DryRun, LookAt, Scan, Make, Install, Backup, Restore, Emulate, Categories, Help}
 use Rattle.run_words.specs.Faults.{Fault}
 use Rattle.run_words.specs.Docks.{Dock}
-use Rattle.run_words.specs.Forms.{Form, NamedOption}
+use Rattle.run_words.specs.Forms.{WordFormValue, NamedOption}
 use Rattle.run_words.specs.Runs.{Run}
 use Rattle.run_words.specs.Words.{bytes_of}
 use Rattle.run_words.specs.declared.between.BetweenWords.{BetweenWords}
@@ -27,7 +27,7 @@ abbrev pub option_view : ValueOption → NamedOption
 option_view option = record { name = option.name.now; is_required = option.is_required }
 
 -- the form of a table
-abbrev pub form_view : WordForm → Form
+abbrev pub form_view : WordForm → WordFormValue
 form_view form = record {
   plain = map (λ name. name.now) form.plain.now;
   options = map option_view form.options.now;
@@ -35,7 +35,7 @@ form_view form = record {
 }
 
 -- the choice of the words
-abbrev pub choice_view : ChoiceWords → Choice
+abbrev pub choice_view : ChoiceWords → ChoiceTexts
 choice_view choice = record {
   only = option_copied choice.only;
   actions = option_copied choice.actions;
@@ -93,7 +93,7 @@ dock_view dock = record {
 }
 
 -- what the words ask for
-abbrev pub task_view : Command → Task
+abbrev pub task_view : Command → WordTask
 task_view (commands.Run run) = Sync (run_view run)
 task_view (commands.DryRun run) = DryRun (run_view run)
 task_view (commands.Look look) = LookAt look.look look.file.now

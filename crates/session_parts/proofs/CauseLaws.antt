@@ -3,7 +3,7 @@ use Rattle.std.proofs.Common.{◌≡◌, inl, inr, ◌⊎◌, subst, sym, ℕ, B
 use Rattle.dlp_replies.specs.declared.fault.ReplyFault.{ReplyFault}
 use Rattle.dlp_replies.specs.ReplyReading.{reply_at}
 use Rattle.dlp_replies.specs.ReplyValues.{ReplyValue}
-use Rattle.session_parts.proofs.LinkWords.{LinkFault, Talk, SessionFault, Act, SessionValue, Asked, Ended, Halted, answer_by, no_more, said_in, end_of, link_ended}
+use Rattle.session_parts.proofs.LinkWords.{LinkFault, Talk, SessionFault, Act, SessionValue, AsksOne, Ended, Halted, answer_by, no_more, said_in, end_of, link_ended}
 use Rattle.desktop_session.specs.declared.fault.SessionFault.TheVariants as session
 use Rattle.desktop_session.specs.Answers.{IsCopy, block_of, or_false, or_none}
 use Rattle.desktop_session.specs.Lasts.{IsByLastReply}
@@ -45,19 +45,19 @@ later_said function talk fault take read cause is last = later_by talk fault rea
 
 module _ {L A : Type 0} {talk : L → Option Talk} {since : L → L → Type 0} {fault : L → Option LinkFault} {downs : L → ℕ} {one : Act} {old new : SessionValue L} where
   -- by the answer to one act
-  pub later_refused : (take : ReplyValue → A) (cause : SessionFault) → may_find_none one.asks.form ≡ false → Asked talk since fault downs one old new
+  pub later_refused : (take : ReplyValue → A) (cause : SessionFault) → may_find_none one.asks.form ≡ false → AsksOne talk since fault downs one old new
       → Err cause ≡ answer_by (fault new.link) (said_in (number_of one) take (reply_at (number_of one) new.reply)) → IsLater (talk new.link) (fault new.link) cause
   later_refused take cause none asked is =
       later_said (number_of one) (talk new.link) (fault new.link) take (reply_at (number_of one) new.reply) cause is (last_refused take cause none asked is)
 
   pub later_answer : (take : ReplyValue → A) (answer : Result A SessionFault) → may_find_none one.asks.form ≡ false
-      → Asked talk since fault downs one old new
+      → AsksOne talk since fault downs one old new
       → answer ≡ answer_by (fault new.link) (said_in (number_of one) take (reply_at (number_of one) new.reply)) → IfErr answer (IsLater (talk new.link) (fault new.link))
   later_answer take (Ok x) none asked is = tt
   later_answer take (Err cause) none asked is = later_refused take cause none asked is
 
   -- the same where error 5 has an answer of its own
-  pub later_found : (take : ReplyValue → A) (cause : SessionFault) → Asked talk since fault downs one old new
+  pub later_found : (take : ReplyValue → A) (cause : SessionFault) → AsksOne talk since fault downs one old new
       → ◌≡◌ {A = Result (Option A) SessionFault} (Err cause) (answer_by (fault new.link) (or_none (said_in (number_of one) take (reply_at (number_of one) new.reply))))
       → IsLater (talk new.link) (fault new.link) cause
   later_found take cause asked is =
@@ -66,7 +66,7 @@ module _ {L A : Type 0} {talk : L → Option Talk} {since : L → L → Type 0} 
 
   -- a database that was not opened
   pub later_unopened : {B : Type 0} (number : ℕ) (take : ReplyValue → A) (r : Result B SessionFault) (cause : SessionFault)
-      → number ≡ number_of one → may_find_none one.asks.form ≡ false → Asked talk since fault downs one old new → r ≡ Err cause
+      → number ≡ number_of one → may_find_none one.asks.form ≡ false → AsksOne talk since fault downs one old new → r ≡ Err cause
       → IfErr r (λ cause. Err cause ≡ answer_by (fault new.link) (said_in number take (reply_at number new.reply)))
       → IsLater (talk new.link) (fault new.link) cause
   later_unopened number take r cause own none asked is held =
@@ -74,7 +74,7 @@ module _ {L A : Type 0} {talk : L → Option Talk} {since : L → L → Type 0} 
       (subst (λ n. Err cause ≡ answer_by (fault new.link) (said_in n take (reply_at n new.reply))) own (rw is at held))
 
 pub later_removed : {L : Type 0} {talk : L → Option Talk} {since : L → L → Type 0} {fault : L → Option LinkFault} {downs : L → ℕ} {one : Act}
-    {old new : SessionValue L} (cause : SessionFault) → Asked talk since fault downs one old new
+    {old new : SessionValue L} (cause : SessionFault) → AsksOne talk since fault downs one old new
     → ◌≡◌ {A = Result Bool SessionFault} (Err cause) (answer_by (fault new.link) (or_false (said_in (number_of one) no_more (reply_at (number_of one) new.reply))))
     → IsLater (talk new.link) (fault new.link) cause
 later_removed {talk} {fault} {one} {new} cause asked is =
@@ -98,7 +98,7 @@ not_had bytes cause (Ok None) is = inr is
 not_had bytes cause (Err other) is = inr is
 
 module _ {L A : Type 0} {talk : L → Option Talk} {since : L → L → Type 0} {fault : L → Option LinkFault} {downs : L → ℕ} {one : Act} {old new : SessionValue L} where
-  pub later_copy : (bytes : A → List ℕ) (cause : SessionFault) → Asked talk since fault downs one old new
+  pub later_copy : (bytes : A → List ℕ) (cause : SessionFault) → AsksOne talk since fault downs one old new
       → IsCopy bytes (Err cause) (answer_by (fault new.link) (or_none (said_in (number_of one) block_of (reply_at (number_of one) new.reply))))
       → IsLater (talk new.link) (fault new.link) cause
   later_copy bytes cause asked copy = elim (not_had bytes cause _ copy) [

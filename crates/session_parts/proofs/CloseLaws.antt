@@ -14,7 +14,7 @@ use Rattle.palm_device.specs.declared.opened.Opened.{Opened}
 use Rattle.dlp_commands.specs.DatabaseFunctions.{close_db, create_db, open_db}
 use Rattle.dlp_commands.specs.DeviceSteps.{outcome, tried}
 use Rattle.dlp_commands.specs.Errors.{none_open, read_only, check, need}
-use Rattle.dlp_commands.specs.Reached.{Tried, writes}
+use Rattle.dlp_commands.specs.Reached.{Trial, writes}
 use Rattle.session_parts.proofs.LinkWords.{Talk, Act, acted, cleaning, closing, making, marked_name, marking, opening, putting, removing, resetting, secret_bit}
 use Rattle.session_parts.proofs.LinkWords.{said, saying, device_after}
 use Rattle.dlp_commands.specs.UserFunctions.{chosen, marked, name_length, write_user_info}
@@ -32,7 +32,7 @@ pub record OneOpen (device : Device) : Type 0 where
 
 -- ---- opening
 
-one_opens : (name : List ℕ) (mode : ℕ) (answer : ReplyValue) (r : Tried) → IfDone (Opens name mode answer) r
+one_opens : (name : List ℕ) (mode : ℕ) (answer : ReplyValue) (r : Trial) → IfDone (Opens name mode answer) r
     → IfDone (λ (done : Device × ReplyValue). OneOpen done.0) r
 one_opens name mode answer (Ok done) opens = record { slot = Some (just_opened name mode); is = opens.handles }
 one_opens name mode answer (Err code) opens = tt

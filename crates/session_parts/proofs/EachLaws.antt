@@ -2,7 +2,7 @@
 use Rattle.std.proofs.Common.{◌≡◌, ◌∙◌, ◌+◌, refl, ap, sym, ℕ, suc, List, [], ◌∷◌, ◌++◌, length, map, take, append_assoc}
 use Rattle.std.proofs.lemmas.List.{append-nil, map-append}
 use Rattle.std.specs.Prelude.{Option, Ok, Err, Result, OnOk, None}
-use Rattle.session_parts.proofs.LinkWords.{LinkFault, Talk, SessionFault, Act, text, saying, SessionValue, Asked, Does}
+use Rattle.session_parts.proofs.LinkWords.{LinkFault, Talk, SessionFault, Act, text, saying, SessionValue, AsksOne, Does}
 use Rattle.desktop_session.proofs.SaysLaws.{saying_none, saying_then}
 use Rattle.desktop_session.proofs.StopLaws.{does_then, stops_then}
 use Rattle.slow_mirror.proofs.AskLaws.{SoFar, all_said, asked_part, asks_then, none_said, one_said}
@@ -206,7 +206,7 @@ behind_closed z (Err cause) before closed = tt
 module _ {L J A B : Type 0} {talk : L → Option Talk} {since : L → L → Type 0} {fault : L → Option LinkFault} {downs : L → ℕ} {first : Act}
     {acts : Option Talk → J → ℕ → List ℕ → List Act} {says : Option Talk → J → ℕ → List ℕ → A → Type 0} {jobs : List J} {each : B → List A} where
   -- it was refused
-  pub behind_none : {old new : SessionValue L} {cause : SessionFault} → Asked talk since fault downs first old new → IsLater (talk new.link) (fault new.link) cause
+  pub behind_none : {old new : SessionValue L} {cause : SessionFault} → AsksOne talk since fault downs first old new → IsLater (talk new.link) (fault new.link) cause
       → SpansBehind talk since fault downs first acts says jobs each old new (Err cause)
   behind_none {old} {new} {cause} asked later =
       let told : Option Talk = saying (first ∷ []) (talk old.link) in
@@ -225,7 +225,7 @@ module _ {L J A B : Type 0} {talk : L → Option Talk} {since : L → L → Type
 
   -- it was answered, and the stretches were asked for
   pub behind_one : (since_more : (a b c : L) → since a b → since b c → since a c) {old now new : SessionValue L} {answer : Result B SessionFault}
-      → fault now.link ≡ None → Asked talk since fault downs first old now → SpansEach talk since fault downs acts says jobs each now new answer
+      → fault now.link ≡ None → AsksOne talk since fault downs first old now → SpansEach talk since fault downs acts says jobs each now new answer
       → SpansBehind talk since fault downs first acts says jobs each old new answer
   behind_one since_more {old} {now} {new} {answer} none asked spans =
       let before = one_said talk since fault downs first old now none asked in

@@ -11,11 +11,11 @@ use Rattle.dlp_replies.specs.ReplyValues.{ReplyValue}
 use Rattle.palm_device.specs.Devices.{Device, most_databases}
 use Rattle.palm_device.specs.Handles.{free_handle, just_opened, no_handles, with_handle}
 use Rattle.session_parts.proofs.LinkWords.{LinkFault, Talk, SessionFault, Act, acted, answer_by, handle_of, said_in, making, opening, saying, SessionValue}
-use Rattle.session_parts.proofs.LinkWords.{Asked}
+use Rattle.session_parts.proofs.LinkWords.{AsksOne}
 use Rattle.dlp_commands.specs.DatabaseFunctions.{create_db, named, open_db}
 use Rattle.dlp_commands.specs.DeviceSteps.{outcome, tried}
 use Rattle.dlp_commands.specs.Errors.{exists, limit, too_many_open, check, need}
-use Rattle.dlp_commands.specs.Reached.{Tried}
+use Rattle.dlp_commands.specs.Reached.{Trial}
 use Rattle.dlp_commands.proofs.ReplyLaws.{Replies, refused_reply}
 use Rattle.dlp_commands.proofs.TableLaws.{tried_done}
 use Rattle.dlp_commands.proofs.TriedLaws.{Keeps}
@@ -52,7 +52,7 @@ make_done device creator kind flags version name none =
     }))))
 
 -- the handle that a reply says, where the answer bears handle 1, and a refusal bears none
-handle_by : (device : Device) (number handle mode : ℕ) (name : List ℕ) (answer : ReplyValue) (r : Tried)
+handle_by : (device : Device) (number handle mode : ℕ) (name : List ℕ) (answer : ReplyValue) (r : Trial)
     → reply_at number (reply_text answer) ≡ Ok answer → said_in number handle_of (Ok answer) ≡ Ok 1 → IfDone (Opens name mode answer) r
     → Keeps (λ (done : Device × ReplyValue). Unit {0}) r → said_in number handle_of (reply_at number (outcome device number r).0) ≡ Ok handle → handle ≡ 1
 handle_by device number handle mode name answer (Ok done) reads says opens keeps is =
@@ -66,7 +66,7 @@ handle_by device number handle mode name answer (Err code) reads says opens keep
     absurd (let none = sym (ap (said_in number handle_of) read) ∙ is in cc)
 
 -- whatever was refused has a code
-any_kept : (P : Device × ReplyValue → Type 0) (r : Tried) → Keeps P r → Keeps (λ (done : Device × ReplyValue). Unit {0}) r
+any_kept : (P : Device × ReplyValue → Type 0) (r : Trial) → Keeps P r → Keeps (λ (done : Device × ReplyValue). Unit {0}) r
 any_kept P (Ok done) keeps = tt
 any_kept P (Err code) keeps = keeps
 
@@ -107,7 +107,7 @@ one_first (Some talk) = λ none. refl
 -- an act that opens a database was answered by this handle, the first where nothing was open
 pub record IsOpened {L : Type 0} (talk : L → Option Talk) (since : L → L → Type 0) (fault : L → Option LinkFault) (downs : L → ℕ) (one : Act) (handle : ℕ)
     (old now : SessionValue L) : Type 0 where
-  pub asked : Asked talk since fault downs one old now
+  pub asked : AsksOne talk since fault downs one old now
   pub none : fault now.link ≡ None
   pub first : IsFirst (talk old.link) handle
   pub told : talk now.link ≡ saying (one ∷ []) (talk old.link)
@@ -115,7 +115,7 @@ pub record IsOpened {L : Type 0} (talk : L → Option Talk) (since : L → L →
 module _ {L : Type 0} {talk : L → Option Talk} {since : L → L → Type 0} {fault : L → Option LinkFault} {downs : L → ℕ} where
   answered_first : (number : ℕ) (one : Act) {handle : ℕ} {old now : SessionValue L}
       → ((device : Device) → device.handles ≡ no_handles → said_in number handle_of (reply_at number (acted one device).0) ≡ Ok handle → handle ≡ 1)
-      → Asked talk since fault downs one old now → Ok handle ≡ answer_by (fault now.link) (said_in number handle_of (reply_at number now.reply))
+      → AsksOne talk since fault downs one old now → Ok handle ≡ answer_by (fault now.link) (said_in number handle_of (reply_at number now.reply))
       → IsOpened talk since fault downs one handle old now
   answered_first number one {handle} {old} {now} opens asked is =
       let said = said_in number handle_of (reply_at number now.reply) in
@@ -127,12 +127,12 @@ module _ {L : Type 0} {talk : L → Option Talk} {since : L → L → Type 0} {f
         told = (asked.does none).said;
       }
 
-  pub opened_first : (name : List ℕ) {handle : ℕ} {old now : SessionValue L} → Asked talk since fault downs (opening name) old now
+  pub opened_first : (name : List ℕ) {handle : ℕ} {old now : SessionValue L} → AsksOne talk since fault downs (opening name) old now
       → Ok handle ≡ answer_by (fault now.link) (said_in 0x17 handle_of (reply_at 0x17 now.reply))
       → IsOpened talk since fault downs (opening name) handle old now
   opened_first name asked is = answered_first 0x17 (opening name) (λ device none. opens_one device name _ none) asked is
 
-  pub made_first : (head : DbHead) {handle : ℕ} {old now : SessionValue L} → Asked talk since fault downs (making head) old now
+  pub made_first : (head : DbHead) {handle : ℕ} {old now : SessionValue L} → AsksOne talk since fault downs (making head) old now
       → Ok handle ≡ answer_by (fault now.link) (said_in 0x18 handle_of (reply_at 0x18 now.reply))
       → IsOpened talk since fault downs (making head) handle old now
   made_first head asked is = answered_first 0x18 (making head) (λ device none. makes_one device head _ none) asked is

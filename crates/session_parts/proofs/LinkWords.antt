@@ -13,6 +13,6 @@ pub use Rattle.desktop_session.specs.Requests.{opening, putting, reading_at, rea
 pub use Rattle.desktop_session.specs.Says.{said}
 unfoldable pub use Rattle.desktop_session.specs.Says.{saying}
 pub use Rattle.desktop_session.specs.Sessions.{SessionValue}
-pub use Rattle.desktop_session.specs.Stops.{Asked, Does, Stops}
-pub use Rattle.desktop_session.specs.Tellings.{IsProper, device_after}
+pub use Rattle.desktop_session.specs.Stops.{AsksOne, Does, Stops}
+pub use Rattle.desktop_session.specs.Tellings.{IsTellable, device_after}
 unfoldable pub use Rattle.desktop_session.specs.Tellings.{told}

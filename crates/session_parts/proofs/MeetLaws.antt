@@ -4,7 +4,7 @@ use Rattle.std.specs.Prelude.{◌⊎◌, Option, None, Some, IfSome, IsOk, Resul
 use Rattle.pdb_values.specs.declared.user.UserInfo.{UserInfo}
 use Rattle.dlp_replies.specs.ReplyReading.{reply_at}
 use Rattle.session_parts.proofs.LinkWords.{LinkFault, Talk, Halted, SessionFault, text, no_more, said_in, user_of, listing, saying, SessionValue, Does, Stops}
-use Rattle.desktop_session.specs.Greetings.{AsksUser, Greeted, HasSlot, begun_by, greeted, user_by, user_with}
+use Rattle.desktop_session.specs.Greetings.{AsksUser, AnswersGreeting, HasSlot, begun_by, greeted, user_by, user_with}
 use Rattle.desktop_session.specs.Lists.{HasCause, IsByReplyTo, IsNotMissing, Lists, has_more, list_reply, listings}
 use Rattle.desktop_session.proofs.StopLaws.{does_then, stops_then}
 use Rattle.slow_mirror.proofs.AskLaws.{answered_none}
@@ -22,7 +22,7 @@ few_more (Some talk) = λ k below. absurd (omega arith)
 
 -- a greeting that was answered
 clear : (users : List ℕ) (add : Bool) (talk : Option Talk) (fault : Option LinkFault) (user : UserInfo)
-    → Greeted users add talk fault (Ok user) → Greeted users add talk None (Ok user)
+    → AnswersGreeting users add talk fault (Ok user) → AnswersGreeting users add talk None (Ok user)
 clear users add talk fault user said =
     rw (answered_none fault (greeted users add said.first said.second) user said.is) at said
 
@@ -36,7 +36,7 @@ slot_by users add bytes user second is = begun_ok (user_by users add (said_in 0x
     begun_ok (Ok other) second is = refl
     begun_ok (Err fault) second is = absurd (let no : ⊥ = cc in no)
 
-pub greeted_slot : (users : List ℕ) (add : Bool) (told : Option Talk) (user : UserInfo) → Greeted users add told None (Ok user) → HasSlot users add told
+pub greeted_slot : (users : List ℕ) (add : Bool) (told : Option Talk) (user : UserInfo) → AnswersGreeting users add told None (Ok user) → HasSlot users add told
 greeted_slot users add None user said = tt
 greeted_slot users add (Some talk) user said =
     rw (said.told refl) at
@@ -46,7 +46,7 @@ module _ {L : Type 0} {talk : L → Option Talk} {since : L → L → Type 0} {f
     {old : L} where
   -- the greeting stopped
   pub meets_not : {halted : Halted L} → Stops talk since fault downs (map text greeting) old halted.link
-      → Greeted users add (talk old) (fault halted.link) (Err halted.cause)
+      → AnswersGreeting users add (talk old) (fault halted.link) (Err halted.cause)
       → AsksUser talk since fault downs old halted.link ⊎ HasSlot users add (talk old) → Meets talk since fault downs users add old (Err halted)
   unfolding listings
   meets_not stops refused asks = record {
@@ -66,7 +66,7 @@ module _ {L : Type 0} {talk : L → Option Talk} {since : L → L → Type 0} {f
 
   module _ (since_more : (a b c : L) → since a b → since b c → since a c) (mid : SessionValue L)
       (stops : Stops talk since fault downs (map text greeting) old mid.link) (does : Does talk greeting old mid.link)
-      (said : Greeted users add (talk old) (fault mid.link) (Ok mid.user)) where
+      (said : AnswersGreeting users add (talk old) (fault mid.link) (Ok mid.user)) where
     -- both sides met
     pub meets_done : {met : Met L} → mid.abandoned ≡ false → Lists talk since fault downs mid.link met.linked.link (Ok met.heads.items)
         → (met.linked.user ≡ mid.user) × (met.linked.abandoned ≡ mid.abandoned) → Meets talk since fault downs users add old (Ok met)
@@ -128,7 +128,7 @@ seated_by users add (Ok other) user second is =
     rw seated.1 seated.0
 
 -- by its greeting
-pub greeted_seated : (users : List ℕ) (add : Bool) (told : Option Talk) (user : UserInfo) → Greeted users add told None (Ok user)
+pub greeted_seated : (users : List ℕ) (add : Bool) (told : Option Talk) (user : UserInfo) → AnswersGreeting users add told None (Ok user)
     → IsSeated (slot_for users user.user add)
 greeted_seated users add told user said =
     seated_by users add (said_in 0x10 user_of (reply_at 0x10 said.first)) user (said_in 0x2E no_more (reply_at 0x2E said.second)) said.is

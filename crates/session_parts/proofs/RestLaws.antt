@@ -15,10 +15,10 @@ use Rattle.palm_device.specs.Heads.{has_bit, is_read_only}
 use Rattle.dlp_commands.specs.DatabaseFunctions.{close_db, on_card, open_db, read_db_list}
 use Rattle.dlp_commands.specs.DeviceSteps.{outcome, tried}
 use Rattle.dlp_commands.specs.Errors.{none_open, not_found, check, need}
-use Rattle.dlp_commands.specs.Reached.{Tried, next_of, read_next_modified_rec, reads}
+use Rattle.dlp_commands.specs.Reached.{Trial, next_of, read_next_modified_rec, reads}
 use Rattle.dlp_commands.specs.Readings.{read_in}
 use Rattle.dlp_commands.specs.declared.reading.Reading.{Reading}
-use Rattle.session_parts.proofs.LinkWords.{Act, acted, closing, listing, opening, reading_next, IsProper, device_after}
+use Rattle.session_parts.proofs.LinkWords.{Act, acted, closing, listing, opening, reading_next, IsTellable, device_after}
 use Rattle.desktop_session.specs.Lists.{listings}
 use Rattle.desktop_session.specs.Orders.{CanOpen}
 use Rattle.desktop_session.proofs.ChangeRows.{row_does}
@@ -51,7 +51,7 @@ all-flat_map P f [] each = tt
 all-flat_map P f (x ∷ xs) each = all-append P (f x) (flat_map f xs) (each x) (all-flat_map P f xs each)
 
 -- what is done holds of the device after, if it holds of the one before
-pub outcome_is : (P : Device → Type 0) (old : Device) (number : ℕ) (r : Tried) → P old → IfDone (λ (done : Device × ReplyValue). P done.0) r
+pub outcome_is : (P : Device → Type 0) (old : Device) (number : ℕ) (r : Trial) → P old → IfDone (λ (done : Device × ReplyValue). P done.0) r
     → P (outcome old number r).1
 outcome_is P old number (Ok done) before after = after
 outcome_is P old number (Err code) before after = before
@@ -152,8 +152,8 @@ around_same device name acts closed can all =
     ∙ ap (λ d. (acted (closing 1) d).1) more.1
     ∙ closes_does device name 0xD0 more.0 closed
 
-pub opened_proper : (device : Device) (name : List ℕ) → IsProper device → IsName name → CanOpen device 0 0xD0 name
-    → IsProper (opened_on device name 0xD0 0)
+pub opened_proper : (device : Device) (name : List ℕ) → IsTellable device → IsName name → CanOpen device 0 0xD0 name
+    → IsTellable (opened_on device name 0xD0 0)
 opened_proper device name proper is can =
-    subst IsProper (opens_does device name can)
+    subst IsTellable (opens_does device name can)
     (acted_proper (opening name) device proper (act_sayable (opening name).asks device (open_fits 0xD0 name (lit< tt) is) refl))

@@ -1,7 +1,7 @@
 -- A database is opened, something is done, and it is closed: where it stops, and where it is done.
 use Rattle.std.proofs.Common.{◌≡◌, ℕ, List, [], ◌∷◌, ◌++◌, ap, false, refl, true, Option, None, Some, IfErr, IfOk, OnErr, OnOk, Result, Ok, Err}
 use Rattle.dlp_replies.specs.ReplyReading.{reply_at}
-use Rattle.session_parts.proofs.LinkWords.{LinkFault, Talk, SessionFault, Act, answer_by, handle_of, mapped, no_more, said_in, closing, SessionValue, Asked}
+use Rattle.session_parts.proofs.LinkWords.{LinkFault, Talk, SessionFault, Act, answer_by, handle_of, mapped, no_more, said_in, closing, SessionValue, AsksOne}
 use Rattle.slow_mirror.specs.Asks.{Asks}
 use Rattle.slow_mirror.proofs.AskLaws.{all_said, asked_answer, asked_part, asks_part, asks_then, none_said, one_said}
 use Rattle.desktop_session.specs.Orders.{may_find_none}
@@ -50,7 +50,7 @@ module _ {L A : Type 0} {talk : L → Option Talk} {since : L → L → Type 0} 
 
   -- it was not opened
   pub span_unopened : {C : Type 0} (number : ℕ) {first : Act} (acts : ℕ → List ℕ → List Act) {says : ℕ → List ℕ → A → Type 0} {old new : SessionValue L}
-      {cause : SessionFault} (r : Result C SessionFault) → number ≡ number_of first → may_find_none first.asks.form ≡ false → r ≡ Err cause → OnErr r (Asked talk since fault downs first old new
+      {cause : SessionFault} (r : Result C SessionFault) → number ≡ number_of first → may_find_none first.asks.form ≡ false → r ≡ Err cause → OnErr r (AsksOne talk since fault downs first old new
       × IfErr r (λ why. ◌≡◌ {A = Result ℕ SessionFault} (Err why) (answer_by (fault new.link) (said_in number handle_of (reply_at number new.reply)))))
       → Spans talk since fault downs (within first acts) says old new (Err cause)
   span_unopened number acts {old} {new} {cause} r own none was held =
@@ -103,7 +103,7 @@ module _ {L A : Type 0} {talk : L → Option Talk} {since : L → L → Type 0} 
     pub span_closed : {B : Type 0} {says : ℕ → List ℕ → B → Type 0} {handle last : ℕ} (given : List ℕ) {old now done new left : SessionValue L} {x : A}
         (told : Result B SessionFault) {answer : Result B SessionFault}
         → IsOpened talk since fault downs first handle old now → Asks {A = A} talk since fault downs (acts handle given) now done (Ok x) → last ≡ handle
-        → Asked talk since fault downs (closing last) done new → answer ≡ answer_by (fault new.link) told
+        → AsksOne talk since fault downs (closing last) done new → answer ≡ answer_by (fault new.link) told
         → IfErr answer (IsLater (talk new.link) (fault new.link)) → IfOk answer (says handle given) → left ≡ new
         → Spans talk since fault downs (within first acts) says old left answer
     span_closed {handle} given {old} {done} {new} {x} told {answer} opened asks same closes answered later says_so goes =
@@ -126,7 +126,7 @@ module _ {L A : Type 0} {talk : L → Option Talk} {since : L → L → Type 0} 
     -- the closing was refused, or done: what was done before is answered
     module _ {says : ℕ → List ℕ → A → Type 0} {handle last : ℕ} (given : List ℕ) {old now done new left : SessionValue L} {x : A}
         (opened : IsOpened talk since fault downs first handle old now) (asks : Asks {A = A} talk since fault downs (acts handle given) now done (Ok x))
-        (same : last ≡ handle) (closes : Asked talk since fault downs (closing last) done new) where
+        (same : last ≡ handle) (closes : AsksOne talk since fault downs (closing last) done new) where
       pub span_unclosed : {cause : SessionFault}
           → ◌≡◌ {A = Result (Unit {0}) SessionFault} (Err cause) (answer_by (fault new.link) (said_in 0x19 no_more (reply_at 0x19 new.reply))) → left ≡ new
           → Spans talk since fault downs (within first acts) says old left (Err cause)

@@ -11,7 +11,7 @@ use Rattle.desktop_session.specs.declared.ending.Halted.{Halted}
 use Rattle.desktop_session.specs.declared.fault.SessionFault.{SessionFault}
 use Rattle.desktop_session.specs.declared.fault.SessionFault.TheVariants as session
 use Rattle.desktop_session.specs.Acts.{Act, text}
-use Rattle.desktop_session.specs.Greetings.{AsksUser, Greeted, HasSlot}
+use Rattle.desktop_session.specs.Greetings.{AsksUser, AnswersGreeting, HasSlot}
 use Rattle.desktop_session.specs.Lists.{HasCause, HasReplied, IsNotMissing, has_more, heads_listed, list_reply, listings}
 use Rattle.desktop_session.specs.Requests.{beginning, listing, reading_user}
 use Rattle.desktop_session.specs.Says.{saying}
@@ -36,7 +36,7 @@ link_met (Err halted) = halted.link
 pub record IsUnlisted (users : List ℕ) (add : Bool) (talk : Option Talk) (fault : Option LinkFault)
     (cause : SessionFault) : Type 0 where
   pub user : UserInfo
-  pub greeted : Greeted users add talk None (Ok user)
+  pub greeted : AnswersGreeting users add talk None (Ok user)
   pub reply : List ℕ
   pub is : HasCause fault (reply_at 0x16 reply) cause
   pub others : IsNotMissing cause
@@ -60,7 +60,7 @@ pub record Meets {L : Type 0} (talk : L → Option Talk) (since : L → L → Ty
   pub does : IfOk answer (λ met. Does talk (meeting_acts count) old met.linked.link)
   pub unseated : AsksUser talk since fault downs old (link_met answer)
       ⊎ HasSlot users add (talk old)
-  pub user : IfOk answer (λ met. Greeted users add (talk old) None (Ok met.linked.user))
+  pub user : IfOk answer (λ met. AnswersGreeting users add (talk old) None (Ok met.linked.user))
   pub some : IfOk answer (λ met. 0 < count)
   pub heads : IfOk answer
       (λ met. IfSome (saying greeting (talk old))
@@ -69,7 +69,7 @@ pub record Meets {L : Type 0} (talk : L → Option Talk) (since : L → L → Ty
       (λ talk. (count ≡ 65536) ⊎ (has_more (list_reply talk.device (count - 1)) ≡ false)))
   pub closed : IfOk answer (λ met. met.linked.abandoned ≡ false)
   pub cause : IfErr answer
-      (λ halted. Greeted users add (talk old) (fault halted.link) (Err halted.cause)
+      (λ halted. AnswersGreeting users add (talk old) (fault halted.link) (Err halted.cause)
       ⊎ IsUnlisted users add (talk old) (fault halted.link) halted.cause)
 
 -- both sides were to meet, or memory ran out before

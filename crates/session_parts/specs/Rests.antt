@@ -3,11 +3,11 @@ use Rattle.std.specs.Prelude.{◌≡◌, ℕ, Option, IfSome}
 use Rattle.palm_device.specs.Devices.{Device}
 use Rattle.palm_device.specs.Handles.{no_handles}
 use Rattle.dlp_commands.specs.Talks.{Talk}
-use Rattle.desktop_session.specs.Tellings.{IsProper}
+use Rattle.desktop_session.specs.Tellings.{IsTellable}
 
 -- nothing is open on it, and its values keep their bounds
 pub record IsAtRest (device : Device) : Type 0 where
-  pub proper : IsProper device
+  pub proper : IsTellable device
   pub closed : device.handles ≡ no_handles
 
 -- the handle is the first, where a device is told on which nothing was open

@@ -2,7 +2,7 @@
 use Rattle.std.specs.Prelude.{ℕ, Bool, true, false, not, ◌&&◌, List, [], if◌then◌else◌, is_some, length, Option, Some, None}
 use Rattle.pdb_values.specs.Databases.{DatabaseValue}
 use Rattle.pdb_values.specs.declared.record.Record.{Record}
-use Rattle.conduit_rules.specs.States.{Held}
+use Rattle.conduit_rules.specs.States.{SideState}
 use Rattle.conduit_rules.specs.Views.{slow_view, fast_view}
 use Rattle.conduit_rules.specs.Choices.{Choice, Sides, sides_of, choice_for}
 use Rattle.conduit_rules.specs.declared.action.Action.{Action}
@@ -62,7 +62,7 @@ unfoldable pub choice : Meeting → Task → Choice
 choice meeting task = choice_for (action_or_sync task.action) (sides meeting task)
 
 -- what the handheld holds, as it was seen
-abbrev pub seen_held : Meeting → Task → ℕ → Held
+abbrev pub seen_held : Meeting → Task → ℕ → SideState
 seen_held meeting task = (sides meeting task).handheld
 
 -- how many new records a database gets, and so ids

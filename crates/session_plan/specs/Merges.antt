@@ -75,12 +75,12 @@ archive_of rows [] = None
 archive_of rows (entry ∷ entries) = Some (beside rows (entry ∷ entries))
 
 -- what a database becomes on the desktop: rows, base rows, and an archive where it has entries
-pub record Merged : Type 0 where
+pub record DesktopMerge : Type 0 where
   pub rows : DatabaseValue
   pub base : DatabaseValue
   pub archive : Option DatabaseValue
 
-abbrev pub merged_of : Meeting → Task → List ℕ → DatabaseValue → Merged
+abbrev pub merged_of : Meeting → Task → List ℕ → DatabaseValue → DesktopMerge
 merged_of meeting task given rows = record {
   rows = with_records (merged_rows (choice meeting task) given) rows;
   base = beside rows (merged_base (choice meeting task) (seen_held meeting task) given);
@@ -94,7 +94,7 @@ abbrev pub put_archive : Option DatabaseValue → List DatabaseValue → List Da
 put_archive None archives = archives
 put_archive (Some archive) archives = with_put archive archives
 
-abbrev pub shelved : Merged → ShelvesValue → ShelvesValue
+abbrev pub shelved : DesktopMerge → ShelvesValue → ShelvesValue
 shelved merged shelves = record {
   rows = with_put merged.rows shelves.rows;
   bases = with_put merged.base shelves.bases;

@@ -8,7 +8,7 @@ use Rattle.desktop_session.specs.declared.fault.SessionFault.{SessionFault}
 use Rattle.desktop_session.specs.Acts.{Act, text}
 use Rattle.desktop_session.specs.Answers.{answer_by}
 use Rattle.desktop_session.specs.Sessions.{SessionValue}
-use Rattle.desktop_session.specs.Stops.{Asked, Does, Stops}
+use Rattle.desktop_session.specs.Stops.{AsksOne, Does, Stops}
 use Rattle.desktop_session.proofs.StopLaws.{does_none, does_then, fell_none, stops_more, stops_none, stops_then}
 use Rattle.slow_mirror.specs.Asks.{Asks}
 
@@ -71,14 +71,14 @@ all_said talk since fault downs acts old new answer asks = search (rules)
 
 -- one act, answered
 pub one_said : {L : Type 0} (talk : L → Option Talk) (since : L → L → Type 0) (fault : L → Option LinkFault) (downs : L → ℕ)
-    (one : Act) (old new : SessionValue L) → fault new.link ≡ None → Asked talk since fault downs one old new
+    (one : Act) (old new : SessionValue L) → fault new.link ≡ None → AsksOne talk since fault downs one old new
     → SoFar talk since fault downs (one ∷ []) old new
 one_said talk since fault downs one old new none asked = search (rules)
 
 -- one act more
 pub said_on : {L : Type 0} {talk : L → Option Talk} {since : L → L → Type 0} {fault : L → Option LinkFault} {downs : L → ℕ}
     (since_more : (a b c : L) → since a b → since b c → since a c) {acts : List Act} {one : Act} {old now new : SessionValue L}
-    → fault new.link ≡ None → SoFar talk since fault downs acts old now → Asked talk since fault downs one now new
+    → fault new.link ≡ None → SoFar talk since fault downs acts old now → AsksOne talk since fault downs one now new
     → SoFar talk since fault downs (acts ++ one ∷ []) old new
 said_on {talk} {since} {fault} {downs} since_more {acts} {one} {old} {now} {new} none before asked =
     all_said {A = ℕ} talk since fault downs (acts ++ one ∷ []) old new 0
@@ -99,7 +99,7 @@ asks_other other asks = search (rules)
 
 -- one act more was asked for, and then no more
 pub asked_part : {L A : Type 0} (talk : L → Option Talk) (since : L → L → Type 0) (fault : L → Option LinkFault) (downs : L → ℕ)
-    (one : Act) (more : List Act) (old new : SessionValue L) (cause : SessionFault) → Asked talk since fault downs one old new
+    (one : Act) (more : List Act) (old new : SessionValue L) (cause : SessionFault) → AsksOne talk since fault downs one old new
     → Asks {A = A} talk since fault downs (one ∷ more) old new (Err cause)
 asked_part talk since fault downs one more old new cause asked = record {
   stops = stops_more talk since fault downs (text one ∷ []) (map text more) old.link new.link asked.stops;
@@ -117,7 +117,7 @@ asks_part talk since fault downs acts more old new cause other asks = search (ru
 
 -- one act, whatever its answer is
 pub asked_answer : {L A : Type 0} (talk : L → Option Talk) (since : L → L → Type 0) (fault : L → Option LinkFault) (downs : L → ℕ) (one : Act)
-    (old new : SessionValue L) (said answer : Result A SessionFault) → answer ≡ answer_by (fault new.link) said → Asked talk since fault downs one old new
+    (old new : SessionValue L) (said answer : Result A SessionFault) → answer ≡ answer_by (fault new.link) said → AsksOne talk since fault downs one old new
     → Asks talk since fault downs (one ∷ []) old new answer
 asked_answer talk since fault downs one old new said answer is asked = search (rules, said_all, one_said, answered_none, asked_part)
 

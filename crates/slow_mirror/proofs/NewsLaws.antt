@@ -18,7 +18,7 @@ use Rattle.desktop_session.specs.Puts.{IsGiven, Puts}
 use Rattle.desktop_session.specs.Requests.{cleaning, putting, removing, resetting}
 use Rattle.desktop_session.specs.Says.{said, saying}
 use Rattle.desktop_session.specs.Sessions.{SessionValue}
-use Rattle.desktop_session.specs.Stops.{Asked}
+use Rattle.desktop_session.specs.Stops.{AsksOne}
 use Rattle.desktop_session.specs.Tellings.{device_after}
 use Rattle.desktop_session.proofs.TellLaws.{said_device}
 use Rattle.slow_mirror.specs.Asks.{Asks}
@@ -259,7 +259,7 @@ module _ {L : Type 0} {talk : L → Option Talk} {since : L → L → Type 0} {f
 
   pub remove_on : (since_more : (a b c : L) → since a b → since b c → since a c) {handle here k id : ℕ} {ids : List ℕ} {now new : SessionValue L}
       → here ≡ handle → SplitAt ids k id → fault new.link ≡ None → SoFar talk since fault downs (map (removing handle) (take k ids)) old now
-      → Asked talk since fault downs (removing here id) now new → SoFar talk since fault downs (map (removing handle) (take (k + 1) ids)) old new
+      → AsksOne talk since fault downs (removing here id) now new → SoFar talk since fault downs (map (removing handle) (take (k + 1) ids)) old new
   remove_on since_more {handle} {k} {id} {ids} {now} {new} is split none before asked =
       rw (ap (map (removing handle)) split.next ∙ map-append (removing handle) (take k ids) (id ∷ [])) (said_on since_more none before
       (rw (← is) asked))
@@ -267,7 +267,7 @@ module _ {L : Type 0} {talk : L → Option Talk} {since : L → L → Type 0} {f
   pub remove_stop : {A : Type 0} (since_more : (a b c : L) → since a b → since b c → since a c) {handle here k id : ℕ} {ids : List ℕ}
       {now new : SessionValue L} (cause : SessionFault)
       → here ≡ handle → SplitAt ids k id → SoFar talk since fault downs (map (removing handle) (take k ids)) old now
-      → Asked talk since fault downs (removing here id) now new → Asks {A = A} talk since fault downs (map (removing handle) ids) old new (Err cause)
+      → AsksOne talk since fault downs (removing here id) now new → Asks {A = A} talk since fault downs (map (removing handle) ids) old new (Err cause)
   remove_stop {A} since_more {handle} {k} {id} {ids} {now} {new} cause is split before asked =
       let all : map (removing handle) (take k ids) ++ removing handle id ∷ map (removing handle) split.rest ≡ map (removing handle) ids =
       cc (map-append (removing handle) (take k ids) (id ∷ split.rest)) in
@@ -390,7 +390,7 @@ module _ {L : Type 0} {talk : L → Option Talk} {since : L → L → Type 0} {f
   pub cleaned_stop : {A B : Type 0} (since_more : (a b c : L) → since a b → since b c → since a c) {handle here : ℕ} {ids listed : List ℕ} {done : A}
       {now new : SessionValue L} (cause : SessionFault)
       → here ≡ handle → listed ≡ ids → Asks talk since fault downs (map (removing handle) listed) old now (Ok done)
-      → Asked talk since fault downs (cleaning here) now new → Asks {A = B} talk since fault downs (purge_writes handle ids) old new (Err cause)
+      → AsksOne talk since fault downs (cleaning here) now new → Asks {A = B} talk since fault downs (purge_writes handle ids) old new (Err cause)
   cleaned_stop since_more {handle} {ids} {listed} {done} {now} {new} cause is same asks asked =
       asks_then talk since fault downs since_more (map (removing handle) ids) (cleaning handle ∷ resetting handle ∷ []) old now new (Err cause)
       (rw (← same) (all_said talk since fault downs (map (removing handle) listed) old now done asks))
@@ -400,8 +400,8 @@ module _ {L : Type 0} {talk : L → Option Talk} {since : L → L → Type 0} {f
   pub purged : {A B : Type 0} (since_more : (a b c : L) → since a b → since b c → since a c) {handle here there : ℕ} {ids listed : List ℕ} {done : A}
       {now next new : SessionValue L} (said : Result B SessionFault) {answer : Result B SessionFault}
       → here ≡ handle → there ≡ here → listed ≡ ids → Asks talk since fault downs (map (removing handle) listed) old now (Ok done) → fault next.link ≡ None
-      → Asked talk since fault downs (cleaning here) now next → answer ≡ answer_by (fault new.link) said
-      → Asked talk since fault downs (resetting there) next new → Asks talk since fault downs (purge_writes handle ids) old new answer
+      → AsksOne talk since fault downs (cleaning here) now next → answer ≡ answer_by (fault new.link) said
+      → AsksOne talk since fault downs (resetting there) next new → Asks talk since fault downs (purge_writes handle ids) old new answer
   purged since_more {handle} {ids} {listed} {done} {now} {next} {new} said {answer} is then_is same asks none cleans answers resets =
       asks_then talk since fault downs since_more (map (removing handle) ids) (cleaning handle ∷ resetting handle ∷ []) old now new answer
       (rw (← same) (all_said talk since fault downs (map (removing handle) listed) old now done asks))

@@ -7,7 +7,7 @@ use Rattle.dlp_replies.specs.ReplyValues.{ReplyValue}
 use Rattle.dlp_replies.specs.declared.fault.ReplyFault.{ReplyFault}
 use Rattle.palm_device.specs.Devices.{Device}
 use Rattle.dlp_commands.specs.DeviceSteps.{outcome, tried}
-use Rattle.dlp_commands.specs.Reached.{Tried, reads as reached}
+use Rattle.dlp_commands.specs.Reached.{Trial, reads as reached}
 use Rattle.dlp_commands.specs.Talks.{Talk}
 use Rattle.dlp_commands.specs.declared.link.LinkFault.{LinkFault}
 use Rattle.dlp_commands.specs.declared.reading.Reading.{Reading}
@@ -18,7 +18,7 @@ use Rattle.desktop_session.specs.Answers.{answer_by, count_of, said_in}
 use Rattle.desktop_session.specs.Requests.{counting, reading_at}
 use Rattle.desktop_session.specs.Says.{grown, said, saying, sent}
 use Rattle.desktop_session.specs.Sessions.{SessionValue}
-use Rattle.desktop_session.specs.Stops.{Asked}
+use Rattle.desktop_session.specs.Stops.{AsksOne}
 use Rattle.desktop_session.specs.Tellings.{device_after}
 use Rattle.desktop_session.proofs.TellLaws.{IfDone, done_then, said_device}
 use Rattle.slow_mirror.specs.Asks.{Asks}
@@ -33,7 +33,7 @@ use Rattle.std.proofs.lemmas.Bool.Decides.{nat_tests}
 abbrev pub Same : Device → Device × ReplyValue → Type 0
 Same device done = done.0 ≡ device
 
-pub outcome_same : {device : Device} (number : ℕ) (r : Tried) → IfDone (Same device) r → (outcome device number r).1 ≡ device
+pub outcome_same : {device : Device} (number : ℕ) (r : Trial) → IfDone (Same device) r → (outcome device number r).1 ≡ device
 outcome_same number r same = search (rules)
 
 reached_keeps : (device : Device) (handle : ℕ) (asked : Reading) → IfDone (Same device) (reached device handle asked)
@@ -161,7 +161,7 @@ module _ {L : Type 0} {talk : L → Option Talk} {since : L → L → Type 0} {f
   read_none itself handle = search (rules, reads_none, none_said)
 
   pub read_on : (since_more : (a b c : L) → since a b → since b c → since a c) {handle here : ℕ} (k : ℕ) {now new : SessionValue L} → here ≡ handle
-      → fault new.link ≡ None → SoFar talk since fault downs (reads handle k) old now → Asked talk since fault downs (reading_at here k) now new
+      → fault new.link ≡ None → SoFar talk since fault downs (reads handle k) old now → AsksOne talk since fault downs (reading_at here k) now new
       → SoFar talk since fault downs (reads handle (k + 1)) old new
   read_on since_more {handle} k {now} {new} is none before asked =
       rw (reads_next handle k) (said_on since_more none before
@@ -175,7 +175,7 @@ module _ {L : Type 0} {talk : L → Option Talk} {since : L → L → Type 0} {f
 
   pub read_stop : {A : Type 0} (since_more : (a b c : L) → since a b → since b c → since a c) {handle here : ℕ} (k count : ℕ) {now new : SessionValue L}
       (cause : SessionFault)
-      → here ≡ handle → k < count → SoFar talk since fault downs (reads handle k) old now → Asked talk since fault downs (reading_at here k) now new
+      → here ≡ handle → k < count → SoFar talk since fault downs (reads handle k) old now → AsksOne talk since fault downs (reading_at here k) now new
       → Asks {A = A} talk since fault downs (reads handle count) old new (Err cause)
   read_stop {A} since_more {handle} k count {now} {new} cause is below before asked =
       let left = reads_left handle (k + 1) count (omega arith) in
@@ -205,7 +205,7 @@ module _ {L : Type 0} {talk : L → Option Talk} {since : L → L → Type 0} {f
   pub whole_asked : {A : Type 0} (since_more : (a b c : L) → since a b → since b c → since a c) {handle here count : ℕ} {now new : SessionValue L}
       {answer : Result A SessionFault}
       → here ≡ handle → Ok count ≡ answer_by (fault now.link) (said_in 0x2B count_of (reply_at 0x2B now.reply))
-      → Asked talk since fault downs (counting handle) old now → Asks talk since fault downs (reads here count) now new answer
+      → AsksOne talk since fault downs (counting handle) old now → Asks talk since fault downs (reads here count) now new answer
       → Asks talk since fault downs (slow_reads handle (entries_of (talk old.link) handle)) old new answer
   whole_asked since_more {handle} {count} {now} {new} {answer} is said asked asks =
       let from = count_from (fault now.link) (reply_at 0x2B now.reply) said in

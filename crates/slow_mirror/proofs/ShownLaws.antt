@@ -27,7 +27,7 @@ use Rattle.conduit_rules.proofs.ByIdLaws.{each_below-same}
 use Rattle.desktop_session.specs.Acts.{acted}
 use Rattle.desktop_session.specs.Lent.{lent_kind, record_lent}
 use Rattle.desktop_session.specs.Requests.{counting, reading_at}
-use Rattle.desktop_session.specs.Tellings.{IsProper, told}
+use Rattle.desktop_session.specs.Tellings.{IsTellable, told}
 use Rattle.desktop_session.proofs.LentLaws.{lent_at}
 use Rattle.desktop_session.proofs.RequestFits.{count_fits}
 use Rattle.desktop_session.proofs.RowLaws.{count_row}
@@ -73,7 +73,7 @@ take_all : (records : List Record) → take (length records) records ≡ records
 take_all [] = refl
 take_all (r ∷ records) = cc (take_all records)
 
-one_seen : {device : Device} (handle place : ℕ) {base : Base} {item : Record} → IsProper device → handle < 2 ^ 8 → place < 2 ^ 16
+one_seen : {device : Device} (handle place : ℕ) {base : Base} {item : Record} → IsTellable device → handle < 2 ^ 8 → place < 2 ^ 16
     → base_at device handle ≡ Some base → on_records base.database ≡ true → slice_get base.database.records place ≡ Some item
     → seen_in (reply_at 0x20 (acted (reading_at handle place) device).0) ≡ slow_seen item ∷ []
 one_seen {device} handle place {base} {item} proper byte half is records there =
@@ -81,7 +81,7 @@ one_seen {device} handle place {base} {item} proper byte half is records there =
     (lent_at device handle place base item proper byte half is records there)).1
     ∙ ap (λ (s : Seen). s ∷ []) (lent_is_seen item)
 
-seen_so_far : {device : Device} (handle k : ℕ) {base : Base} → IsProper device → handle < 2 ^ 8 → base_at device handle ≡ Some base
+seen_so_far : {device : Device} (handle k : ℕ) {base : Base} → IsTellable device → handle < 2 ^ 8 → base_at device handle ≡ Some base
     → on_records base.database ≡ true → length base.database.records < 2 ^ 16 → k ≤ length base.database.records
     → seen_below device handle k ≡ map slow_seen (take k base.database.records)
 unfolding seen_below
@@ -108,7 +108,7 @@ told_count : (device : Device) (handle : ℕ) {base : Base} → base_at device h
 unfolding told
 told_count device handle is = cc (count_row device handle is)
 
-pub records_told : (device : Device) (handle : ℕ) (base : Base) → IsProper device → handle < 2 ^ 8 → base_at device handle ≡ Some base
+pub records_told : (device : Device) (handle : ℕ) (base : Base) → IsTellable device → handle < 2 ^ 8 → base_at device handle ≡ Some base
     → on_records base.database ≡ true → entries_told device handle ≡ length base.database.records
 records_told device handle base proper byte is records =
     grind (arith, common_steps, nat_tests, acted_reads, act_sayable, count_fits handle byte, told_count device handle is, records_counted)
@@ -124,7 +124,7 @@ led_to : (device : Device) {base : Base} (o : Option Opened) → option_and_then
     → database_of base.opened.name device.databases ≡ Some base.database
 led_to device o is = grind (arith, common_steps, nat_tests, found_at)
 
-base_bounded : {device : Device} (handle : ℕ) {base : Base} → IsProper device → base_at device handle ≡ Some base → IsBoundedDatabase base.database
+base_bounded : {device : Device} (handle : ℕ) {base : Base} → IsTellable device → base_at device handle ≡ Some base → IsBoundedDatabase base.database
 base_bounded {device} handle {base} proper is =
     AllByRecursion-database_of IsBoundedDatabase base.opened.name device.databases base.database proper.bounded.databases
     (led_to device (opened_at handle device.handles) is)
@@ -138,7 +138,7 @@ first-mapped i (r ∷ records) = grind (arith, common_steps, nat_tests, first-ma
 ordered-slow : (records : List Record) → ordered (map slow_seen records) ≡ slow_view records
 ordered-slow records = grind (arith, common_steps, nat_tests, each_below-same, first-mapped)
 
-pub slow_shown-is : (device : Device) (handle : ℕ) (base : Base) → IsProper device → handle < 2 ^ 8 → base_at device handle ≡ Some base
+pub slow_shown-is : (device : Device) (handle : ℕ) (base : Base) → IsTellable device → handle < 2 ^ 8 → base_at device handle ≡ Some base
     → on_records base.database ≡ true → slow_shown device handle ≡ slow_view base.database.records
 slow_shown-is device handle base proper byte is records =
     let bounded = base_bounded handle proper is in

@@ -5,7 +5,7 @@ ghost use Rattle.conduit_rules.specs.ById.{id_bound};
 ghost use Rattle.desktop_session.specs.Lasts.{IsByLastReply};
 ghost use Rattle.desktop_session.specs.Lists.{HasCause};
 ghost use Rattle.desktop_session.specs.Requests.{reading_at};
-ghost use Rattle.desktop_session.specs.Stops.{Asked};
+ghost use Rattle.desktop_session.specs.Stops.{AsksOne};
 ghost use Rattle.slow_mirror.specs.Asks.{Asks};
 ghost use Rattle.slow_mirror.specs.Entries.{AreBounded, ordered, seen_in};
 ghost use Rattle.slow_mirror.specs.Reads.{entries_of, reads, seen_below, slow_reads, slow_shown};
@@ -22,7 +22,7 @@ use std::alloc::Global;
 fn read_at<L: Link>(alloc: Global, db: &mut OpenDb<'_, L>, index: u16) -> Result<Seen, SessionFault>
     ensures same_reference { db.new.linked.ghost_name ≡ db.old.linked.ghost_name }
     ensures same_handle { db.new.handle ≡ db.old.handle }
-    ensures asked { Asked L.talk L.since L.fault L.downs (reading_at db.old.handle index)
+    ensures asked { AsksOne L.talk L.since L.fault L.downs (reading_at db.old.handle index)
         db.old.linked.now db.new.linked.now }
     ensures none { OnOk result (L.fault db.new.linked.now.link ≡ None) }
     ensures seen { IfOk result (λ seen. seen_in (reply_at 0x20 db.new.linked.now.reply)

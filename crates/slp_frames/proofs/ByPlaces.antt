@@ -5,20 +5,20 @@ use Rattle.std.proofs.Common.{◌≡◌, ℕ, zero, suc, ◌+◌, ◌-◌, ◌�
 use Rattle.std.proofs.lemmas.List.{drop-drop}
 use Rattle.std.proofs.lemmas.Bool.{cases_eq, cases_order}
 use Rattle.slp_frames.specs.PacketText.{PacketValue, text_len}
-use Rattle.slp_frames.specs.Places.{Begins, IsOpen, Located, IsNext, IsScanFrom, IsDead}
+use Rattle.slp_frames.specs.Places.{Begins, IsOpen, PlacedPacket, IsNext, IsScanFrom, IsDead}
 use Rattle.slp_frames.specs.PacketScan.{Place, Whole, Open, Dead, place_of, with_later, scan_behind, scan}
 use Rattle.slp_frames.proofs.PlaceLaws.{length-behind, not_packet_and_open, place_of-packet, packet_stands, open_stands, dead_stands}
 use Rattle.slp_frames.proofs.PlaceTests.{place_of_short}
 
 -- ---- from an open and from a dead place on
 
-none_from_open : {bytes : List ℕ} {from : ℕ} → IsOpen (drop from bytes) → (found : Located) → IsNext bytes from found → ⊥
+none_from_open : {bytes : List ℕ} {from : ℕ} → IsOpen (drop from bytes) → (found : PlacedPacket) → IsNext bytes from found → ⊥
 none_from_open {bytes} {from} opens found next = elim (cases_eq from found.place) [
   | inl same ↦ not_packet_and_open (subst (λ (place : ℕ). Begins found.packet (drop place bytes)) (sym same) next.text) opens
   | inr apart ↦ (next.dead from (omega arith) (omega (arith, next.after, apart))).not_open opens
 ]
 
-before_dead : {bytes : List ℕ} (from : ℕ) → IsDead (drop from bytes) → {found : Located} → IsNext bytes (from + 1) found → IsNext bytes from found
+before_dead : {bytes : List ℕ} (from : ℕ) → IsDead (drop from bytes) → {found : PlacedPacket} → IsNext bytes (from + 1) found → IsNext bytes from found
 before_dead {bytes} from dead {found} next = record { after = omega (arith, next.after); text = next.text; dead = each } where
   each : (place : ℕ) → from ≤ place → place < found.place → IsDead (drop place bytes)
   each place low high = elim (cases_eq from place) [
@@ -26,23 +26,23 @@ before_dead {bytes} from dead {found} next = record { after = omega (arith, next
     | inr apart ↦ next.dead place (omega arith) high
   ]
 
-past_dead : {bytes : List ℕ} {from : ℕ} → IsDead (drop from bytes) → {found : Located} → IsNext bytes from found → IsNext bytes (from + 1) found
+past_dead : {bytes : List ℕ} {from : ℕ} → IsDead (drop from bytes) → {found : PlacedPacket} → IsNext bytes from found → IsNext bytes (from + 1) found
 past_dead {bytes} {from} dead {found} next = elim (cases_eq from found.place) [
   | inl same ↦ absurd (dead.no_packet found.packet (subst (λ (place : ℕ). Begins found.packet (drop place bytes)) (sym same) next.text))
   | inr apart ↦ record { after = omega (arith, next.after, apart); text = next.text; dead = λ place low high. next.dead place (omega arith) high }
 ]
 
-from_dead : (bytes : List ℕ) (from : ℕ) (found : List Located) → IsDead (drop from bytes) → IsScanFrom bytes (from + 1) found → IsScanFrom bytes from found
+from_dead : (bytes : List ℕ) (from : ℕ) (found : List PlacedPacket) → IsDead (drop from bytes) → IsScanFrom bytes (from + 1) found → IsScanFrom bytes from found
 from_dead bytes from [] dead none = λ found next. none found (past_dead dead next)
 from_dead bytes from (found ∷ later) dead are = (before_dead from dead are.0, are.1)
 
 -- ---- there are such packets, and the scan has them
 
-abbrev packets_of : List Located → List PacketValue
-packets_of found = map (λ (f : Located). f.packet) found
+abbrev packets_of : List PlacedPacket → List PacketValue
+packets_of found = map (λ (f : PlacedPacket). f.packet) found
 
 abbrev Scanned : List ℕ → ℕ → List PacketValue → Type 0
-Scanned bytes from packets = (found : List Located) × IsScanFrom bytes from found × (packets_of found ≡ packets)
+Scanned bytes from packets = (found : List PlacedPacket) × IsScanFrom bytes from found × (packets_of found ≡ packets)
 
 at_place : (bytes : List ℕ) (from : ℕ) {byte : ℕ} {rest : List ℕ} (place : Place) → drop from bytes ≡ byte ∷ rest → place_of (byte ∷ rest) ≡ place
     → ((count : ℕ) → count ≤ length rest → Scanned bytes (from + 1 + count) (scan_behind count rest))
@@ -91,7 +91,7 @@ are_scanned bytes =
 
 -- ---- and no others are
 
-next_is_one : {bytes : List ℕ} {from : ℕ} {x y : Located} → IsNext bytes from x → IsNext bytes from y → x ≡ y
+next_is_one : {bytes : List ℕ} {from : ℕ} {x y : PlacedPacket} → IsNext bytes from x → IsNext bytes from y → x ≡ y
 next_is_one {bytes} {x} {y} x_next y_next = elim (cases_order x.place y.place) [
   | inl same ↦
       let first = place_of-packet x.packet (drop x.place bytes) x_next.text in
@@ -102,7 +102,7 @@ next_is_one {bytes} {x} {y} x_next y_next = elim (cases_order x.place y.place) [
   | inr (inr behind) ↦ absurd ((x_next.dead y.place y_next.after behind).no_packet y.packet y_next.text)
 ]
 
-pub same_places : (bytes : List ℕ) (from : ℕ) (xs ys : List Located) → IsScanFrom bytes from xs → IsScanFrom bytes from ys → xs ≡ ys
+pub same_places : (bytes : List ℕ) (from : ℕ) (xs ys : List PlacedPacket) → IsScanFrom bytes from xs → IsScanFrom bytes from ys → xs ≡ ys
 same_places bytes from [] [] x_are y_are = refl
 same_places bytes from [] (y ∷ ys) x_are y_are = absurd (x_are y y_are.0)
 same_places bytes from (x ∷ xs) [] x_are y_are = absurd (y_are x x_are.0)

@@ -37,24 +37,24 @@ pub record IsDead (bytes : List ℕ) : Type 0 where
   pub not_open : ¬ IsOpen bytes
 
 -- a packet, and the place where its text begins
-pub record Located : Type 0 where
+pub record PlacedPacket : Type 0 where
   pub place : ℕ
   pub packet : PacketValue
 
 -- the next packet at or after the place `from`: every place before it is dead
-pub record IsNext (bytes : List ℕ) (from : ℕ) (found : Located) : Type 0 where
+pub record IsNext (bytes : List ℕ) (from : ℕ) (found : PlacedPacket) : Type 0 where
   pub after : from ≤ found.place
   pub text : Begins found.packet (drop found.place bytes)
   pub dead : (place : ℕ) → from ≤ place → place < found.place → IsDead (drop place bytes)
 
 -- all packets from the place `from` on: each is the next after the end of the one before it, and
 -- after the last there is none
-abbrev pub IsScanFrom : List ℕ → ℕ → List Located → Type 0
-IsScanFrom bytes from [] = (found : Located) → ¬ IsNext bytes from found
+abbrev pub IsScanFrom : List ℕ → ℕ → List PlacedPacket → Type 0
+IsScanFrom bytes from [] = (found : PlacedPacket) → ¬ IsNext bytes from found
 IsScanFrom bytes from (found ∷ later) =
     IsNext bytes from found
     × IsScanFrom bytes (found.place + text_len (length found.packet.body)) later
 
 -- the packets that these bytes hold, with their places
-abbrev pub IsScan : List ℕ → List Located → Type 0
+abbrev pub IsScan : List ℕ → List PlacedPacket → Type 0
 IsScan bytes found = IsScanFrom bytes 0 found

@@ -2,7 +2,7 @@
 //! law.
 ghost use Rattle.std.specs.Prelude.{◌≡◌, ◌++◌, List, ℕ, [], ◌∷◌, ◌<◌, length, map};
 ghost use Rattle.slp_frames.specs.PacketText.{PacketValue, packet_text, HasText};
-ghost use Rattle.slp_frames.specs.Places.{IsDead, Located, IsScan};
+ghost use Rattle.slp_frames.specs.Places.{IsDead, PlacedPacket, IsScan};
 ghost use Rattle.slp_frames.specs.PacketScan.{scan};
 
 /// The text of a packet determines it, whatever follows.
@@ -29,9 +29,9 @@ pub fn scan_begins_longer_scan()
 
 /// The packets of the scan are those that stand next to each other by places.
 pub fn scan_is_by_places()
-    ensures there { (bytes : List ℕ) → (found : List Located) × IsScan bytes found
+    ensures there { (bytes : List ℕ) → (found : List PlacedPacket) × IsScan bytes found
         × (map (λ f. f.packet) found ≡ scan bytes) }
-    ensures only { (bytes : List ℕ) (found others : List Located) → IsScan bytes found
+    ensures only { (bytes : List ℕ) (found others : List PlacedPacket) → IsScan bytes found
         → IsScan bytes others → found ≡ others }
 {}
 

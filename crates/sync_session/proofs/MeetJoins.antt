@@ -14,10 +14,10 @@ use Rattle.pdb_values.specs.declared.user.UserInfo.{UserInfo}
 use Rattle.dlp_replies.specs.ReplyReading.{reply_at}
 use Rattle.palm_device.specs.Devices.{Device}
 use Rattle.session_parts.proofs.LinkWords.{LinkFault, Talk, Halted, SessionFault, acted, no_more, said_in, user_of, listing, reading_user, said, saying}
-use Rattle.session_parts.proofs.LinkWords.{IsProper, device_after, told}
+use Rattle.session_parts.proofs.LinkWords.{IsTellable, device_after, told}
 use Rattle.dlp_commands.specs.DatabaseFunctions.{listed}
 use Rattle.dlp_commands.specs.DeviceSteps.{tried}
-use Rattle.desktop_session.specs.Greetings.{Greeted, begun_by, user_by}
+use Rattle.desktop_session.specs.Greetings.{AnswersGreeting, begun_by, user_by}
 use Rattle.desktop_session.specs.Lists.{has_more, heads_listed, list_reply, listings}
 use Rattle.desktop_session.proofs.RequestFits.{user_fits}
 use Rattle.desktop_session.proofs.TellLaws.{act_sayable, acted_reads}
@@ -50,7 +50,7 @@ listings_lead count all few =
     subst (λ n. Leads (listings count) (listings n)) (let same : count + (all - count) ≡ all = omega arith in same) (listings-more count (all - count))
 
 -- no more requests than databases, or one
-few_lists : (device : Device) (count : ℕ) → IsProper device → count ≤ 65536
+few_lists : (device : Device) (count : ℕ) → IsTellable device → count ≤ 65536
     → ((k : ℕ) → k + 1 < count → has_more (list_reply device k) ≡ true) → count ≤ max 1 (length device.databases)
 few_lists device zero proper few more = omega arith
 few_lists device (suc zero) proper few more = omega arith
@@ -103,20 +103,20 @@ jobs_meet meeting heads shelves agree wishes heads_are shelves_are same asked =
 
 -- ---- the user
 
-pub user_told : (device : Device) → IsProper device → said_in 0x10 user_of (reply_at 0x10 (acted reading_user device).0) ≡ Ok device.user
+pub user_told : (device : Device) → IsTellable device → said_in 0x10 user_of (reply_at 0x10 (acted reading_user device).0) ≡ Ok device.user
 unfolding told tried
 user_told device proper = ap (said_in 0x10 user_of) (acted_reads reading_user device proper (act_sayable reading_user.asks device user_fits refl))
 
 -- and so its first reply
-pub user_read : (users : List ℕ) (add : Bool) (device : Device) (told : Option Talk) (answer : Result UserInfo SessionFault) → IsProper device
-    → Tells device told → (said : Greeted users add told None answer) → said_in 0x10 user_of (reply_at 0x10 said.first) ≡ Ok device.user
+pub user_read : (users : List ℕ) (add : Bool) (device : Device) (told : Option Talk) (answer : Result UserInfo SessionFault) → IsTellable device
+    → Tells device told → (said : AnswersGreeting users add told None answer) → said_in 0x10 user_of (reply_at 0x10 said.first) ≡ Ok device.user
 user_read users add device told answer proper tells said =
     let here : IfSome (Some tells.talk) (λ talk. said.first ≡ (acted reading_user talk.device).0) = rw tells.is at (said.told refl) in
     ap (λ b. said_in 0x10 user_of (reply_at 0x10 b)) (here ∙ ap (λ d. (acted reading_user d).0) tells.same) ∙ user_told device proper
 
 -- a greeting that was answered tells the handheld's user
-pub greeted_user : (users : List ℕ) (add : Bool) (device : Device) (told : Option Talk) (known : UserInfo) → IsProper device → Tells device told
-    → Greeted users add told None (Ok known) → known ≡ device.user
+pub greeted_user : (users : List ℕ) (add : Bool) (device : Device) (told : Option Talk) (known : UserInfo) → IsTellable device → Tells device told
+    → AnswersGreeting users add told None (Ok known) → known ≡ device.user
 greeted_user users add device told known proper tells said =
     let second : Result (Unit {0}) SessionFault = said_in 0x2E no_more (reply_at 0x2E said.second) in
     (seated_with users device.user known (slot_for users device.user.user add) second

@@ -11,7 +11,7 @@ use Rattle.std.specs.Str.{bytes_eq}
 use Rattle.pdb_values.specs.NamedDatabases.{database_of}
 use Rattle.pdb_values.proofs.NamedLaws.{bytes_eq-is}
 use Rattle.desk_store.specs.Desks.{all_rows}
-use Rattle.desktop_session.specs.Tellings.{IsProper}
+use Rattle.desktop_session.specs.Tellings.{IsTellable}
 use Rattle.sync_session.proofs.MeetingWords.{DatabaseValue, Job, Meeting, Planned, Skip, Task, names, slot_of, task_of, tasks, active, skip_of}
 use Rattle.sync_session.proofs.MeetingWords.{AreEachPlannedFor, ArePlannedFor}
 use Rattle.session_plan.specs.Limits.{first_behind, first_over, sizes_of, with_one}
@@ -147,7 +147,7 @@ module _ (meeting : Meeting) where
       by true is none rest = absurd cc
       by false is none rest = step t.handheld (room is) (rest none)
 
-  module _ (proper : IsProper meeting.device) where
+  module _ (proper : IsTellable meeting.device) where
     pub active-few : first_over meeting ≡ None → length (active meeting) ≤ 200
     unfolding first_over active tasks
     active-few none =

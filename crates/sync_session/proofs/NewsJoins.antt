@@ -17,7 +17,7 @@ use Rattle.conduit_rules.specs.Choices.{Sides, choice_for, fate_for, loose_for, 
 use Rattle.conduit_rules.specs.Contents.{count_of}
 use Rattle.conduit_rules.specs.Fates.{fate_under}
 use Rattle.conduit_rules.specs.News.{unpaired}
-use Rattle.conduit_rules.specs.States.{Held, live, no_base}
+use Rattle.conduit_rules.specs.States.{SideState, live, no_base}
 use Rattle.conduit_rules.specs.declared.action.Action.{Action}
 use Rattle.conduit_rules.specs.declared.action.Action.TheVariants.{Sync, Handheld, Desktop}
 use Rattle.conduit_rules.proofs.ContentLaws.{same_content-same}
@@ -43,7 +43,7 @@ use Rattle.sync_session.specs.Reads.{opened}
 -- ---- replacements have ids
 
 -- nothing is written under id 0
-rep_zero : (a : Action) (h d : Held) → replacement (fate_under a no_base h d).keep h ≡ None
+rep_zero : (a : Action) (h d : SideState) → replacement (fate_under a no_base h d).keep h ≡ None
 rep_zero Sync (live c) d = ap (λ b. let none : Option ContentValue = None in if b then none else Some c) (same_content-same c)
 rep_zero Handheld (live c) d = ap (λ b. let none : Option ContentValue = None in if b then none else Some c) (same_content-same c)
 rep_zero Desktop (live c) d = refl
@@ -93,7 +93,7 @@ none_added a s loose none =
     ∙ flat_map-same (λ i. option_to_list (fate_for a s i).news) (λ i. []) (ids_below id_bound) each ∙ flat_map-none (ids_below id_bound) in
     ap (unpaired (λ c. count_of c (partners_for a s))) offers
 
-unbased_news : (a : Action) (h d : Held) → (fate_under a no_base h d).news ≡ None
+unbased_news : (a : Action) (h d : SideState) → (fate_under a no_base h d).news ≡ None
 unbased_news Sync h d = refl
 unbased_news Handheld h d = refl
 unbased_news Desktop h d = refl

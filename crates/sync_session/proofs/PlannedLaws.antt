@@ -21,14 +21,14 @@ use Rattle.palm_device.proofs.BoundLaws.{length-filter}
 use Rattle.dlp_commands.specs.DatabaseFunctions.{listed}
 use Rattle.conduit_rules.specs.ById.{each_below, each_id, id_bound, with_id}
 use Rattle.conduit_rules.specs.Contents.{same_content}
-use Rattle.conduit_rules.specs.States.{Held, archived, first, live, nothing}
+use Rattle.conduit_rules.specs.States.{SideState, archived, first, live, nothing}
 use Rattle.conduit_rules.specs.Views.{fast_seen, fast_view, slow_seen, slow_view}
 use Rattle.conduit_rules.specs.declared.view.Seen.{Seen}
 use Rattle.conduit_rules.proofs.TwiceLaws.{length-each_below, length-kept_twice}
 use Rattle.conduit_rules.proofs.ViewLaws.{fast_id}
 use Rattle.record_merge.specs.Merging.{new_under, one_copy_behind}
 use Rattle.record_merge.proofs.StopLaws.{within}
-use Rattle.desktop_session.specs.Tellings.{IsProper}
+use Rattle.desktop_session.specs.Tellings.{IsTellable}
 use Rattle.desk_store.specs.Desks.{all_rows}
 use Rattle.session_parts.specs.declared.report.Did.TheVariants.{Synced}
 use Rattle.session_plan.specs.declared.sizes.Sizes.{Sizes}
@@ -127,7 +127,7 @@ all_below : (records : List Record) → AllByRecursion IsBoundedRecord records �
 all_below [] each = tt
 all_below (r ∷ records) each = (within r.id each.0.id, all_below records each.1)
 
-sound_records : (device : Device) (name : List ℕ) → IsProper device → AreSoundRecords (records_of (database_of name device.databases))
+sound_records : (device : Device) (name : List ℕ) → IsTellable device → AreSoundRecords (records_of (database_of name device.databases))
 sound_records device name proper = by (database_of name device.databases) refl
   where
     by : (found : Option DatabaseValue) → database_of name device.databases ≡ found → AreSoundRecords (records_of found)
@@ -226,7 +226,7 @@ fits sizes none =
 told_small : (n m : ℕ) → n ≡ m → n ≤ 65535 → told n ≡ m
 told_small n m is few = min-eq_left (omega (arith, few)) ∙ is
 
-replaced_kept : (i : ℕ) (keep : Option ContentValue) (h : Held) → length (with_id i (replacement keep h)) ≤ length (with_id i keep)
+replaced_kept : (i : ℕ) (keep : Option ContentValue) (h : SideState) → length (with_id i (replacement keep h)) ≤ length (with_id i keep)
 replaced_kept i None h = omega arith
 replaced_kept i (Some c) nothing = omega arith
 replaced_kept i (Some c) (live x) = by (same_content x c)
@@ -241,7 +241,7 @@ twice_few : (meeting : Meeting) (task : Task) → twice_count meeting task ≤ l
 unfolding choice
 twice_few meeting task = length-kept_twice (action_or_sync task.action) (sides meeting task)
 
-purged_gone : (i : ℕ) (keep : Option ContentValue) (h : Held) → length (purged_at keep h i) ≤ length (with_id i (lost keep h))
+purged_gone : (i : ℕ) (keep : Option ContentValue) (h : SideState) → length (purged_at keep h i) ≤ length (with_id i (lost keep h))
 purged_gone i None nothing = omega arith
 purged_gone i None (live x) = omega arith
 purged_gone i None (archived x) = omega arith
@@ -277,7 +277,7 @@ under_by s t over name skipped left same none bare =
 
 -- ---- the planned databases of a meeting
 
-module _ (meeting : Meeting) (proper : IsProper meeting.device) where
+module _ (meeting : Meeting) (proper : IsTellable meeting.device) where
   -- a planned database of a meeting has the sizes of its task
   sizes_are : (name : List ℕ) (one : Planned) (handhelds desktops : ℕ)
       → IsPlannedFor meeting (task_of meeting name) one → skip_of (task_of meeting name) ≡ None
@@ -336,7 +336,7 @@ module _ (meeting : Meeting) (proper : IsProper meeting.device) where
   counts_are name one handhelds desktops for none under =
       let task : Task = task_of meeting name in
       let keep : ℕ → Option ContentValue = (choice meeting task).keep in
-      let held : ℕ → Held = seen_held meeting task in
+      let held : ℕ → SideState = seen_held meeting task in
       let same : SameLists meeting task one = same_lists meeting task one (sound_records meeting.device name proper) for none in
       let fit : Fits (sizes_planned (slot_of meeting).shelves handhelds desktops one) = fits _ under in
       let records = fit.records in let rows = fit.rows in let base = fit.base in let archive = fit.archive in

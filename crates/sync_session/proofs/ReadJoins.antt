@@ -23,9 +23,9 @@ use Rattle.dlp_commands.specs.DatabaseFunctions.{listed}
 use Rattle.dlp_commands.specs.DeviceSteps.{tried}
 use Rattle.dlp_commands.specs.Holding.{on_records}
 use Rattle.dlp_commands.specs.declared.reading.Reading.TheVariants as reading
-use Rattle.session_parts.proofs.LinkWords.{Talk, Act, acted, counting, opening, reading_next, reading_of, saying, IsProper, device_after}
+use Rattle.session_parts.proofs.LinkWords.{Talk, Act, acted, counting, opening, reading_next, reading_of, saying, IsTellable, device_after}
 use Rattle.conduit_rules.specs.ById.{each_id, ids_below, id_bound}
-use Rattle.conduit_rules.specs.States.{Based, no_base, row, gone, base_at as row_at, first, is_row}
+use Rattle.conduit_rules.specs.States.{BaseState, no_base, row, gone, base_at as row_at, first, is_row}
 use Rattle.conduit_rules.specs.Views.{fast_view, slow_view}
 use Rattle.conduit_rules.specs.declared.action.Action.{Action}
 use Rattle.conduit_rules.specs.declared.action.Action.TheVariants.{Sync, Handheld, Desktop}
@@ -117,7 +117,7 @@ job-fast meeting task =
 
 -- ---- what a reading asks for
 
-other-reads : (id : ℕ) (b : Based) → other_reads 1 id b ≡ (if is_row b then [] else reading_of 1 id ∷ [])
+other-reads : (id : ℕ) (b : BaseState) → other_reads 1 id b ≡ (if is_row b then [] else reading_of 1 id ∷ [])
 other-reads id no_base = refl
 other-reads id (row content) = refl
 other-reads id (gone content) = refl
@@ -227,7 +227,7 @@ module _ (meeting : Meeting) (name : List ℕ) where
         acted-opening : (acted (opening name) talk.device).1 ≡ here
         acted-opening = ap (λ d. (acted (opening name) d).1) same ∙ opens_does meeting.device name kept.can
 
-        proper_here : IsProper here
+        proper_here : IsTellable here
         proper_here = opened_proper meeting.device name rests.proper kept.named kept.can
 
         base_at-here : base_at here 1 ≡ Some base

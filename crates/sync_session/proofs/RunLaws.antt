@@ -8,12 +8,12 @@ use Rattle.sync_session.proofs.MeetingWords.{DbHead, AreInOrder, marks_of, DeskV
 use Rattle.sync_session.proofs.MeetingWords.{before_writes, greeting, listing_all, Meeting, meeting_of, slot_of, agrees}
 use Rattle.pdb_values.specs.declared.user.UserInfo.{UserInfo}
 use Rattle.folder_files.specs.Slots.{users_of}
-use Rattle.session_parts.proofs.LinkWords.{LinkFault, Talk, Halted, SessionFault, text, no_more, said_in, user_of, reading_user, IsProper, SessionValue, Does}
+use Rattle.session_parts.proofs.LinkWords.{LinkFault, Talk, Halted, SessionFault, text, no_more, said_in, user_of, reading_user, IsTellable, SessionValue, Does}
 use Rattle.session_parts.proofs.LinkWords.{Stops}
 use Rattle.dlp_commands.specs.declared.link.LinkFault.TheVariants as link
 use Rattle.desk_store.specs.Desks.{all_rows, place_of}
 use Rattle.desktop_session.specs.declared.fault.SessionFault.TheVariants as session
-use Rattle.desktop_session.specs.Greetings.{AsksUser, Greeted, HasSlot, begun_by, user_by, user_with}
+use Rattle.desktop_session.specs.Greetings.{AsksUser, AnswersGreeting, HasSlot, begun_by, user_by, user_with}
 use Rattle.desktop_session.proofs.StopLaws.{fell_none, stops_none}
 use Rattle.dlp_replies.specs.declared.fault.ReplyFault.{ReplyFault}
 use Rattle.dlp_replies.specs.ReplyReading.{reply_at}
@@ -88,7 +88,7 @@ abbrev users_in : Meeting → List ℕ
 users_in meeting = users_of (marks_of meeting.slots)
 
 -- the handheld's user has a slot
-seat_told : (meeting : Meeting) (told : Option Talk) → IsProper meeting.device → Tells meeting.device told
+seat_told : (meeting : Meeting) (told : Option Talk) → IsTellable meeting.device → Tells meeting.device told
     → HasSlot (users_in meeting) meeting.wishes.add_user told → IsOk (seat_of meeting)
 seat_told meeting told proper tells slot = rw (tells.is, tells.same, user_told meeting.device proper) at slot
 
@@ -99,15 +99,15 @@ begun_why talk user (Ok done) read cause same is last = absurd cc
 begun_why talk user (Err other) read cause same is last =
     let here : ◌≡◌ {A = Result (Unit {0}) SessionFault} (Err cause) (said_in 0x2E no_more read) = cc in later_said 0x2E talk None no_more read cause here last
 
-module _ (meeting : Meeting) {told : Option Talk} (proper : IsProper meeting.device) (tells : Tells meeting.device told) where
+module _ (meeting : Meeting) {told : Option Talk} (proper : IsTellable meeting.device) (tells : Tells meeting.device told) where
   -- a greeting that was answered is of a user with a slot
-  seat_greeted : {user : UserInfo} → Greeted (users_in meeting) meeting.wishes.add_user told None (Ok user) → IsOk (seat_of meeting)
+  seat_greeted : {user : UserInfo} → AnswersGreeting (users_in meeting) meeting.wishes.add_user told None (Ok user) → IsOk (seat_of meeting)
   seat_greeted {user} said =
       seat_told meeting told proper tells (greeted_slot (users_in meeting) meeting.wishes.add_user told user said)
 
   module _ (cause : SessionFault) {why : SessionFault} (unseated : seat_of meeting ≡ Err why) where
     -- a user without a slot is the cause, unless the link has a fault
-    greeted_for : (fault_now : Option LinkFault) → Greeted (users_in meeting) meeting.wishes.add_user told fault_now (Err cause)
+    greeted_for : (fault_now : Option LinkFault) → AnswersGreeting (users_in meeting) meeting.wishes.add_user told fault_now (Err cause)
         → StopsFor (stop.Session why) (Err (stop.Session cause))
     greeted_for (Some link.Down) said = inr (inl (ap stop.Session (let same : cause ≡ session.Down = let is = said.is in cc in same)))
     greeted_for (Some link.NoMemory) said = inr (inr (ap stop.Session (let same : cause ≡ session.NoMemory = let is = said.is in cc in same)))
@@ -119,7 +119,7 @@ module _ (meeting : Meeting) {told : Option Talk} (proper : IsProper meeting.dev
         ∙ ap (λ r. begun_by r second) unseated in
         inl (ap stop.Session (let same : cause ≡ why = cc in same))
 
-    unmet_for : (fault_now : Option LinkFault) → Greeted (users_in meeting) meeting.wishes.add_user told fault_now (Err cause)
+    unmet_for : (fault_now : Option LinkFault) → AnswersGreeting (users_in meeting) meeting.wishes.add_user told fault_now (Err cause)
         ⊎ IsUnlisted (users_in meeting) meeting.wishes.add_user told fault_now cause
         → StopsFor (stop.Session why) (Err (stop.Session cause))
     unmet_for fault_now (inl said) = greeted_for fault_now said
@@ -252,7 +252,7 @@ module _ {L F : Type 0} (talk : L → Option Talk) (since : L → L → Type 0) 
           rw cause_is (found, alone session.TooManyUsers (ap (user_with (users_in meeting) meeting.device.user) found) none)
 
       greeted_stop : (fault_now : Option LinkFault) → fault new ≡ fault_now
-          → Greeted (users_in meeting) meeting.wishes.add_user (talk old) fault_now (Err cause)
+          → AnswersGreeting (users_in meeting) meeting.wishes.add_user (talk old) fault_now (Err cause)
           → IsStopOf talk fault meeting old new (stop.Session cause)
       greeted_stop (Some now) is said =
           later_stop talk fault meeting old new cause
@@ -265,7 +265,7 @@ module _ {L F : Type 0} (talk : L → Option Talk) (since : L → L → Type 0) 
 
     met_stop : {new : L} (cause : SessionFault)
         → AsksUser talk since fault downs old new ⊎ HasSlot (users_in meeting) meeting.wishes.add_user (talk old)
-        → Greeted (users_in meeting) meeting.wishes.add_user (talk old) (fault new) (Err cause)
+        → AnswersGreeting (users_in meeting) meeting.wishes.add_user (talk old) (fault new) (Err cause)
         ⊎ IsUnlisted (users_in meeting) meeting.wishes.add_user (talk old) (fault new) cause
         → IsByLastReply (talk new) cause → IsStopOf talk fault meeting old new (stop.Session cause)
     met_stop {new} cause asks (inl said) last = greeted_stop cause (λ why is none. (asks_alone is asks).does none) last (fault new) refl said

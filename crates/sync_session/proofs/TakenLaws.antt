@@ -20,7 +20,7 @@ use Rattle.desk_store.proofs.OwnLaws.{each-append}
 use Rattle.session_plan.specs.Archives.{archive_records, entries_of}
 use Rattle.sync_session.specs.Given.{AreDealtTo}
 use Rattle.session_plan.specs.Heads.{rows_head}
-use Rattle.session_plan.specs.Merges.{Merged, archive_of, beside, merged_of, merged_shelves, merged_slot, merged_slots, rows_before, shelve, shelved}
+use Rattle.session_plan.specs.Merges.{DesktopMerge, archive_of, beside, merged_of, merged_shelves, merged_slot, merged_slots, rows_before, shelve, shelved}
 use Rattle.session_plan.specs.Choosing.{add_count}
 use Rattle.session_plan.specs.Takes.{change_from, change_of, change_unless, changes_of, planned_archive, planned_change, rows_begun, taken_slots}
 use Rattle.session_plan.specs.Users.{done_marks}
@@ -54,7 +54,7 @@ change-task meeting name one given is =
     rw (is.job, job-skip meeting task, rows_same meeting.wishes.date task.rows task.handheld)
 
 -- a merge, as a change
-abbrev of_merged : Merged → DbChange
+abbrev of_merged : DesktopMerge → DbChange
 of_merged merged = record { rows = merged.rows; base = merged.base; archive = merged.archive }
 
 shelved_by : (rows base : DatabaseValue) (archive : Option DatabaseValue) (shelves : ShelvesValue)
@@ -79,7 +79,7 @@ change-merged : (meeting : Meeting) (task : Task) (plan : Plan) (given : List �
     → IsPlan (action_or_sync task.action) (sides meeting task) plan
     → with_change (planned_change plan given (records_of task.archive) rows) shelves ≡ shelved (merged_of meeting task given rows) shelves
 change-merged meeting task plan given rows shelves is =
-    let merged : Merged = merged_of meeting task given rows in
+    let merged : DesktopMerge = merged_of meeting task given rows in
     ap (λ change. with_change change shelves) (planned-merged meeting task plan given rows is)
     ∙ shelved_by merged.rows merged.base merged.archive shelves
 

@@ -5,7 +5,7 @@ ghost use Rattle.conduit_rules.specs.Plans.{IsPlan};
 ghost use Rattle.record_merge.specs.Merging.{merged_base, merged_rows};
 ghost use Rattle.desk_store.specs.Desks.{all_rows};
 ghost use Rattle.desktop_session.specs.Acts.{text};
-ghost use Rattle.desktop_session.specs.Tellings.{IsProper, device_after};
+ghost use Rattle.desktop_session.specs.Tellings.{IsTellable, device_after};
 ghost use Rattle.session_plan.specs.Limits.{first_over};
 ghost use Rattle.session_plan.specs.Losses.{first_loss};
 ghost use Rattle.session_plan.specs.PlannedLimits.{limit_planned, over_planned};
@@ -54,12 +54,12 @@ pub fn planned_rows_are_merged()
 /// so is the limit that a session tells: such a handheld never has a 201st database.
 pub fn the_first_over_is_the_meetings()
     ensures over { (meeting : Meeting) (planned : List Planned)
-        → IsProper meeting.device → ArePlannedFor meeting planned
+        → IsTellable meeting.device → ArePlannedFor meeting planned
         → over_planned (slot_of meeting).shelves (length meeting.device.databases)
         (all_rows meeting.slots) planned
         ≡ first_over meeting }
     ensures told { (meeting : Meeting) (planned : List Planned)
-        → IsProper meeting.device → ArePlannedFor meeting planned
+        → IsTellable meeting.device → ArePlannedFor meeting planned
         → limit_planned (slot_of meeting).shelves (length meeting.device.databases)
         (all_rows meeting.slots) planned
         ≡ first_over meeting }
@@ -75,6 +75,6 @@ pub fn the_first_loss_is_the_meetings()
 /// Where none would pass a limit, what is told of the planned databases is what is told of the meeting.
 pub fn what_is_told_is_the_meetings()
     ensures { (meeting : Meeting) (planned : List Planned)
-        → IsProper meeting.device → ArePlannedFor meeting planned → first_over meeting ≡ None
+        → IsTellable meeting.device → ArePlannedFor meeting planned → first_over meeting ≡ None
         → reports_planned (slot_of meeting).shelves planned ≡ reports meeting }
 {}

@@ -5,7 +5,7 @@ ghost use Rattle.desktop_session.specs.Acts.{text};
 ghost use Rattle.desktop_session.specs.Answers.{answer_by, no_more, said_in};
 ghost use Rattle.desktop_session.specs.Ends.{link_ended};
 ghost use Rattle.desktop_session.specs.Requests.{ending, marking};
-ghost use Rattle.desktop_session.specs.Stops.{Asked, Does, Stops};
+ghost use Rattle.desktop_session.specs.Stops.{AsksOne, Does, Stops};
 ghost use Rattle.session_parts.specs.Causes.{IsLater};
 ghost use Rattle.session_plan.specs.Users as users;
 
@@ -17,7 +17,7 @@ use session_plan::{begun_user, done_user};
 /// Marks the handheld as one whose session is under way: its last desktop is none.
 pub fn begin<L: Link>(linked: &mut Linked<L>) -> Result<(), SessionFault>
     requires { linked.old.abandoned ≡ false }
-    ensures asked { Asked L.talk L.since L.fault L.downs
+    ensures asked { AsksOne L.talk L.since L.fault L.downs
         (marking (users.begun_user linked.old.user) 0x40) linked.old linked.new }
     ensures answer { result ≡ answer_by (L.fault linked.new.link)
         (said_in 0x11 no_more (reply_at 0x11 linked.new.reply)) }

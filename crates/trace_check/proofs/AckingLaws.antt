@@ -11,8 +11,8 @@ use Rattle.std.proofs.lemmas.List.Elements.{All-from_recursion}
 use Rattle.trace_text.specs.declared.frame.End.{End}
 use Rattle.trace_text.specs.Frames.{BearsFragment, sent_in, add_frame, is_abort, fragment_in, past_behind, past_of}
 use Rattle.trace_text.specs.Faults.{late_of, newest}
-use Rattle.trace_text.specs.Past.{Sent, at}
-use Rattle.trace_text.specs.Proper.{Reaches, Numbered, data_that_came, is_ack_of, AcksAreFor, DataIsAcked}
+use Rattle.trace_text.specs.Past.{PastFrame, at}
+use Rattle.trace_text.specs.Proper.{Reaches, NumberedFrame, data_that_came, is_ack_of, AcksAreFor, DataIsAcked}
 use Rattle.trace_text.specs.TraceLines.{FrameValue}
 use Rattle.line_laws.proofs.PastLaws.{at_push}
 use Rattle.trace_check.specs.Acking.{numbered_value, data_came, answered_of, IsRepeats, Hears, HearsWrong, pushed, Passes}
@@ -42,7 +42,7 @@ map-reverse f (x ∷ xs) =
     ∙ (ap (λ ys. ys ++ f x ∷ []) (map-reverse f xs) ∙ sym (reverse-append (f x ∷ []) (map f xs))))
 
 -- one that is answered behind these is the next of those that came
-next-answered : (data_frames : List DataCame) (more : List Numbered) (next : Numbered) (older : List Numbered)
+next-answered : (data_frames : List DataCame) (more : List NumberedFrame) (next : NumberedFrame) (older : List NumberedFrame)
     → reverse (map numbered_value data_frames) ≡ more ++ next ∷ older → (length older < length data_frames)
     × ((data_frame : DataCame) → data_frame ≡ get_or data_frames (length older) data_frame → numbered_value data_frame ≡ next)
 next-answered data_frames more next older all =
@@ -61,33 +61,33 @@ next-answered data_frames more next older all =
 
 -- ---- one frame more
 
-acks-ack : (Y : End) (came : ℕ → Bool) (frame : Sent) (past : List Sent) (answered : List Numbered) (next : Numbered) (older : List Numbered)
+acks-ack : (Y : End) (came : ℕ → Bool) (frame : PastFrame) (past : List PastFrame) (answered : List NumberedFrame) (next : NumberedFrame) (older : List NumberedFrame)
     → is_ack_of Y frame ≡ true → answered ≡ next ∷ older → next.key ≡ frame.key → Reaches came next.number past → AcksAreFor Y came past older
     → AcksAreFor Y came (frame ∷ past) answered
 acks-ack Y came frame past answered next older ack is key reaches acks =
-    let Acks : Type 0 = (first : Numbered) × (rest : List Numbered) × (answered ≡ first ∷ rest) × (first.key ≡ frame.key) × Reaches came first.number past
+    let Acks : Type 0 = (first : NumberedFrame) × (rest : List NumberedFrame) × (answered ≡ first ∷ rest) × (first.key ≡ frame.key) × Reaches came first.number past
     × AcksAreFor Y came past rest in
     let it : Acks = (next, older, is, key, reaches, acks) in
     subst (λ b. MatchBool b Acks (AcksAreFor Y came past answered)) (sym ack) it
 
-acks-other : (Y : End) (came : ℕ → Bool) (frame : Sent) (past : List Sent) (answered : List Numbered) → is_ack_of Y frame ≡ false
+acks-other : (Y : End) (came : ℕ → Bool) (frame : PastFrame) (past : List PastFrame) (answered : List NumberedFrame) → is_ack_of Y frame ≡ false
     → AcksAreFor Y came past answered → AcksAreFor Y came (frame ∷ past) answered
 acks-other Y came frame past answered other acks =
-    let Acks : Type 0 = (first : Numbered) × (rest : List Numbered) × (answered ≡ first ∷ rest) × (first.key ≡ frame.key) × Reaches came first.number past
+    let Acks : Type 0 = (first : NumberedFrame) × (rest : List NumberedFrame) × (answered ≡ first ∷ rest) × (first.key ≡ frame.key) × Reaches came first.number past
     × AcksAreFor Y came past rest in
     subst (λ b. MatchBool b Acks (AcksAreFor Y came past answered)) (sym other) acks
 
 -- ---- back in the past
 
-acks-step : (Y : End) (came : ℕ → Bool) (frame : Sent) (past : List Sent) (answered : List Numbered) → AcksAreFor Y came (frame ∷ past) answered
-    → (more : List Numbered) × (older : List Numbered) × (answered ≡ more ++ older) × AcksAreFor Y came past older
+acks-step : (Y : End) (came : ℕ → Bool) (frame : PastFrame) (past : List PastFrame) (answered : List NumberedFrame) → AcksAreFor Y came (frame ∷ past) answered
+    → (more : List NumberedFrame) × (older : List NumberedFrame) × (answered ≡ more ++ older) × AcksAreFor Y came past older
 acks-step Y came frame past answered acks = elim (cases_Bool (is_ack_of Y frame)) [
   | inl ack ↦ let it = when_true _ _ ack acks in (it.0 ∷ [], it.1, it.2, it.5)
   | inr other ↦ ([], answered, refl, when_false _ _ other acks)
 ]
 
-acks-back : (Y : End) (came : ℕ → Bool) (past : List Sent) (frames : List FrameValue) (answered : List Numbered)
-    → AcksAreFor Y came (past_behind past frames) answered → (more : List Numbered) × (older : List Numbered) × (answered ≡ more ++ older) × AcksAreFor Y came past older
+acks-back : (Y : End) (came : ℕ → Bool) (past : List PastFrame) (frames : List FrameValue) (answered : List NumberedFrame)
+    → AcksAreFor Y came (past_behind past frames) answered → (more : List NumberedFrame) × (older : List NumberedFrame) × (answered ≡ more ++ older) × AcksAreFor Y came past older
 acks-back Y came past [] answered acks = ([], answered, refl, acks)
 acks-back Y came past (frame ∷ later) answered acks =
     let found = acks-back Y came (add_frame frame past) later answered acks in
@@ -99,7 +99,7 @@ acks-back Y came past (frame ∷ later) answered acks =
     ]
 
 -- one past has so many acknowledgements
-acks-length : (Y : End) (came : ℕ → Bool) (past : List Sent) (xs ys : List Numbered) → AcksAreFor Y came past xs → AcksAreFor Y came past ys → length xs ≡ length ys
+acks-length : (Y : End) (came : ℕ → Bool) (past : List PastFrame) (xs ys : List NumberedFrame) → AcksAreFor Y came past xs → AcksAreFor Y came past ys → length xs ≡ length ys
 acks-length Y came [] xs ys a b = ap length a ∙ sym (ap length b)
 acks-length Y came (frame ∷ past) xs ys a b = elim (cases_Bool (is_ack_of Y frame)) [
   | inl ack ↦
@@ -110,7 +110,7 @@ acks-length Y came (frame ∷ past) xs ys a b = elim (cases_Bool (is_ack_of Y fr
   | inr none ↦ acks-length Y came past xs ys (when_false _ _ none a) (when_false _ _ none b)
 ]
 
-at-behind : (n : ℕ) (past : List Sent) (frames : List FrameValue) → n ≤ length past
+at-behind : (n : ℕ) (past : List PastFrame) (frames : List FrameValue) → n ≤ length past
     → (at n (past_behind past frames) ≡ at n past) × (length past ≤ length (past_behind past frames))
 at-behind n past [] inside = (refl, omega arith)
 at-behind n past (frame ∷ later) inside = elim (cases_Bool (is_abort (fragment_in frame).kind)) [
@@ -124,7 +124,7 @@ at-behind n past (frame ∷ later) inside = elim (cases_Bool (is_abort (fragment
       (found.0 ∙ at_push (sent_in frame) past inside, omega (arith, found.1))
 ]
 
-stands-back : (X : End) (came : ℕ → Bool) (past : List Sent) (frames : List FrameValue) (data_frame : DataCame)
+stands-back : (X : End) (came : ℕ → Bool) (past : List PastFrame) (frames : List FrameValue) (data_frame : DataCame)
     → StandsIn X came (past_behind past frames) data_frame → data_frame.number ≤ length past → StandsIn X came past data_frame
 stands-back X came past frames data_frame stands inside =
     let same = (at-behind data_frame.number past frames inside).0 in
@@ -140,7 +140,7 @@ stands-back X came past frames data_frame stands inside =
     }
 
 -- each of those that came stands in the past
-came-stands : (X : End) (came : ℕ → Bool) (past : List Sent) (data_frames : List DataCame) (place : ℕ) (data_frame : DataCame)
+came-stands : (X : End) (came : ℕ → Bool) (past : List PastFrame) (data_frames : List DataCame) (place : ℕ) (data_frame : DataCame)
     → reverse data_frames ≡ data_came X came past → place < length data_frames → data_frame ≡ get_or data_frames place data_frame
     → StandsIn X came past data_frame
 came-stands X came past data_frames place data_frame all inside is =
@@ -156,7 +156,7 @@ came-stands X came past data_frames place data_frame all inside is =
 
 -- what holds behind the first frames, of which these are left
 pub record Acked (X Y : End) (came : ℕ → Bool) (data_frames : List DataCame) (frames : List FrameValue) (place : ℕ) (acks : Acks) (left : List FrameValue) : Type 0 where
-  pub past : List Sent
+  pub past : List PastFrame
   pub all : past_of frames ≡ past_behind past left
   pub short : length past ≤ place
   pub is : IsRepeats past acks.repeats
@@ -170,7 +170,7 @@ acked-first X Y came data_frames frames bear =
     record { past = []; all = refl; short = omega arith; is = repeats-none; inside = omega arith; acked = refl; bear = bear }
 
 module _ (X Y : End) (came : ℕ → Bool) (data_frames : List DataCame) (frames : List FrameValue) where
-  hears-on : (frame : Sent) (past : List Sent) (old new : Acks) → reverse data_frames ≡ data_came X came (past_of frames)
+  hears-on : (frame : PastFrame) (past : List PastFrame) (old new : Acks) → reverse data_frames ≡ data_came X came (past_of frames)
       → ((data_frame : DataCame) → StandsIn X came (past_of frames) data_frame → data_frame.number ≤ length past → StandsIn X came past data_frame)
       → IsRepeats past old.repeats → old.acked ≤ length data_frames → AcksAreFor Y came past (answered_of data_frames old.acked) → Hears Y data_frames frame old new
       → (IsRepeats (frame ∷ past) new.repeats) × (new.acked ≤ length data_frames) × AcksAreFor Y came (frame ∷ past) (answered_of data_frames new.acked)
@@ -195,7 +195,7 @@ module _ (X Y : End) (came : ℕ → Bool) (data_frames : List DataCame) (frames
 
   -- what is answered in the end
   answered-end : reverse data_frames ≡ data_came X came (past_of frames) → DataIsAcked X Y came (past_of frames)
-      → (more : List Numbered) × (answered : List Numbered) × (reverse (map numbered_value data_frames) ≡ more ++ answered) × AcksAreFor Y came (past_of frames) answered
+      → (more : List NumberedFrame) × (answered : List NumberedFrame) × (reverse (map numbered_value data_frames) ≡ more ++ answered) × AcksAreFor Y came (past_of frames) answered
   answered-end all acked =
       let that : reverse (map numbered_value data_frames) ≡ data_that_came X came (past_of frames) =
       sym (map-reverse numbered_value data_frames) ∙ (ap (map numbered_value) all ∙ data_came-numbered X came (past_of frames)) in
@@ -204,7 +204,7 @@ module _ (X Y : End) (came : ℕ → Bool) (data_frames : List DataCame) (frames
         | inr but_last ↦ (but_last.last ∷ [], but_last.older, that ∙ but_last.is, but_last.acked)
       ]
 
-  hears-not : (frame : Sent) (past : List Sent) (old : Acks) (left : List FrameValue) → reverse data_frames ≡ data_came X came (past_of frames)
+  hears-not : (frame : PastFrame) (past : List PastFrame) (old : Acks) (left : List FrameValue) → reverse data_frames ≡ data_came X came (past_of frames)
       → past_of frames ≡ past_behind (frame ∷ past) left
       → ((data_frame : DataCame) → StandsIn X came (past_of frames) data_frame → data_frame.number ≤ length past → StandsIn X came past data_frame)
       → IsRepeats past old.repeats → old.acked ≤ length data_frames → AcksAreFor Y came past (answered_of data_frames old.acked)
@@ -225,14 +225,14 @@ module _ (X Y : End) (came : ℕ → Bool) (data_frames : List DataCame) (frames
       let data_frame = get_or data_frames old.acked nothing in
       let at_count : data_frame ≡ get_or data_frames old.acked data_frame = get_or_default data_frames old.acked nothing data_frame below in
       let same : numbered_value data_frame ≡ next = found.1 data_frame (at_count ∙ ap (λ k. get_or data_frames k data_frame) (sym count)) in
-      let number : data_frame.number ≡ next.number = ap (λ (n : Numbered). n.number) same in
+      let number : data_frame.number ≡ next.number = ap (λ (n : NumberedFrame). n.number) same in
       let reaches : Reaches came data_frame.number past = subst (λ n. Reaches came n past) (sym number) ack.4 in
       let stands = back data_frame (came-stands X came (past_of frames) data_frames old.acked data_frame all below at_count) reaches.inside in
       wrong.1 (record {
         data_frame = data_frame;
         inside = below;
         here = at_count;
-        key_is = ap (λ (n : Numbered). n.key) same ∙ ack.3;
+        key_is = ap (λ (n : NumberedFrame). n.key) same ∙ ack.3;
         reached = reaches-reached X came past old.repeats data_frame is stands reaches;
       })
 
@@ -242,7 +242,7 @@ module _ (X Y : End) (came : ℕ → Bool) (data_frames : List DataCame) (frames
       → Acked X Y came data_frames frames (place + 1) new left
   acked-more frame place old new left all so passes = by passes.sent passes.adds passes.hears
     where
-      by : (sent : Option Sent) → ((past : List Sent) → add_frame frame past ≡ pushed sent past)
+      by : (sent : Option PastFrame) → ((past : List PastFrame) → add_frame frame past ≡ pushed sent past)
           → MatchOption sent ((true ≡ true) × (new ≡ old)) (λ f. MatchBool true (Hears Y data_frames f old new) (HearsWrong Y data_frames f old))
           → Acked X Y came data_frames frames (place + 1) new left
       by None adds hears = record {
@@ -272,7 +272,7 @@ module _ (X Y : End) (came : ℕ → Bool) (data_frames : List DataCame) (frames
       → Acked X Y came data_frames frames place old (frame ∷ left) → Passes Y data_frames frame old false new → DataIsAcked X Y came (past_of frames) → ⊥
   acked-not frame place old new left all so passes = by passes.sent passes.adds passes.hears
     where
-      by : (sent : Option Sent) → ((past : List Sent) → add_frame frame past ≡ pushed sent past)
+      by : (sent : Option PastFrame) → ((past : List PastFrame) → add_frame frame past ≡ pushed sent past)
           → MatchOption sent ((false ≡ true) × (new ≡ old)) (λ f. MatchBool false (Hears Y data_frames f old new) (HearsWrong Y data_frames f old))
           → DataIsAcked X Y came (past_of frames) → ⊥
       by None adds hears whole = let no_way = hears.0 in cc

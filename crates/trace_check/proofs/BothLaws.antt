@@ -1,7 +1,7 @@
 -- What is known of both ends goes on by what a frame says.
 use Rattle.line_laws.proofs.Names.{◌≡◌, ◌⊎◌, ℕ, ◌+◌, ◌≤◌, Bool, true, false, not, ◌&&◌, cond, List, [], ◌∷◌, length, Option}
 use Rattle.line_laws.proofs.Names.{refl, sym, ap, subst, ◌∙◌, arith, inl, inr, cases_Bool, cond-true, cond-false, and_from, nat_eq}
-use Rattle.line_laws.proofs.Names.{End, Handheld, Desktop, Sent, Key, is_end, first, said, is_data_of, is_repeat}
+use Rattle.line_laws.proofs.Names.{End, Handheld, Desktop, PastFrame, Key, is_end, first, said, is_data_of, is_repeat}
 use Rattle.line_laws.proofs.Names.{late_of, newest, last_repeat, newest_repeat, is_late, Talk, is_ack_of}
 use Rattle.std.proofs.lemmas.Bool.{eq-eqb}
 use Rattle.trace_text.specs.Past.{is_newest_key}
@@ -30,7 +30,7 @@ after is_data key arrival late side =
     cond is_data (cond (is_key key side.key) (with_repeat arrival (record side { late = late })) (with_fragment key arrival (record side { late = late })))
     (record side { late = late })
 
-module _ (X Y : End) (talk : Talk) (came : ℕ → Bool) (frame : Sent) (past : List Sent) (notice : Notice) (apart : is_end Y X ≡ false)
+module _ (X Y : End) (talk : Talk) (came : ℕ → Bool) (frame : PastFrame) (past : List PastFrame) (notice : Notice) (apart : is_end Y X ≡ false)
     (from : frame.from ≡ X) (says : IsNotice notice frame came past) where
   mine : is_end X frame.from ≡ true
   mine = ap (is_end X) from ∙ is_end-same X
@@ -148,7 +148,7 @@ module _ (X Y : End) (talk : Talk) (came : ℕ → Bool) (frame : Sent) (past : 
         | inr new ↦ inr (new, λ repeat. cond-false (notice.is_data && is_key notice.key side.key) notice.number repeat (test ∙ new))
       ]
 
-last_inside : (X : End) (past : List Sent) → last_repeat X past ≤ length past
+last_inside : (X : End) (past : List PastFrame) → last_repeat X past ≤ length past
 last_inside X [] = omega arith
 last_inside X (frame ∷ past) = elim (cases_Bool (is_repeat X frame past)) [
   | inl again ↦ omega (arith, cond-true (is_repeat X frame past) (length past + 1) (last_repeat X past) again)
@@ -156,7 +156,7 @@ last_inside X (frame ∷ past) = elim (cases_Bool (is_repeat X frame past)) [
 ]
 
 -- the newest repeat of either end, behind a frame of X
-pub repeat-after : (X Y : End) (talk : Talk) (came : ℕ → Bool) (frame : Sent) (past : List Sent) (notice : Notice) (apart : is_end Y X ≡ false)
+pub repeat-after : (X Y : End) (talk : Talk) (came : ℕ → Bool) (frame : PastFrame) (past : List PastFrame) (notice : Notice) (apart : is_end Y X ≡ false)
     → frame.from ≡ X → IsNotice notice frame came past → (side : SideValue) → IsSide X Y talk came past side → (repeat : ℕ) → repeat ≡ newest_repeat past
     → repeat_after notice side repeat ≡ newest_repeat (frame ∷ past)
 repeat-after Handheld Handheld talk came frame past notice apart from says side was repeat is = absurd cc

@@ -4,7 +4,7 @@ use Rattle.std.specs.List.{AllByRecursion}
 use Rattle.std.proofs.lemmas.Bool.{cond-true, cond-false, cases_Bool, cases_lt, and_parts}
 use Rattle.trace_text.specs.declared.frame.End.{End}
 use Rattle.trace_text.specs.Faults.{late_of, newest, IsHeldIn}
-use Rattle.trace_text.specs.Past.{Sent, is_end, is_data_of, at}
+use Rattle.trace_text.specs.Past.{PastFrame, is_end, is_data_of, at}
 use Rattle.trace_text.specs.Proper.{Reaches, data_that_came}
 use Rattle.line_laws.proofs.CameLaws.{same_end}
 use Rattle.line_laws.proofs.FaultLaws.{newest_inside, newest_from, at_top}
@@ -16,9 +16,9 @@ use Rattle.trace_check.specs.declared.repeats.Repeats.{Repeats}
 -- ---- where they stand
 
 -- the data frame stands in the past under its number, and came
-pub record StandsIn (X : End) (came : ℕ → Bool) (past : List Sent) (data_frame : DataCame) : Type 0 where
-  pub frame : Sent
-  pub older : List Sent
+pub record StandsIn (X : End) (came : ℕ → Bool) (past : List PastFrame) (data_frame : DataCame) : Type 0 where
+  pub frame : PastFrame
+  pub older : List PastFrame
   pub some : 0 < data_frame.number
   pub inside : data_frame.number ≤ length past
   pub here : at data_frame.number past ≡ frame ∷ older
@@ -26,7 +26,7 @@ pub record StandsIn (X : End) (came : ℕ → Bool) (past : List Sent) (data_fra
   pub came_is : came data_frame.number ≡ true
   pub late_is : data_frame.late ≡ newest (late_of X) (at data_frame.number past)
 
-stands-push : (X : End) (came : ℕ → Bool) (frame : Sent) (past : List Sent) (data_frame : DataCame) → StandsIn X came past data_frame
+stands-push : (X : End) (came : ℕ → Bool) (frame : PastFrame) (past : List PastFrame) (data_frame : DataCame) → StandsIn X came past data_frame
     → StandsIn X came (frame ∷ past) data_frame
 stands-push X came frame past data_frame stands = record {
   frame = stands.frame;
@@ -39,17 +39,17 @@ stands-push X came frame past data_frame stands = record {
   late_is = stands.late_is ∙ ap (newest (late_of X)) (sym (at_push frame past stands.inside));
 }
 
-all-push : (X : End) (came : ℕ → Bool) (frame : Sent) (past : List Sent) (data_frames : List DataCame) → AllByRecursion (StandsIn X came past) data_frames
+all-push : (X : End) (came : ℕ → Bool) (frame : PastFrame) (past : List PastFrame) (data_frames : List DataCame) → AllByRecursion (StandsIn X came past) data_frames
     → AllByRecursion (StandsIn X came (frame ∷ past)) data_frames
 all-push X came frame past [] all = tt
 all-push X came frame past (data_frame ∷ data_frames) all =
     (stands-push X came frame past data_frame all.0, all-push X came frame past data_frames all.1)
 
 -- the newest one
-abbrev pub came_now : End → Sent → List Sent → DataCame
+abbrev pub came_now : End → PastFrame → List PastFrame → DataCame
 came_now X frame past = record { number = length past + 1; key = frame.key; late = newest (late_of X) (frame ∷ past) }
 
-pub data_came-stand : (X : End) (came : ℕ → Bool) (past : List Sent) → AllByRecursion (StandsIn X came past) (data_came X came past)
+pub data_came-stand : (X : End) (came : ℕ → Bool) (past : List PastFrame) → AllByRecursion (StandsIn X came past) (data_came X came past)
 data_came-stand X came [] = tt
 data_came-stand X came (frame ∷ past) =
     let older = all-push X came frame past (data_came X came past) (data_came-stand X came past) in
@@ -73,7 +73,7 @@ data_came-stand X came (frame ∷ past) =
     }
 
 -- by their numbers and keys they are the data frames that came
-pub data_came-numbered : (X : End) (came : ℕ → Bool) (past : List Sent) → map numbered_value (data_came X came past) ≡ data_that_came X came past
+pub data_came-numbered : (X : End) (came : ℕ → Bool) (past : List PastFrame) → map numbered_value (data_came X came past) ≡ data_that_came X came past
 data_came-numbered X came [] = refl
 data_came-numbered X came (frame ∷ past) = elim (cases_Bool (is_data_of X frame && came (length past + 1))) [
   | inl now ↦ ap (map numbered_value) (cond-true _ (came_now X frame past ∷ data_came X came past) (data_came X came past) now)
@@ -87,8 +87,8 @@ data_came-numbered X came (frame ∷ past) = elim (cases_Bool (is_data_of X fram
 -- ---- when one has reached
 
 -- the newest frame that passes stands under its number
-newest-at : (p : Sent → Bool) (past : List Sent) → 0 < newest p past
-    → (frame : Sent) × (older : List Sent) × (at (newest p past) past ≡ frame ∷ older) × (p frame ≡ true)
+newest-at : (p : PastFrame → Bool) (past : List PastFrame) → 0 < newest p past
+    → (frame : PastFrame) × (older : List PastFrame) × (at (newest p past) past ≡ frame ∷ older) × (p frame ≡ true)
 newest-at p [] some = absurd (omega arith)
 newest-at p (frame ∷ past) some = elim (cases_Bool (p frame)) [
   | inl passes ↦ (frame, past, ap (λ n. at n (frame ∷ past)) (cond-true (p frame) (length past + 1) (newest p past) passes) ∙ at_top, passes)
@@ -102,10 +102,10 @@ newest-at p (frame ∷ past) some = elim (cases_Bool (p frame)) [
       )
 ]
 
-from_is : (X : End) (frame : Sent) → is_data_of X frame ≡ true → frame.from ≡ X
+from_is : (X : End) (frame : PastFrame) → is_data_of X frame ≡ true → frame.from ≡ X
 from_is X frame is = same_end X frame.from (and_parts (is_end X frame.from) frame.is_data is).0
 
-pub reached-reaches : (X : End) (came : ℕ → Bool) (past : List Sent) (repeats : Repeats) (data_frame : DataCame) → IsRepeats past repeats
+pub reached-reaches : (X : End) (came : ℕ → Bool) (past : List PastFrame) (repeats : Repeats) (data_frame : DataCame) → IsRepeats past repeats
     → (data_frame.number ≤ length past → StandsIn X came past data_frame) → HasReached repeats data_frame → Reaches came data_frame.number past
 reached-reaches X came past repeats data_frame is stands reached =
     let inside : data_frame.number ≤ length past = omega (arith, reached.inside, is.count_is) in
@@ -131,7 +131,7 @@ reached-reaches X came past repeats data_frame is stands reached =
           | inr repeated ↦ omega (arith, near, there.late_is, repeated, held.no_repeat, is.newest_is)
         ]
 
-pub reaches-reached : (X : End) (came : ℕ → Bool) (past : List Sent) (repeats : Repeats) (data_frame : DataCame) → IsRepeats past repeats
+pub reaches-reached : (X : End) (came : ℕ → Bool) (past : List PastFrame) (repeats : Repeats) (data_frame : DataCame) → IsRepeats past repeats
     → StandsIn X came past data_frame → Reaches came data_frame.number past → HasReached repeats data_frame
 reaches-reached X came past repeats data_frame is there reaches =
     record { inside = omega (arith, there.inside, is.count_is); free = apart (cases_lt 0 data_frame.late) (cases_lt data_frame.late repeats.newest) }
@@ -148,7 +148,7 @@ reaches-reached X came past repeats data_frame is there reaches =
         let again : at data_frame.late (at data_frame.number past) ≡ at data_frame.late past =
         ap (λ k. drop k (at data_frame.number past)) e ∙ at_at past below there.inside in
         let here : at data_frame.late past ≡ found.0 ∷ found.1 = sym again ∙ (ap (λ k. at k (at data_frame.number past)) late_is ∙ found.2) in
-        reaches.free (subst (λ Y. IsHeldIn Y data_frame.number past) (sym (ap (λ (f : Sent). f.from) same ∙ from_is X there.frame there.is)) (record {
+        reaches.free (subst (λ Y. IsHeldIn Y data_frame.number past) (sym (ap (λ (f : PastFrame). f.from) same ∙ from_is X there.frame there.is)) (record {
           late = data_frame.late;
           frame = found.0;
           older = found.1;

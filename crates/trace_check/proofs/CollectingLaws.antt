@@ -11,7 +11,7 @@ use Rattle.trace_text.specs.declared.frame.Frame.{Frame}
 use Rattle.trace_text.specs.Fates.{FateValue, ends_run}
 use Rattle.trace_text.specs.Faults.{late_of, newest}
 use Rattle.trace_text.specs.Frames.{BearsFragment, MayBear, is_abort, fragment_in, sent_in, add_frame, past_behind, past_of, came_in}
-use Rattle.trace_text.specs.Past.{Sent, is_data_of}
+use Rattle.trace_text.specs.Past.{PastFrame, is_data_of}
 use Rattle.trace_text.specs.Proper.{AreNumbered}
 use Rattle.trace_text.specs.TraceLines.{FrameValue, frame_value}
 use Rattle.trace_check.specs.Acking.{data_came}
@@ -22,7 +22,7 @@ use Rattle.trace_check.proofs.EndingLaws.{EndAtLast, numbered-end}
 
 -- what holds behind the first frames, of which these are left
 pub record Collected (X : End) (frames : List FrameValue) (place number late : ℕ) (data_frames : List DataCame) (left : List FrameValue) : Type 0 where
-  pub past : List Sent
+  pub past : List PastFrame
   pub all : past_of frames ≡ past_behind past left
   pub counted : length past ≡ place
   pub number_is : number ≡ place
@@ -45,7 +45,7 @@ collected-first X frames numbered bear = record {
 }
 
 -- a frame that says nothing is an abort, which is the last one
-aborts-by : (frame : FrameValue) → ((past : List Sent) → add_frame frame past ≡ past) → is_abort (fragment_in frame).kind ≡ true
+aborts-by : (frame : FrameValue) → ((past : List PastFrame) → add_frame frame past ≡ past) → is_abort (fragment_in frame).kind ≡ true
 aborts-by frame adds = elim (cases_Bool (is_abort (fragment_in frame).kind)) [
   | inl aborts ↦ aborts
   | inr goes ↦ (let e = sym (cond-false _ [] (sent_in frame ∷ []) goes) ∙ adds [] in absurd cc)
@@ -58,7 +58,7 @@ abort-ends Tickle given bytes aborts may = absurd may
 abort-ends Abort given bytes aborts may = ap (λ g. ends_run g bytes) may
 
 pub collected-last : {X : End} {frames : List FrameValue} {place number late : ℕ} {data_frames : List DataCame} (frame : FrameValue) {left : List FrameValue}
-    → Collected X frames place number late data_frames (frame ∷ left) → ((past : List Sent) → add_frame frame past ≡ past)
+    → Collected X frames place number late data_frames (frame ∷ left) → ((past : List PastFrame) → add_frame frame past ≡ past)
     → reverse data_frames ≡ data_came X (came_in frames) (past_of frames)
 collected-last {X} {frames} frame {left} so adds =
     let none : left ≡ [] = so.ends.0 (abort-ends (fragment_in frame).kind frame.fate frame.bytes (aborts-by frame adds) so.bear.0.kind) in
@@ -77,8 +77,8 @@ came-at xs place x inside is =
     ∙ (get_or-map (λ f. f.came) (map frame_value xs) place (frame_value x) false long
     ∙ (ap (λ (f : FrameValue). f.came) (get_or-map frame_value xs place x (frame_value x) inside) ∙ ap (λ (f : Frame). f.came) (sym is)))
 
-module _ {X : End} {frames : List FrameValue} {place number late : ℕ} {data_frames : List DataCame} (frame : FrameValue) {left : List FrameValue} (sent : Sent)
-    (so : Collected X frames place number late data_frames (frame ∷ left)) (adds : (past : List Sent) → add_frame frame past ≡ sent ∷ past)
+module _ {X : End} {frames : List FrameValue} {place number late : ℕ} {data_frames : List DataCame} (frame : FrameValue) {left : List FrameValue} (sent : PastFrame)
+    (so : Collected X frames place number late data_frames (frame ∷ left)) (adds : (past : List PastFrame) → add_frame frame past ≡ sent ∷ past)
     (came_is : came_in frames (place + 1) ≡ frame.came) where
   came_here : came_in frames (length so.past + 1) ≡ frame.came
   came_here = ap (λ n. came_in frames (n + 1)) so.counted ∙ came_is

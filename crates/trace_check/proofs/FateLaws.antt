@@ -9,7 +9,7 @@ use Rattle.std.proofs.lemmas.Fmt.{decimal_is_IsNumeral, decimal_digit}
 use Rattle.trace_text.specs.Fates.{FateValue, fate_words}
 use Rattle.line_script.specs.Rules.{RuleValue, IsScripted, IsLine}
 use Rattle.line_script.specs.Lines.{lines_of}
-use Rattle.line_script.specs.Scripts.{fate_by, AreLines, IsFirstBad, IsReading}
+use Rattle.line_script.specs.Scripts.{fate_by, AreRuleLines, IsFirstBadRule, IsReading}
 use Rattle.line_script.specs.Words.{number_in}
 use Rattle.line_script.specs.declared.fault.ScriptFault.{ScriptFault}
 use Rattle.line_script.specs.declared.fault.ScriptFault.TheVariants.{TooLong, BadLine, NoMemory}
@@ -49,7 +49,7 @@ line_fate words rule says =
       parts.2,
     )
 
-read_lines : (words : List ℕ) (rules : List RuleValue) (fate : FateValue) → AreLines 0 rules (script_line words ∷ []) → fate ≡ fate_by rules 1 → IsFateOf words fate
+read_lines : (words : List ℕ) (rules : List RuleValue) (fate : FateValue) → AreRuleLines 0 rules (script_line words ∷ []) → fate ≡ fate_by rules 1 → IsFateOf words fate
 read_lines words [] its are is = absurd are
 read_lines words (rule ∷ next ∷ rules) its are is = absurd are.1
 read_lines words (rule ∷ []) its are is =
@@ -64,7 +64,7 @@ pub script-fate : (words : List ℕ) (rules : List RuleValue) (fate : FateValue)
 script-fate words rules fate all read is =
     read_lines words rules fate (rw (← lines_of-script words all) read.1) is
 
-bad_line : (words : List ℕ) (number : ℕ) (rule : RuleValue) → IsLine 0 rule (script_line words) → IsFirstBad 0 (script_line words ∷ []) number → ⊥
+bad_line : (words : List ℕ) (number : ℕ) (rule : RuleValue) → IsLine 0 rule (script_line words) → IsFirstBadRule 0 (script_line words ∷ []) number → ⊥
 bad_line words zero rule says bad = bad
 bad_line words (suc zero) rule says bad = bad rule says
 bad_line words (suc (suc number)) rule says bad = bad.2

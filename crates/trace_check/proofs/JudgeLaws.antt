@@ -1,7 +1,7 @@
 -- What is known of both ends tells whether a new fragment may go out.
 use Rattle.line_laws.proofs.Names.{◌≡◌, ◌⊎◌, ℕ, ◌+◌, ◌-◌, ◌<◌, ◌≤◌, Bool, true, false, not, ◌&&◌, List, [], ◌∷◌, length, Option, Some, None}
 use Rattle.line_laws.proofs.Names.{refl, sym, ap, subst, ◌∙◌, arith, inl, inr, cases_Bool, cases_lt, cond-true, cond-false, and_parts, and_from, nat_eq}
-use Rattle.line_laws.proofs.Names.{End, Handheld, Desktop, Sent, Key, at, is_end, first, said, data_of, is_data_of, newest_repeat, pieces_before}
+use Rattle.line_laws.proofs.Names.{End, Handheld, Desktop, PastFrame, Key, at, is_end, first, said, data_of, is_data_of, newest_repeat, pieces_before}
 use Rattle.line_laws.proofs.Names.{messages_of, Talk, Turn, is_ack_of, answered_by, answer_to, IsKnown, AcksNewest, AnswersNewest, IfAnswers, AnswersReached}
 use Rattle.line_laws.proofs.Names.{Reaches, same_key}
 use Rattle.std.proofs.Common.{◌||◌, ltb, get_or}
@@ -21,22 +21,22 @@ use Rattle.trace_check.specs.Turns.{has_answer, is_answered_by, is_end_reached, 
 
 -- ---- a fragment that reached an end
 
-pub record IsTaken (Y : End) (came : ℕ → Bool) (past : List Sent) (number : ℕ) : Type 0 where
+pub record IsTaken (Y : End) (came : ℕ → Bool) (past : List PastFrame) (number : ℕ) : Type 0 where
   pub n : ℕ
   pub reaches : Reaches came n past
   pub bears : BearsNumber Y past n reaches.frame number
 
-data-from : (Y : End) (frame : Sent) → is_data_of Y frame ≡ true → frame.from ≡ Y
+data-from : (Y : End) (frame : PastFrame) → is_data_of Y frame ≡ true → frame.from ≡ Y
 data-from Y frame is = same_end Y frame.from (and_parts (is_end Y frame.from) frame.is_data is).0
 
-ack-from : (Y : End) (frame : Sent) → is_ack_of Y frame ≡ true → frame.from ≡ Y
+ack-from : (Y : End) (frame : PastFrame) → is_ack_of Y frame ≡ true → frame.from ≡ Y
 ack-from Y frame is = same_end Y frame.from (and_parts (is_end Y frame.from) (not frame.is_data) is).0
 
-bears-from : (Y : End) (number : ℕ) (frame : Sent) (older : List Sent) → bears Y number (frame ∷ older) ≡ true → frame.from ≡ Y
+bears-from : (Y : End) (number : ℕ) (frame : PastFrame) (older : List PastFrame) → bears Y number (frame ∷ older) ≡ true → frame.from ≡ Y
 bears-from Y number frame older passes =
     data-from Y frame (and_parts (is_data_of Y frame) (nat_eq (length (said Y (frame ∷ older))) number) passes).0
 
-module _ (Y X : End) (talk : Talk) (came : ℕ → Bool) (past : List Sent) (side : SideValue) (are : IsSide Y X talk came past side) where
+module _ (Y X : End) (talk : Talk) (came : ℕ → Bool) (past : List PastFrame) (side : SideValue) (are : IsSide Y X talk came past side) where
   -- it was said
   taken-said : (number : ℕ) → IsTaken Y came past number → number ≤ length (said Y past)
   taken-said number it = omega (arith, keys_below (data_of Y) it.n past, it.bears.number_is)
@@ -160,7 +160,7 @@ module _ (Y X : End) (talk : Talk) (came : ℕ → Bool) (past : List Sent) (sid
 
 -- ---- an acknowledgement that reached an end
 
-module _ (X Y : End) (talk : Talk) (came : ℕ → Bool) (past : List Sent) (side : SideValue) (are : IsSide X Y talk came past side) where
+module _ (X Y : End) (talk : Talk) (came : ℕ → Bool) (past : List PastFrame) (side : SideValue) (are : IsSide X Y talk came past side) where
   pub record IsAcked : Type 0 where
     pub n : ℕ
     pub reaches : Reaches came n past
@@ -181,7 +181,7 @@ module _ (X Y : End) (talk : Talk) (came : ℕ → Bool) (past : List Sent) (sid
         acks = record { is = parts.0; behind = behind; key_is = ap first (sym same) ∙ (newest_first it.reaches.frame.key _ parts.2).0 };
       }
     where
-      parts_of : (frame : Sent) (older : List Sent) → acks X Y (length (said X past)) (frame ∷ older) ≡ true
+      parts_of : (frame : PastFrame) (older : List PastFrame) → acks X Y (length (said X past)) (frame ∷ older) ≡ true
           → (is_ack_of Y frame ≡ true) × (length (said X (frame ∷ older)) ≡ length (said X past)) × (is_newest_key frame.key (said X (frame ∷ older)) ≡ true)
       parts_of frame older passes =
           let front = and_parts (is_ack_of Y frame && nat_eq (length (said X (frame ∷ older))) (length (said X past)))
@@ -228,7 +228,7 @@ answered_by-start : (o : Option ℕ) (repeat : ℕ) (other : SideValue) → is_a
 answered_by-start None repeat other is = absurd cc
 answered_by-start (Some answer) repeat other is = (answer, refl, is)
 
-module _ (X Y : End) (talk : Talk) (came : ℕ → Bool) (past : List Sent) (side other : SideValue) (are : IsSide X Y talk came past side)
+module _ (X Y : End) (talk : Talk) (came : ℕ → Bool) (past : List PastFrame) (side other : SideValue) (are : IsSide X Y talk came past side)
     (theirs : IsSide Y X talk came past other) (some : 0 < length (said X past)) where
   known-is : known_with (newest_repeat past) X side other ≡ true → IsKnown X Y talk came past
   known-is known = elim (or_cases (is_free (newest_repeat past) side.ack) _ known) [
@@ -278,17 +278,17 @@ module _ (X Y : End) (talk : Talk) (came : ℕ → Bool) (past : List Sent) (sid
 
 -- ---- by what is known of both ends
 
-pub side-is : (X : End) (talk : Talk) (came : ℕ → Bool) (past : List Sent) (both : BothValue) → AreSides talk came past both
+pub side-is : (X : End) (talk : Talk) (came : ℕ → Bool) (past : List PastFrame) (both : BothValue) → AreSides talk came past both
     → IsSide X (other_end X) talk came past (side_of X both)
 side-is Handheld talk came past both are = are.handheld
 side-is Desktop talk came past both are = are.desktop
 
-other-is : (X : End) (talk : Talk) (came : ℕ → Bool) (past : List Sent) (both : BothValue) → AreSides talk came past both
+other-is : (X : End) (talk : Talk) (came : ℕ → Bool) (past : List PastFrame) (both : BothValue) → AreSides talk came past both
     → IsSide (other_end X) X talk came past (side_of (other_end X) both)
 other-is Handheld talk came past both are = are.desktop
 other-is Desktop talk came past both are = are.handheld
 
-module _ (X : End) (talk : Talk) (came : ℕ → Bool) (past : List Sent) (both : BothValue) (are : AreSides talk came past both) where
+module _ (X : End) (talk : Talk) (came : ℕ → Bool) (past : List PastFrame) (both : BothValue) (are : AreSides talk came past both) where
   mine : IsSide X (other_end X) talk came past (side_of X both)
   mine = side-is X talk came past both are
 

@@ -1,6 +1,6 @@
 -- What has reached an end: where a frame that passes did, the first such frame that came did, and that one by its newest late frame alone.
 use Rattle.line_laws.proofs.Names.{◌≡◌, ◌⊎◌, ℕ, ◌+◌, ◌-◌, ◌<◌, ◌≤◌, Bool, true, false, ◌&&◌, List, [], ◌∷◌, length, drop, Option, Some, None, refl, sym, ap, subst, ◌∙◌}
-use Rattle.line_laws.proofs.Names.{arith, inl, inr, cases_Bool, cases_lt, cond-true, cond-false, and_parts, and_from, End, Sent, at}
+use Rattle.line_laws.proofs.Names.{arith, inl, inr, cases_Bool, cases_lt, cond-true, cond-false, and_parts, and_from, End, PastFrame, at}
 use Rattle.line_laws.proofs.Names.{late_of, newest, newest_repeat, IsHeldIn, Reaches}
 use Rattle.std.proofs.Common.{◌||◌, eqb, ltb}
 use Rattle.std.proofs.lemmas.Bool.{eqb-true, ltb-true, eq-eqb, lt-ltb}
@@ -15,7 +15,7 @@ use Rattle.std.specs.Bool.{then_some}
 at_none : (n : ℕ) → n ≤ 0 → at n [] ≡ []
 at_none n inside = let e : 0 - n ≡ 0 = omega arith in ap (λ k. drop k []) e
 
-pub newest_at : (q : Sent → Bool) (n : ℕ) (past : List Sent) → n ≤ length past → newest q (at n past) ≤ newest q past
+pub newest_at : (q : PastFrame → Bool) (n : ℕ) (past : List PastFrame) → n ≤ length past → newest q (at n past) ≤ newest q past
 newest_at q n [] inside = omega (arith, ap (newest q) (at_none n inside))
 newest_at q n (top ∷ past) inside = elim (cases_lt (length past) n) [
   | inl new ↦
@@ -24,13 +24,13 @@ newest_at q n (top ∷ past) inside = elim (cases_lt (length past) n) [
   | inr old ↦ omega (arith, ap (newest q) (at_push top past old), newest_at q n past old, newest_push q top past)
 ]
 
-pub record IsNewest (q : Sent → Bool) (past : List Sent) : Type 0 where
-  pub frame : Sent
-  pub older : List Sent
+pub record IsNewest (q : PastFrame → Bool) (past : List PastFrame) : Type 0 where
+  pub frame : PastFrame
+  pub older : List PastFrame
   pub here : at (newest q past) past ≡ frame ∷ older
   pub passes : q frame ≡ true
 
-newest_is : (q : Sent → Bool) (past : List Sent) → 0 < newest q past → IsNewest q past
+newest_is : (q : PastFrame → Bool) (past : List PastFrame) → 0 < newest q past → IsNewest q past
 newest_is q [] some = absurd (omega arith)
 newest_is q (top ∷ past) some = elim (cases_Bool (q top)) [
   | inl so ↦
@@ -49,10 +49,10 @@ newest_is q (top ∷ past) some = elim (cases_Bool (q top)) [
 
 -- ---- the first that passes and came
 
-pub record IsFound (p : List Sent → Bool) (Y : End) (came : ℕ → Bool) (past : List Sent) (late : ℕ) : Type 0 where
+pub record IsFound (p : List PastFrame → Bool) (Y : End) (came : ℕ → Bool) (past : List PastFrame) (late : ℕ) : Type 0 where
   pub n : ℕ
-  pub frame : Sent
-  pub older : List Sent
+  pub frame : PastFrame
+  pub older : List PastFrame
   pub inside : n ≤ length past
   pub here : at n past ≡ frame ∷ older
   pub passes : p (frame ∷ older) ≡ true
@@ -67,21 +67,21 @@ pub or_none : (o : Option ℕ) → option_or o None ≡ o
 or_none None = refl
 or_none (Some number) = refl
 
-module _ (p : List Sent → Bool) (Y : End) (came : ℕ → Bool) where
-  pub first-older : (top : Sent) (past : List Sent) (late : ℕ) → first_late p Y came past ≡ Some late → first_late p Y came (top ∷ past) ≡ Some late
+module _ (p : List PastFrame → Bool) (Y : End) (came : ℕ → Bool) where
+  pub first-older : (top : PastFrame) (past : List PastFrame) (late : ℕ) → first_late p Y came past ≡ Some late → first_late p Y came (top ∷ past) ≡ Some late
   first-older top past late is = ap (λ o. option_or o (then_some (p (top ∷ past) && came (length past + 1)) (newest (late_of Y) (top ∷ past)))) is
 
-  pub first-none : (top : Sent) (past : List Sent) → first_late p Y came past ≡ None
+  pub first-none : (top : PastFrame) (past : List PastFrame) → first_late p Y came past ≡ None
       → first_late p Y came (top ∷ past) ≡ then_some (p (top ∷ past) && came (length past + 1)) (newest (late_of Y) (top ∷ past))
   first-none top past is = ap (λ o. option_or o (then_some (p (top ∷ past) && came (length past + 1)) (newest (late_of Y) (top ∷ past)))) is
 
   -- one that doesn't pass changes nothing
-  pub first-other : (top : Sent) (past : List Sent) → p (top ∷ past) ≡ false → first_late p Y came (top ∷ past) ≡ first_late p Y came past
+  pub first-other : (top : PastFrame) (past : List PastFrame) → p (top ∷ past) ≡ false → first_late p Y came (top ∷ past) ≡ first_late p Y came past
   first-other top past not_so =
       ap (λ b. option_or (first_late p Y came past) (then_some (b && came (length past + 1)) (newest (late_of Y) (top ∷ past)))) not_so
       ∙ or_none (first_late p Y came past)
 
-  pub found : (past : List Sent) (late : ℕ) → first_late p Y came past ≡ Some late → IsFound p Y came past late
+  pub found : (past : List PastFrame) (late : ℕ) → first_late p Y came past ≡ Some late → IsFound p Y came past late
   found [] late is = absurd cc
   found (top ∷ past) late is = elim (either (first_late p Y came past)) [
     | inr older ↦
@@ -121,25 +121,25 @@ module _ (p : List Sent → Bool) (Y : End) (came : ℕ → Bool) where
     ]
   ]
 
-  pub none_found : (past : List Sent) → ((late : ℕ) → IsFound p Y came past late → ⊥) → first_late p Y came past ≡ None
+  pub none_found : (past : List PastFrame) → ((late : ℕ) → IsFound p Y came past late → ⊥) → first_late p Y came past ≡ None
   none_found past none = elim (either (first_late p Y came past)) [
     | inl is ↦ is
     | inr some ↦ absurd (none some.0 (found past some.0 some.1))
   ]
 
-  bounded : (past : List Sent) (late : ℕ) → first_late p Y came past ≡ Some late → late ≤ newest (late_of Y) past
+  bounded : (past : List PastFrame) (late : ℕ) → first_late p Y came past ≡ Some late → late ≤ newest (late_of Y) past
   bounded past late is =
       let was = found past late is in
       let e : newest (late_of Y) (at was.n past) ≡ late = ap (newest (late_of Y)) was.here ∙ sym was.late_is in
       omega (arith, e, newest_at (late_of Y) was.n past was.inside)
 
-  pub record IsLeast (past : List Sent) (limit : ℕ) : Type 0 where
+  pub record IsLeast (past : List PastFrame) (limit : ℕ) : Type 0 where
     pub late : ℕ
     pub is : first_late p Y came past ≡ Some late
     pub below : late ≤ limit
 
   -- no frame that passes and came has an older late frame than the first
-  pub least : (past : List Sent) {n : ℕ} {frame : Sent} {older : List Sent} → n ≤ length past → at n past ≡ frame ∷ older → p (frame ∷ older) ≡ true
+  pub least : (past : List PastFrame) {n : ℕ} {frame : PastFrame} {older : List PastFrame} → n ≤ length past → at n past ≡ frame ∷ older → p (frame ∷ older) ≡ true
       → came n ≡ true → IsLeast past (newest (late_of Y) (frame ∷ older))
   least [] {n} {frame} {older} inside here passes comes = (let e : [] ≡ frame ∷ older = sym (at_none n inside) ∙ here in absurd cc)
   least (top ∷ past) {n} {frame} {older} inside here passes comes = elim (cases_lt (length past) n) [
@@ -186,7 +186,7 @@ free-lower repeat late limit below free = elim (cases_Bool (eqb limit 0)) [
 ]
 
 -- what is free isn't held
-pub free-unheld : (Y : End) (past : List Sent) (n : ℕ) {frame : Sent} {older : List Sent} → n ≤ length past → at n past ≡ frame ∷ older
+pub free-unheld : (Y : End) (past : List PastFrame) (n : ℕ) {frame : PastFrame} {older : List PastFrame} → n ≤ length past → at n past ≡ frame ∷ older
     → is_free (newest_repeat past) (Some (newest (late_of Y) (frame ∷ older))) ≡ true → IsHeldIn Y n past → ⊥
 free-unheld Y past n {frame} {older} inside here free held =
     let size : length (at n past) ≡ n = length-at n past inside in
@@ -207,7 +207,7 @@ free-unheld Y past n {frame} {older} inside here free held =
     ]
 
 -- what isn't held is free
-pub unheld-free : (Y : End) (past : List Sent) (n : ℕ) {frame : Sent} {older : List Sent} → n ≤ length past → at n past ≡ frame ∷ older
+pub unheld-free : (Y : End) (past : List PastFrame) (n : ℕ) {frame : PastFrame} {older : List PastFrame} → n ≤ length past → at n past ≡ frame ∷ older
     → (IsHeldIn Y n past → ⊥) → is_free (newest_repeat past) (Some (newest (late_of Y) (frame ∷ older))) ≡ true
 unheld-free Y past n {frame} {older} inside here free = elim (cases_lt 0 (newest (late_of Y) (frame ∷ older))) [
   | inr none ↦
@@ -238,12 +238,12 @@ unheld-free Y past n {frame} {older} inside here free = elim (cases_lt 0 (newest
 -- ---- what reached an end
 
 -- some frame that passes reached what is sent behind this past
-pub record IsReached (p : List Sent → Bool) (came : ℕ → Bool) (past : List Sent) : Type 0 where
+pub record IsReached (p : List PastFrame → Bool) (came : ℕ → Bool) (past : List PastFrame) : Type 0 where
   pub n : ℕ
   pub reaches : Reaches came n past
   pub passes : p (reaches.frame ∷ reaches.older) ≡ true
 
-module _ (p : List Sent → Bool) (Y : End) (came : ℕ → Bool) (past : List Sent) where
+module _ (p : List PastFrame → Bool) (Y : End) (came : ℕ → Bool) (past : List PastFrame) where
   pub reached-free : (n : ℕ) (reaches : Reaches came n past) → reaches.frame.from ≡ Y → p (reaches.frame ∷ reaches.older) ≡ true
       → is_free (newest_repeat past) (first_late p Y came past) ≡ true
   reached-free n reaches from passes =
@@ -251,7 +251,7 @@ module _ (p : List Sent → Bool) (Y : End) (came : ℕ → Bool) (past : List S
       let free = unheld-free Y past n reaches.inside reaches.here (λ held. reaches.free (rw from held)) in
       ap (is_free (newest_repeat past)) it.is ∙ free-lower (newest_repeat past) it.late _ it.below free
 
-  pub free-reached : ((frame : Sent) (older : List Sent) → p (frame ∷ older) ≡ true → frame.from ≡ Y)
+  pub free-reached : ((frame : PastFrame) (older : List PastFrame) → p (frame ∷ older) ≡ true → frame.from ≡ Y)
       → is_free (newest_repeat past) (first_late p Y came past) ≡ true → IsReached p came past
   free-reached from free = elim (either (first_late p Y came past)) [
     | inl none ↦ (let e : false ≡ true = ap (is_free (newest_repeat past)) (sym none) ∙ free in absurd cc)

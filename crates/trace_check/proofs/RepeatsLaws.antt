@@ -6,7 +6,7 @@ use Rattle.padp_link.specs.declared.piece.Key.{Key}
 use Rattle.trace_text.specs.declared.frame.End.{End}
 use Rattle.trace_text.specs.declared.frame.End.TheVariants.{Handheld, Desktop}
 use Rattle.trace_text.specs.Faults.{newest_repeat}
-use Rattle.trace_text.specs.Past.{Sent, is_end, first, said, is_data_of, is_newest_key, is_repeat}
+use Rattle.trace_text.specs.Past.{PastFrame, is_end, first, said, is_data_of, is_newest_key, is_repeat}
 use Rattle.line_laws.proofs.PastLaws.{is_end-same, first_said}
 use Rattle.line_laws.proofs.TraceLaws.{last_repeat-is, last_repeat-stays, last_repeat-inside}
 use Rattle.trace_check.specs.Acking.{newest_of, repeats_after, IsRepeats}
@@ -21,12 +21,12 @@ repeats-none = record { key_is = keys; newest_is = refl; count_is = refl }
     keys Handheld = refl
     keys Desktop = refl
 
-newest-after : (X : End) (frame : Sent) (old : Repeats)
+newest-after : (X : End) (frame : PastFrame) (old : Repeats)
     → newest_of X (repeats_after frame old) ≡ (if is_data_of X frame then Some frame.key else newest_of X old)
 newest-after Handheld frame old = refl
 newest-after Desktop frame old = refl
 
-said-after : (X : End) (frame : Sent) (past : List Sent) (key : Option Key) → key ≡ first (said X past)
+said-after : (X : End) (frame : PastFrame) (past : List PastFrame) (key : Option Key) → key ≡ first (said X past)
     → (if is_data_of X frame then Some frame.key else key) ≡ first (said X (frame ∷ past))
 said-after X frame past key is = elim (cases_Bool (is_data_of X frame)) [
   | inl mine ↦ cond-true _ (Some frame.key) key mine ∙ sym (first_said X frame past mine)
@@ -34,11 +34,11 @@ said-after X frame past key is = elim (cases_Bool (is_data_of X frame)) [
 ]
 
 -- the frame is a repeat of no other end than its own
-other-repeat : (X Y : End) (frame : Sent) (past : List Sent) → frame.from ≡ X → is_end Y X ≡ false → is_repeat Y frame past ≡ false
+other-repeat : (X Y : End) (frame : PastFrame) (past : List PastFrame) → frame.from ≡ X → is_end Y X ≡ false → is_repeat Y frame past ≡ false
 other-repeat X Y frame past from apart =
     ap (λ b. (b && frame.is_data) && is_newest_key frame.key (said Y past)) (ap (is_end Y) from ∙ apart)
 
-repeat-after : (from : End) (frame : Sent) (past : List Sent) (again : Bool) → frame.from ≡ from → again ≡ is_repeat from frame past
+repeat-after : (from : End) (frame : PastFrame) (past : List PastFrame) (again : Bool) → frame.from ≡ from → again ≡ is_repeat from frame past
     → (if again then length past + 1 else newest_repeat past) ≡ newest_repeat (frame ∷ past)
 repeat-after Handheld frame past true from is =
     let stays = last_repeat-stays Desktop frame past (other-repeat Handheld Desktop frame past from refl) in
@@ -57,7 +57,7 @@ repeat-after Desktop frame past false from is =
     let here = last_repeat-stays Desktop frame past (sym is) in
     omega (arith, stays, here)
 
-pub repeats-more : (frame : Sent) (past : List Sent) (old : Repeats) → IsRepeats past old → IsRepeats (frame ∷ past) (repeats_after frame old)
+pub repeats-more : (frame : PastFrame) (past : List PastFrame) (old : Repeats) → IsRepeats past old → IsRepeats (frame ∷ past) (repeats_after frame old)
 repeats-more frame past old is = record {
   key_is = λ X. newest-after X frame old ∙ said-after X frame past (newest_of X old) (is.key_is X);
   newest_is = newest_now;

@@ -4,7 +4,7 @@ use Rattle.std.proofs.lemmas.Bool.{cases_lt}
 use Rattle.std.specs.Prelude.{◌↔◌}
 use Rattle.trace_text.specs.declared.frame.End.{End}
 use Rattle.trace_text.specs.declared.frame.End.TheVariants.{Handheld, Desktop}
-use Rattle.trace_text.specs.Past.{Sent}
+use Rattle.trace_text.specs.Past.{PastFrame}
 use Rattle.trace_text.specs.Frames.{past_of, came_in}
 use Rattle.trace_text.specs.Proper.{BeginInTurn}
 use Rattle.trace_text.specs.Talks.{Talk}
@@ -17,15 +17,15 @@ use Rattle.trace_check.specs.declared.rule.Verdict.{Verdict}
 use Rattle.trace_check.specs.declared.rule.Verdict.TheVariants.{Proper, Not}
 
 -- both halves of beginning in turn
-pub begin-knows : (X Y : End) (talk : Talk) (came : ℕ → Bool) (past : List Sent) → BeginInTurn X Y talk came past → KnowsBefore X Y talk came past
+pub begin-knows : (X Y : End) (talk : Talk) (came : ℕ → Bool) (past : List PastFrame) → BeginInTurn X Y talk came past → KnowsBefore X Y talk came past
 begin-knows X Y talk came [] all = tt
 begin-knows X Y talk came (frame ∷ past) all = (λ is new some. (all.0 is new).0 some, begin-knows X Y talk came past all.1)
 
-pub begin-answers : (X Y : End) (talk : Talk) (came : ℕ → Bool) (past : List Sent) → BeginInTurn X Y talk came past → AnswersInTurn X talk came past
+pub begin-answers : (X Y : End) (talk : Talk) (came : ℕ → Bool) (past : List PastFrame) → BeginInTurn X Y talk came past → AnswersInTurn X talk came past
 begin-answers X Y talk came [] all = tt
 begin-answers X Y talk came (frame ∷ past) all = (λ is new. (all.0 is new).1, begin-answers X Y talk came past all.1)
 
-pub begin-both : (X Y : End) (talk : Talk) (came : ℕ → Bool) (past : List Sent) → KnowsBefore X Y talk came past → AnswersInTurn X talk came past
+pub begin-both : (X Y : End) (talk : Talk) (came : ℕ → Bool) (past : List PastFrame) → KnowsBefore X Y talk came past → AnswersInTurn X talk came past
     → BeginInTurn X Y talk came past
 begin-both X Y talk came [] knows answers = tt
 begin-both X Y talk came (frame ∷ past) knows answers =

@@ -4,13 +4,13 @@ use Rattle.std.proofs.lemmas.Bool.{cond-true, cond-false}
 use Rattle.padp_link.specs.FragmentText.{FragmentValue}
 use Rattle.padp_link.specs.Pieces.{key_of}
 use Rattle.trace_text.specs.Frames.{course_of, is_data_kind, is_abort, sent_in, add_frame}
-use Rattle.trace_text.specs.Past.{Sent}
+use Rattle.trace_text.specs.Past.{PastFrame}
 use Rattle.trace_text.specs.TraceLines.{FrameValue}
 use Rattle.trace_check.specs.Bearing.{Bears}
 use Rattle.trace_check.proofs.BearingLaws.{bears-read}
 
 -- what is sent in a frame with this fragment
-abbrev pub sent_with : FrameValue → ℕ → FragmentValue → Sent
+abbrev pub sent_with : FrameValue → ℕ → FragmentValue → PastFrame
 sent_with frame id fragment = record {
   from = frame.from;
   is_data = is_data_kind fragment.kind;
@@ -20,12 +20,12 @@ sent_with frame id fragment = record {
 }
 
 pub sent-abort : (frame : FrameValue) {id : ℕ} {fragment : FragmentValue} → Bears frame.bytes id fragment → is_abort fragment.kind ≡ true
-    → (past : List Sent) → add_frame frame past ≡ past
+    → (past : List PastFrame) → add_frame frame past ≡ past
 sent-abort frame bears aborts past =
     cond-true _ past (sent_in frame ∷ past) (ap (λ (f : FragmentValue). is_abort f.kind) (bears-read frame bears).1 ∙ aborts)
 
 pub sent-some : (frame : FrameValue) {id : ℕ} {fragment : FragmentValue} → Bears frame.bytes id fragment → is_abort fragment.kind ≡ false
-    → (past : List Sent) → add_frame frame past ≡ sent_with frame id fragment ∷ past
+    → (past : List PastFrame) → add_frame frame past ≡ sent_with frame id fragment ∷ past
 sent-some frame {id} {fragment} bears goes past =
     let read = bears-read frame bears in
     let is : sent_in frame ≡ sent_with frame id fragment = ap (sent_with frame _) read.1 ∙ ap (λ n. sent_with frame n fragment) read.0 in

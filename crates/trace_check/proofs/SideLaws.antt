@@ -1,7 +1,7 @@
 -- What is known of the ends, from one frame to the next.
 use Rattle.line_laws.proofs.Names.{◌≡◌, ℕ, ◌+◌, ◌-◌, ◌<◌, ◌≤◌, Bool, true, false, ◌&&◌, cond, List, [], ◌∷◌, ◌++◌, length, Option, Some, None}
 use Rattle.line_laws.proofs.Names.{refl, sym, ap, subst, ◌∙◌, arith, inl, inr, cases_Bool, cases_lt, cond-true, cond-false, and_parts, both_ways, nat_eq}
-use Rattle.line_laws.proofs.Names.{drop, piece_count, End, Sent, Key, at, first, said, add, data_of, is_data_of}
+use Rattle.line_laws.proofs.Names.{drop, piece_count, End, PastFrame, Key, at, first, said, add, data_of, is_data_of}
 use Rattle.line_laws.proofs.Names.{late_of, newest, Part, part_of, session_parts, pieces_before, messages_of, Talk, is_ack_of}
 use Rattle.std.proofs.Common.{get_or, set}
 use Rattle.std.proofs.lemmas.Bool.{eqb-true, eq-eqb, ne_eqb}
@@ -18,10 +18,10 @@ use Rattle.std.specs.Bool.{then_some}
 
 -- ---- what is said
 
-pub said-same : (X : End) (frame : Sent) (past : List Sent) → is_data_of X frame ≡ false → said X (frame ∷ past) ≡ said X past
+pub said-same : (X : End) (frame : PastFrame) (past : List PastFrame) → is_data_of X frame ≡ false → said X (frame ∷ past) ≡ said X past
 said-same X frame past other = ap (λ o. add o (said X past)) (cond-false (is_data_of X frame) (Some frame.key) None other)
 
-said-new : (X : End) (frame : Sent) (past : List Sent) → is_data_of X frame ≡ true → is_newest_key frame.key (said X past) ≡ false
+said-new : (X : End) (frame : PastFrame) (past : List PastFrame) → is_data_of X frame ≡ true → is_newest_key frame.key (said X past) ≡ false
     → said X (frame ∷ past) ≡ frame.key ∷ said X past
 said-new X frame past is new =
     ap (λ o. add o (said X past)) (cond-true (is_data_of X frame) (Some frame.key) None is) ∙ add_new (said X past) (newest_apart frame.key (said X past) new)
@@ -30,26 +30,26 @@ pub newest_first : (key : Key) (keys : List Key) → is_newest_key key keys ≡ 
 newest_first key [] same = absurd cc
 newest_first key (newest ∷ older) same = (ap Some (sym (same_key-true same)), omega arith)
 
-said-again : (X : End) (frame : Sent) (past : List Sent) → is_data_of X frame ≡ true → is_newest_key frame.key (said X past) ≡ true
+said-again : (X : End) (frame : PastFrame) (past : List PastFrame) → is_data_of X frame ≡ true → is_newest_key frame.key (said X past) ≡ true
     → said X (frame ∷ past) ≡ said X past
 said-again X frame past is same =
     ap (λ o. add o (said X past)) (cond-true (is_data_of X frame) (Some frame.key) None is) ∙ add_first (newest_first frame.key (said X past) same).0
 
 -- ---- which frames pass
 
-bears-other : (X : End) (number : ℕ) (frame : Sent) (past : List Sent) → is_data_of X frame ≡ false → bears X number (frame ∷ past) ≡ false
+bears-other : (X : End) (number : ℕ) (frame : PastFrame) (past : List PastFrame) → is_data_of X frame ≡ false → bears X number (frame ∷ past) ≡ false
 bears-other X number frame past other = ap (λ b. b && nat_eq (length (said X (frame ∷ past))) number) other
 
-bears-number : (X : End) (number : ℕ) (frame : Sent) (past : List Sent) → is_data_of X frame ≡ true
+bears-number : (X : End) (number : ℕ) (frame : PastFrame) (past : List PastFrame) → is_data_of X frame ≡ true
     → bears X number (frame ∷ past) ≡ nat_eq (length (said X (frame ∷ past))) number
 bears-number X number frame past is = ap (λ b. b && nat_eq (length (said X (frame ∷ past))) number) is
 
-pub acks-other : (X Y : End) (number : ℕ) (frame : Sent) (past : List Sent) → is_ack_of Y frame ≡ false → acks X Y number (frame ∷ past) ≡ false
+pub acks-other : (X Y : End) (number : ℕ) (frame : PastFrame) (past : List PastFrame) → is_ack_of Y frame ≡ false → acks X Y number (frame ∷ past) ≡ false
 acks-other X Y number frame past other =
     ap (λ b. b && nat_eq (length (said X (frame ∷ past))) number && is_newest_key frame.key (said X (frame ∷ past))) other
 
 -- no fragment beyond those that were said is borne or acknowledged
-bears-none : (X : End) (number : ℕ) (came : ℕ → Bool) (past : List Sent) → length (said X past) < number → first_late (bears X number) X came past ≡ None
+bears-none : (X : End) (number : ℕ) (came : ℕ → Bool) (past : List PastFrame) → length (said X past) < number → first_late (bears X number) X came past ≡ None
 bears-none X number came past less = none_found (bears X number) X came past none where
   none : (late : ℕ) → IsFound (bears X number) X came past late → ⊥
   none late it =
@@ -59,7 +59,7 @@ bears-none X number came past less = none_found (bears X number) X came past non
       eqb-true _ _ (and_parts (is_data_of X it.frame) (nat_eq (length (said X (it.frame ∷ it.older))) number) it.passes).1 in
       omega (arith, below, size, is, less)
 
-acks-none : (X Y : End) (number : ℕ) (came : ℕ → Bool) (past : List Sent) → length (said X past) < number → first_late (acks X Y number) Y came past ≡ None
+acks-none : (X Y : End) (number : ℕ) (came : ℕ → Bool) (past : List PastFrame) → length (said X past) < number → first_late (acks X Y number) Y came past ≡ None
 acks-none X Y number came past less = none_found (acks X Y number) Y came past none where
   none : (late : ℕ) → IsFound (acks X Y number) Y came past late → ⊥
   none late it =
@@ -114,7 +114,7 @@ starts-begin messages said size starts were same less some next = record {
 -- ---- from one frame to the next
 
 -- the end says no data
-pub side-quiet : (X Y : End) (talk : Talk) (came : ℕ → Bool) (frame : Sent) (past : List Sent) (side : SideValue) (acked : Option ℕ) (late : ℕ)
+pub side-quiet : (X Y : End) (talk : Talk) (came : ℕ → Bool) (frame : PastFrame) (past : List PastFrame) (side : SideValue) (acked : Option ℕ) (late : ℕ)
     → IsSide X Y talk came past side → is_data_of X frame ≡ false
     → acked ≡ first_late (acks X Y (length (said X past))) Y came (frame ∷ past) → late ≡ newest (late_of X) (frame ∷ past)
     → IsSide X Y talk came (frame ∷ past) (record { starts = side.starts; arrivals = side.arrivals; key = side.key; ack = acked; late = late })
@@ -133,7 +133,7 @@ side-quiet X Y talk came frame past side acked late was other ack_is late_is =
     }
 
 -- it says its newest fragment again
-pub side-repeats : (X Y : End) (talk : Talk) (came : ℕ → Bool) (frame : Sent) (past : List Sent) (side : SideValue)
+pub side-repeats : (X Y : End) (talk : Talk) (came : ℕ → Bool) (frame : PastFrame) (past : List PastFrame) (side : SideValue)
     → IsSide X Y talk came past side → is_data_of X frame ≡ true → is_ack_of Y frame ≡ false → is_newest_key frame.key (said X past) ≡ true
     → IsSide X Y talk came (frame ∷ past)
     (with_repeat (then_some (came (length past + 1)) (newest (late_of X) (frame ∷ past))) (record side { late = newest (late_of X) (frame ∷ past) }))
@@ -179,7 +179,7 @@ side-repeats X Y talk came frame past side was is no_ack again =
     ]
 
 -- it says a new one
-pub side-begins : (X Y : End) (talk : Talk) (came : ℕ → Bool) (frame : Sent) (past : List Sent) (side : SideValue)
+pub side-begins : (X Y : End) (talk : Talk) (came : ℕ → Bool) (frame : PastFrame) (past : List PastFrame) (side : SideValue)
     → IsSide X Y talk came past side → is_data_of X frame ≡ true → is_ack_of Y frame ≡ false → is_newest_key frame.key (said X past) ≡ false
     → SaysMessages X talk (frame ∷ past)
     → IsSide X Y talk came (frame ∷ past)

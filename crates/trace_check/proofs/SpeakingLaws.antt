@@ -10,7 +10,7 @@ use Rattle.padp_link.specs.declared.piece.Key.{Key}
 use Rattle.trace_text.specs.declared.frame.End.{End}
 use Rattle.trace_text.specs.Faults.{faulted, newest}
 use Rattle.trace_text.specs.Parts.{Part, part_of, spoken, key_of_part}
-use Rattle.trace_text.specs.Past.{Sent, same_key, first, said, is_data_of, is_newest_key, is_repeat, run}
+use Rattle.trace_text.specs.Past.{PastFrame, same_key, first, said, is_data_of, is_newest_key, is_repeat, run}
 use Rattle.line_laws.proofs.CameLaws.{ten-run}
 use Rattle.line_laws.proofs.PartLaws.{spoken_keys, add_part-new, add_part-again}
 use Rattle.line_laws.proofs.PastLaws.{same_key-true, same_key-same}
@@ -27,20 +27,20 @@ silent-so greeting X = record { says = tt; ten = tt }
 
 -- ---- a frame that isn't the end's data
 
-spoken-other : (X : End) (frame : Sent) (past : List Sent) → is_data_of X frame ≡ false → spoken X (frame ∷ past) ≡ spoken X past
+spoken-other : (X : End) (frame : PastFrame) (past : List PastFrame) → is_data_of X frame ≡ false → spoken X (frame ∷ past) ≡ spoken X past
 spoken-other X frame past other = cond-false _ _ _ other
 
-pub said-other : (X : End) (frame : Sent) (past : List Sent) → is_data_of X frame ≡ false → said X (frame ∷ past) ≡ said X past
+pub said-other : (X : End) (frame : PastFrame) (past : List PastFrame) → is_data_of X frame ≡ false → said X (frame ∷ past) ≡ said X past
 said-other X frame past other =
     sym (spoken_keys X (frame ∷ past)) ∙ (ap (λ ps. map key_of_part ps) (spoken-other X frame past other) ∙ spoken_keys X past)
 
-repeat-other : (X : End) (frame : Sent) (past : List Sent) → is_data_of X frame ≡ false → is_repeat X frame past ≡ false
+repeat-other : (X : End) (frame : PastFrame) (past : List PastFrame) → is_data_of X frame ≡ false → is_repeat X frame past ≡ false
 repeat-other X frame past other = ap (λ b. b && is_newest_key frame.key (said X past)) other
 
-run-other : (X : End) (frame : Sent) (past : List Sent) → is_data_of X frame ≡ false → run X (frame ∷ past) ≡ run X past
+run-other : (X : End) (frame : PastFrame) (past : List PastFrame) → is_data_of X frame ≡ false → run X (frame ∷ past) ≡ run X past
 run-other X frame past other = cond-false _ _ _ (repeat-other X frame past other) ∙ cond-false _ _ _ other
 
-pub other-speaker : (X : End) (frame : Sent) (past : List Sent) (speaker : Speaker) → is_data_of X frame ≡ false → IsSpeaker X past speaker
+pub other-speaker : (X : End) (frame : PastFrame) (past : List PastFrame) (speaker : Speaker) → is_data_of X frame ≡ false → IsSpeaker X past speaker
     → IsSpeaker X (frame ∷ past) speaker
 other-speaker X frame past speaker other is = record {
   newest_is = is.newest_is ∙ ap first (sym (said-other X frame past other));
@@ -49,14 +49,14 @@ other-speaker X frame past speaker other is = record {
   standing_is = is.standing_is ∙ ap (λ ps. standing_behind start (reverse ps)) (sym (spoken-other X frame past other));
 }
 
-pub other-so : (greeting : HelloKind) (X : End) (frame : Sent) (past : List Sent) → is_data_of X frame ≡ false → SpeaksSo greeting X past
+pub other-so : (greeting : HelloKind) (X : End) (frame : PastFrame) (past : List PastFrame) → is_data_of X frame ≡ false → SpeaksSo greeting X past
     → SpeaksSo greeting X (frame ∷ past)
 other-so greeting X frame past other so = record {
   says = subst (λ ps. MaySayAll greeting start (reverse ps)) (sym (spoken-other X frame past other)) so.says;
   ten = (omega (arith, ten-run X past so.ten, run-other X frame past other), so.ten);
 }
 
-pub other-fault : (X : End) (frame : Sent) (past : List Sent) → is_data_of X frame ≡ false → HasFault X frame past
+pub other-fault : (X : End) (frame : PastFrame) (past : List PastFrame) → is_data_of X frame ≡ false → HasFault X frame past
 other-fault X frame past other repeats = absurd (both_ways _ (repeat-other X frame past other) repeats)
 
 -- ---- the end's data
@@ -65,26 +65,26 @@ pub is_again-first : (key : Key) (keys : List Key) → is_again (first keys) key
 is_again-first key [] = refl
 is_again-first key (newest ∷ older) = refl
 
-again-is : (X : End) (frame : Sent) (past : List Sent) (speaker : Speaker) → is_data_of X frame ≡ true → IsSpeaker X past speaker
+again-is : (X : End) (frame : PastFrame) (past : List PastFrame) (speaker : Speaker) → is_data_of X frame ≡ true → IsSpeaker X past speaker
     → is_again speaker.newest frame.key ≡ is_repeat X frame past
 again-is X frame past speaker mine is =
     ap (λ k. is_again k frame.key) is.newest_is
     ∙ (is_again-first frame.key (said X past) ∙ sym (ap (λ b. b && is_newest_key frame.key (said X past)) mine))
 
 -- a repeat leaves what was said
-repeat-key : (X : End) (frame : Sent) (past : List Sent) → is_repeat X frame past ≡ true → first (said X past) ≡ Some frame.key
+repeat-key : (X : End) (frame : PastFrame) (past : List PastFrame) → is_repeat X frame past ≡ true → first (said X past) ≡ Some frame.key
 repeat-key X frame past repeats = key-of (said X past) (and_parts (is_data_of X frame) (is_newest_key frame.key (said X past)) repeats).1
   where
     key-of : (keys : List Key) → is_newest_key frame.key keys ≡ true → first keys ≡ Some frame.key
     key-of [] none = absurd cc
     key-of (newest ∷ older) same = ap (λ (k : Key). Some k) (sym (same_key-true same))
 
-spoken-repeat : (X : End) (frame : Sent) (past : List Sent) → is_repeat X frame past ≡ true → spoken X (frame ∷ past) ≡ spoken X past
+spoken-repeat : (X : End) (frame : PastFrame) (past : List PastFrame) → is_repeat X frame past ≡ true → spoken X (frame ∷ past) ≡ spoken X past
 spoken-repeat X frame past repeats =
     cond-true _ _ _ (and_parts (is_data_of X frame) (is_newest_key frame.key (said X past)) repeats).0
     ∙ add_part-again (part_of frame) (spoken X past) (ap first (spoken_keys X past) ∙ repeat-key X frame past repeats)
 
-spoken-new : (X : End) (frame : Sent) (past : List Sent) → is_data_of X frame ≡ true → is_repeat X frame past ≡ false
+spoken-new : (X : End) (frame : PastFrame) (past : List PastFrame) → is_data_of X frame ≡ true → is_repeat X frame past ≡ false
     → spoken X (frame ∷ past) ≡ part_of frame ∷ spoken X past
 spoken-new X frame past mine new =
     cond-true _ _ _ mine ∙ add_part-new {part = part_of frame} (spoken X past)
@@ -95,10 +95,10 @@ spoken-new X frame past mine new =
     repeats [] same = absurd cc
     repeats (newest ∷ older) same = let e : newest ≡ frame.key = cc in ap (same_key frame.key) e ∙ same_key-same frame.key
 
-said-first : (X : End) (frame : Sent) (past : List Sent) (parts : List Part) → spoken X (frame ∷ past) ≡ parts → first (said X (frame ∷ past)) ≡ first (map key_of_part parts)
+said-first : (X : End) (frame : PastFrame) (past : List PastFrame) (parts : List Part) → spoken X (frame ∷ past) ≡ parts → first (said X (frame ∷ past)) ≡ first (map key_of_part parts)
 said-first X frame past parts is = ap first (sym (spoken_keys X (frame ∷ past)) ∙ ap (λ ps. map key_of_part ps) is)
 
-repeat-speaker : (X : End) (frame : Sent) (past : List Sent) (old : Speaker) → is_repeat X frame past ≡ true → IsSpeaker X past old
+repeat-speaker : (X : End) (frame : PastFrame) (past : List PastFrame) (old : Speaker) → is_repeat X frame past ≡ true → IsSpeaker X past old
     → IsSpeaker X (frame ∷ past) (repeated_at (length past + 1) old)
 repeat-speaker X frame past old repeats is = record {
   newest_is = is.newest_is ∙ sym (said-first X frame past (spoken X past) (spoken-repeat X frame past repeats) ∙ ap first (spoken_keys X past));
@@ -107,18 +107,18 @@ repeat-speaker X frame past old repeats is = record {
   standing_is = is.standing_is ∙ ap (λ ps. standing_behind start (reverse ps)) (sym (spoken-repeat X frame past repeats));
 }
 
-repeat-so : (greeting : HelloKind) (X : End) (frame : Sent) (past : List Sent) → is_repeat X frame past ≡ true → run X past < 10 → SpeaksSo greeting X past
+repeat-so : (greeting : HelloKind) (X : End) (frame : PastFrame) (past : List PastFrame) → is_repeat X frame past ≡ true → run X past < 10 → SpeaksSo greeting X past
     → SpeaksSo greeting X (frame ∷ past)
 repeat-so greeting X frame past repeats few so = record {
   says = subst (λ ps. MaySayAll greeting start (reverse ps)) (sym (spoken-repeat X frame past repeats)) so.says;
   ten = (omega (arith, few, cond-true _ (run X past + 1) (if is_data_of X frame then 1 else run X past) repeats), so.ten);
 }
 
-reverse-new : (X : End) (frame : Sent) (past : List Sent) → is_data_of X frame ≡ true → is_repeat X frame past ≡ false
+reverse-new : (X : End) (frame : PastFrame) (past : List PastFrame) → is_data_of X frame ≡ true → is_repeat X frame past ≡ false
     → reverse (spoken X (frame ∷ past)) ≡ reverse (spoken X past) ++ part_of frame ∷ []
 reverse-new X frame past mine new = ap reverse (spoken-new X frame past mine new) ∙ reverse-append (part_of frame ∷ []) (spoken X past)
 
-new-speaker : (X : End) (frame : Sent) (past : List Sent) (old : Speaker) → is_data_of X frame ≡ true → is_repeat X frame past ≡ false → IsSpeaker X past old
+new-speaker : (X : End) (frame : PastFrame) (past : List PastFrame) (old : Speaker) → is_data_of X frame ≡ true → is_repeat X frame past ≡ false → IsSpeaker X past old
     → IsSpeaker X (frame ∷ past) (begun_with (part_of frame) old)
 new-speaker X frame past old mine new is = record {
   newest_is = sym (said-first X frame past (part_of frame ∷ spoken X past) (spoken-new X frame past mine new));
@@ -128,7 +128,7 @@ new-speaker X frame past old mine new is = record {
       ∙ (sym (standing_behind-push start (reverse (spoken X past)) (part_of frame)) ∙ ap (standing_behind start) (sym (reverse-new X frame past mine new)));
 }
 
-new-so : (greeting : HelloKind) (X : End) (frame : Sent) (past : List Sent) → is_data_of X frame ≡ true → is_repeat X frame past ≡ false
+new-so : (greeting : HelloKind) (X : End) (frame : PastFrame) (past : List PastFrame) → is_data_of X frame ≡ true → is_repeat X frame past ≡ false
     → MaySay greeting (standing_behind start (reverse (spoken X past))) (part_of frame) → SpeaksSo greeting X past → SpeaksSo greeting X (frame ∷ past)
 new-so greeting X frame past mine new may so = record {
   says = subst (MaySayAll greeting start) (sym (reverse-new X frame past mine new)) (MaySayAll-push greeting start (reverse (spoken X past)) (part_of frame) so.says may);
@@ -138,7 +138,7 @@ new-so greeting X frame past mine new may so = record {
 -- ---- both
 
 -- what it may say keeps the rule
-pub next-says : (greeting : HelloKind) (X : End) (frame : Sent) (past : List Sent) (old new : Speaker) → is_data_of X frame ≡ true → IsSpeaker X past old
+pub next-says : (greeting : HelloKind) (X : End) (frame : PastFrame) (past : List PastFrame) (old new : Speaker) → is_data_of X frame ≡ true → IsSpeaker X past old
     → SpeaksSo greeting X past → SaysNext greeting old (part_of frame) (length past + 1) (newest faulted past) new
     → IsSpeaker X (frame ∷ past) new × SpeaksSo greeting X (frame ∷ past) × HasFault X frame past
 next-says greeting X frame past old new mine is so says = elim (cases_Bool (is_repeat X frame past)) [
@@ -157,7 +157,7 @@ next-says greeting X frame past old new mine is so says = elim (cases_Bool (is_r
 ]
 
 -- what keeps the rule it may say
-pub says-next : (greeting : HelloKind) (X : End) (frame : Sent) (past : List Sent) (old : Speaker) → is_data_of X frame ≡ true → IsSpeaker X past old
+pub says-next : (greeting : HelloKind) (X : End) (frame : PastFrame) (past : List PastFrame) (old : Speaker) → is_data_of X frame ≡ true → IsSpeaker X past old
     → SpeaksSo greeting X (frame ∷ past) → HasFault X frame past
     → (new : Speaker) × SaysNext greeting old (part_of frame) (length past + 1) (newest faulted past) new
 says-next greeting X frame past old mine is so fault = elim (cases_Bool (is_repeat X frame past)) [
@@ -188,7 +188,7 @@ says-next greeting X frame past old mine is so fault = elim (cases_Bool (is_repe
   from_false P Q is q = subst (λ b. MatchBool b P Q) (sym is) q
 
 -- what was said before keeps the rule too
-pub so-before : (greeting : HelloKind) (X : End) (frame : Sent) (past : List Sent) → SpeaksSo greeting X (frame ∷ past) → SpeaksSo greeting X past
+pub so-before : (greeting : HelloKind) (X : End) (frame : PastFrame) (past : List PastFrame) → SpeaksSo greeting X (frame ∷ past) → SpeaksSo greeting X past
 so-before greeting X frame past so = elim (cases_Bool (is_data_of X frame)) [
   | inl mine ↦ elim (cases_Bool (is_repeat X frame past)) [
     | inl repeats ↦ record { says = subst (λ ps. MaySayAll greeting start (reverse ps)) (spoken-repeat X frame past repeats) so.says; ten = so.ten.1 }

@@ -1,7 +1,7 @@
 -- Where the messages of an end begin among its fragments.
 use Rattle.line_laws.proofs.Names.{◌≡◌, ◌⊎◌, ℕ, zero, suc, ◌+◌, ◌-◌, ◌<◌, true, false, List, [], ◌∷◌, ◌++◌, length, drop, map, reverse, Some}
 use Rattle.line_laws.proofs.Names.{refl, sym, ap, ◌∙◌, arith, inl, inr, cases_Bool, cond-true, cond-false, append_assoc, length-map, range_with_len, piece_count}
-use Rattle.line_laws.proofs.Names.{Piece, piece_of, pieces, fragment_of, session_id, End, Sent, Key, Part, key_of_part, part_of, add_part, spoken, message_parts, session_parts}
+use Rattle.line_laws.proofs.Names.{Piece, piece_of, pieces, fragment_of, session_id, End, PastFrame, Key, Part, key_of_part, part_of, add_part, spoken, message_parts, session_parts}
 use Rattle.line_laws.proofs.Names.{first, said, same_key, is_data_of, pieces_before, messages_of, Talk, length-map-range_with_len}
 use Rattle.std.proofs.lemmas.List.{length-reverse, length-append, reverse-append}
 use Rattle.std.proofs.Math.Seq.{drop-append_seam, drop-append-add}
@@ -70,7 +70,7 @@ newest_apart key (newest ∷ older) new is =
     let e : true ≡ false = sym (same_key-same key) ∙ (ap (same_key key) (sym same) ∙ new) in
     absurd cc
 
-module _ (X : End) (frame : Sent) (past : List Sent) where
+module _ (X : End) (frame : PastFrame) (past : List PastFrame) where
   pub spoken-new : is_data_of X frame ≡ true → is_newest_key frame.key (said X past) ≡ false → spoken X (frame ∷ past) ≡ part_of frame ∷ spoken X past
   spoken-new is new =
       cond-true (is_data_of X frame) (add_part (part_of frame) (spoken X past)) (spoken X past) is

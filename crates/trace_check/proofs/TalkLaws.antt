@@ -4,7 +4,7 @@ use Rattle.std.proofs.lemmas.List.{length-map, length-reverse}
 use Rattle.trace_text.specs.declared.frame.End.{End}
 use Rattle.trace_text.specs.declared.frame.End.TheVariants.{Handheld, Desktop}
 use Rattle.trace_text.specs.Fates.{FateValue}
-use Rattle.trace_text.specs.Past.{Sent, said, at, data_of}
+use Rattle.trace_text.specs.Past.{PastFrame, said, at, data_of}
 use Rattle.trace_text.specs.Parts.{spoken, key_of_part, session_parts}
 use Rattle.trace_text.specs.Frames.{past_of, came_in}
 use Rattle.trace_text.specs.Proper.{IsProper, SpeaksProperly, SaysMessages, BeginInTurn, IsKnown, AcksNewest, AnswersNewest, IfAnswers}
@@ -21,27 +21,27 @@ use Rattle.trace_check.proofs.FilledLaws.{Agrees, Heard, heard, first-told}
 use Rattle.trace_check.proofs.RunLaws.{proper-fates}
 
 -- the messages of both ends agree as far as they were begun
-abbrev Agree : Talk → Talk → List Sent → Type 0
+abbrev Agree : Talk → Talk → List PastFrame → Type 0
 Agree talk other past = (Z : End) → Agrees (messages_of Z talk) (messages_of Z other) (length (said Z past))
 
-agree-before : (talk other : Talk) (frame : Sent) (past : List Sent) → Agree talk other (frame ∷ past) → Agree talk other past
+agree-before : (talk other : Talk) (frame : PastFrame) (past : List PastFrame) → Agree talk other (frame ∷ past) → Agree talk other past
 agree-before talk other frame past agree Z =
     let was = agree Z in
     let grows = keys_push (data_of Z) frame past in
     record { few = was.few; stays = was.stays; begun = λ k less some. was.begun k less (omega (arith, some, grows)) }
 
 -- a message of which this fragment was said was begun
-said-begun : (talk other : Talk) (past : List Sent) (Z : End) (n number place : ℕ) → Agree talk other past → number < length (messages_of Z talk)
+said-begun : (talk other : Talk) (past : List PastFrame) (Z : End) (n number place : ℕ) → Agree talk other past → number < length (messages_of Z talk)
     → length (said Z (at n past)) ≡ place → pieces_before (messages_of Z talk) number < place → number < length (messages_of Z other)
 said-begun talk other past Z n number place agree there said_is less =
     let below = keys_below (data_of Z) n past in
     (agree Z).begun number there (omega (arith, below, said_is, less))
 
-known-agrees : (X Y : End) (talk other : Talk) (came : ℕ → Bool) (past : List Sent) → Agree talk other past → IsKnown X Y talk came past
+known-agrees : (X Y : End) (talk other : Talk) (came : ℕ → Bool) (past : List PastFrame) → Agree talk other past → IsKnown X Y talk came past
     → IsKnown X Y other came past
 known-agrees X Y talk other came past agree was = record { n = was.n; reaches = was.reaches; cause = go was.reaches.frame was.cause }
   where
-    go : (frame : Sent) → AcksNewest X Y past was.n frame ⊎ AnswersNewest X Y talk past was.n frame
+    go : (frame : PastFrame) → AcksNewest X Y past was.n frame ⊎ AnswersNewest X Y talk past was.n frame
         → AcksNewest X Y past was.n frame ⊎ AnswersNewest X Y other past was.n frame
     go frame (inl ack) = inl ack
     go frame (inr answer) =
@@ -62,7 +62,7 @@ known-agrees X Y talk other came past agree was = record { n = was.n; reaches = 
           };
         })
 
-answers-agree : (turn : Option Turn) (talk other : Talk) (came : ℕ → Bool) (past : List Sent) → Agree talk other past → IfAnswers turn talk came past
+answers-agree : (turn : Option Turn) (talk other : Talk) (came : ℕ → Bool) (past : List PastFrame) → Agree talk other past → IfAnswers turn talk came past
     → IfAnswers turn other came past
 answers-agree None talk other came past agree was = tt
 answers-agree (Some turn) talk other came past agree was =
@@ -79,7 +79,7 @@ answers-agree (Some turn) talk other came past agree was =
       };
     }
 
-begins-agree : (X Y : End) (talk other : Talk) (came : ℕ → Bool) (past : List Sent) → Agree talk other past → BeginInTurn X Y talk came past
+begins-agree : (X Y : End) (talk other : Talk) (came : ℕ → Bool) (past : List PastFrame) → Agree talk other past → BeginInTurn X Y talk came past
     → BeginInTurn X Y other came past
 begins-agree X Y talk other came [] agree was = tt
 begins-agree X Y talk other came (frame ∷ past) agree was =

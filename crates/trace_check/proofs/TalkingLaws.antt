@@ -12,7 +12,7 @@ use Rattle.trace_text.specs.declared.frame.End.TheVariants.{Handheld, Desktop}
 use Rattle.trace_text.specs.Faults.{is_faulty, newest}
 use Rattle.trace_text.specs.Frames.{BearsFragment, sent_in, add_frame, is_abort, fragment_in, past_behind, past_of}
 use Rattle.trace_text.specs.Parts.{Part, part_of, add_part, spoken, session_parts}
-use Rattle.trace_text.specs.Past.{Sent, is_end, same_key, is_data_of}
+use Rattle.trace_text.specs.Past.{PastFrame, is_end, same_key, is_data_of}
 use Rattle.trace_text.specs.Proper.{SaysMessages}
 use Rattle.trace_text.specs.Talks.{messages_of}
 use Rattle.trace_text.specs.TraceLines.{FrameValue}
@@ -44,7 +44,7 @@ silent-talks = record { speaks = λ X. silent-so (greeting_of X) X; faults = tt 
 -- ---- one frame more
 
 -- both behind one frame more
-abbrev pub counted_on : Sent → Talking → Talking
+abbrev pub counted_on : PastFrame → Talking → Talking
 counted_on frame talking = record {
   handheld = talking.handheld;
   desktop = talking.desktop;
@@ -52,10 +52,10 @@ counted_on frame talking = record {
   fault = if is_faulty frame.course then talking.count + 1 else talking.fault;
 }
 
-data_is : (X : End) (frame : Sent) → frame.from ≡ X → frame.is_data ≡ true → is_data_of X frame ≡ true
+data_is : (X : End) (frame : PastFrame) → frame.from ≡ X → frame.is_data ≡ true → is_data_of X frame ≡ true
 data_is X frame from is = ap (λ b. b && frame.is_data) (ap (is_end X) from ∙ is_end-same X) ∙ is
 
-no_data : (X : End) (frame : Sent) → frame.is_data ≡ false → is_data_of X frame ≡ false
+no_data : (X : End) (frame : PastFrame) → frame.is_data ≡ false → is_data_of X frame ≡ false
 no_data X frame other = ap (λ b. is_end X frame.from && b) other ∙ none (is_end X frame.from)
   where
     none : (b : Bool) → (b && false) ≡ false
@@ -63,12 +63,12 @@ no_data X frame other = ap (λ b. is_end X frame.from && b) other ∙ none (is_e
     none false = refl
 
 -- what holds of each end behind the frame
-record Turns (X : End) (frame : Sent) (past : List Sent) (speaker : Speaker) : Type 0 where
+record Turns (X : End) (frame : PastFrame) (past : List PastFrame) (speaker : Speaker) : Type 0 where
   is : IsSpeaker X (frame ∷ past) speaker
   so : SpeaksSo (greeting_of X) X (frame ∷ past)
   fault : HasFault X frame past
 
-turns-other : (X : End) (frame : Sent) (past : List Sent) (speaker : Speaker) → is_data_of X frame ≡ false → IsSpeaker X past speaker
+turns-other : (X : End) (frame : PastFrame) (past : List PastFrame) (speaker : Speaker) → is_data_of X frame ≡ false → IsSpeaker X past speaker
     → SpeaksSo (greeting_of X) X past → Turns X frame past speaker
 turns-other X frame past speaker other is so = record {
   is = other-speaker X frame past speaker other is;
@@ -76,7 +76,7 @@ turns-other X frame past speaker other is so = record {
   fault = other-fault X frame past other;
 }
 
-turns-both : (frame : Sent) (past : List Sent) (old new : Talking) → IsTalking past old → TalksSo past → new.count ≡ old.count → new.fault ≡ old.fault
+turns-both : (frame : PastFrame) (past : List PastFrame) (old new : Talking) → IsTalking past old → TalksSo past → new.count ≡ old.count → new.fault ≡ old.fault
     → ((X : End) → Turns X frame past (speaker_of X new)) → IsTalking (frame ∷ past) (counted_on frame new) × TalksSo (frame ∷ past)
 turns-both frame past old new is so count fault turns = (
   record {
@@ -93,14 +93,14 @@ turns-both frame past old new is so count fault turns = (
     speakers Desktop = (turns Desktop).is
 
 -- the end that sends says it, the other one stays
-spread : (from : End) (frame : Sent) (past : List Sent) (old : Talking) (speaker : Speaker) → Turns from frame past speaker
+spread : (from : End) (frame : PastFrame) (past : List PastFrame) (old : Talking) (speaker : Speaker) → Turns from frame past speaker
     → ((X : End) → is_end X from ≡ false → Turns X frame past (speaker_of X old)) → (X : End) → Turns X frame past (speaker_of X (with_speaker from speaker old))
 spread Handheld frame past old speaker own other Handheld = own
 spread Handheld frame past old speaker own other Desktop = other Desktop refl
 spread Desktop frame past old speaker own other Handheld = other Handheld refl
 spread Desktop frame past old speaker own other Desktop = own
 
-turns-said : (frame : Sent) (past : List Sent) (old : Talking) (speaker : Speaker) → frame.is_data ≡ true → IsTalking past old
+turns-said : (frame : PastFrame) (past : List PastFrame) (old : Talking) (speaker : Speaker) → frame.is_data ≡ true → IsTalking past old
     → TalksSo past → EndSays frame.from old (part_of frame) speaker → (X : End) → Turns X frame past (speaker_of X (with_speaker frame.from speaker old))
 turns-said frame past old speaker data_frame is so says = spread frame.from frame past old speaker own other
   where
@@ -125,7 +125,7 @@ with-fault Handheld speaker old = refl
 with-fault Desktop speaker old = refl
 
 -- what was said keeps the rule
-pub talks-on : (frame : Sent) (past : List Sent) (old new : Talking) → IsTalking past old → TalksSo past → Says frame old new
+pub talks-on : (frame : PastFrame) (past : List PastFrame) (old new : Talking) → IsTalking past old → TalksSo past → Says frame old new
     → IsTalking (frame ∷ past) (counted_on frame new) × TalksSo (frame ∷ past)
 talks-on frame past old new is so says = elim (cases_Bool frame.is_data) [
   | inl data_frame ↦
@@ -140,7 +140,7 @@ talks-on frame past old new is so says = elim (cases_Bool frame.is_data) [
 ]
 
 -- what can't be said breaks it
-pub talks-not : (frame : Sent) (past : List Sent) (old : Talking) → IsTalking past old → frame.is_data ≡ true
+pub talks-not : (frame : PastFrame) (past : List PastFrame) (old : Talking) → IsTalking past old → frame.is_data ≡ true
     → ((speaker : Speaker) → EndSays frame.from old (part_of frame) speaker → ⊥) → TalksSo (frame ∷ past) → ⊥
 talks-not frame past old is data_frame none so =
     let from = frame.from in
@@ -151,7 +151,7 @@ talks-not frame past old is data_frame none so =
     (subst (λ n. SaysNext (greeting_of from) (speaker_of from old) (part_of frame) (length past + 1) n it.0) (sym is.fault_is) it.1))
 
 -- what the end that sends may say
-pub said-in : (X : End) (frame : Sent) (old : Talking) (may : Bool) (speaker : Speaker) → frame.from ≡ X → frame.is_data ≡ true
+pub said-in : (X : End) (frame : PastFrame) (old : Talking) (may : Bool) (speaker : Speaker) → frame.from ≡ X → frame.is_data ≡ true
     → MatchBool may (EndSays X old (part_of frame) speaker) ((new : Speaker) → EndSays X old (part_of frame) new → ⊥)
     → MatchBool may (Says frame old (with_speaker X speaker old))
     ((frame.is_data ≡ true) × ((new : Speaker) → EndSays frame.from old (part_of frame) new → ⊥))
@@ -166,7 +166,7 @@ said-in X frame old false speaker from data_frame none =
     (data_frame, λ new says. none new (subst (λ Y. EndSays Y old (part_of frame) new) from says))
 
 -- the frame is taken
-pub talks-take : (frame : Sent) (past : List Sent) (old said new : Talking) (may : Bool) → IsTalking past old → TalksSo past
+pub talks-take : (frame : PastFrame) (past : List PastFrame) (old said new : Talking) (may : Bool) → IsTalking past old → TalksSo past
     → MatchBool may (Says frame old said) ((frame.is_data ≡ true) × ((speaker : Speaker) → EndSays frame.from old (part_of frame) speaker → ⊥))
     → new ≡ counted_on frame said → MatchBool may (IsTalking (frame ∷ past) new × TalksSo (frame ∷ past)) (TalksSo (frame ∷ past) → ⊥)
 talks-take frame past old said new true is so says after =
@@ -183,7 +183,7 @@ begun-few old (part ∷ later) = omega (arith, begun-few (next old part) later, 
     one_more zero old part = omega arith
     one_more (suc wanted) old part = omega arith
 
-spoken-few : (X : End) (past : List Sent) → length (spoken X past) ≤ length past
+spoken-few : (X : End) (past : List PastFrame) → length (spoken X past) ≤ length past
 spoken-few X [] = omega arith
 spoken-few X (frame ∷ past) = elim (cases_Bool (is_data_of X frame)) [
   | inl mine ↦ omega (arith, spoken-few X past, add-few (part_of frame) (spoken X past), ap length (cond-true (is_data_of X frame) (add_part (part_of frame) (spoken X past)) (spoken X past) mine))
@@ -197,7 +197,7 @@ spoken-few X (frame ∷ past) = elim (cases_Bool (is_data_of X frame)) [
       | inr differ ↦ omega (arith, ap length (cond-false (same_key part.key newest.key) (newest ∷ older) (part ∷ newest ∷ older) differ))
     ]
 
-pub talking-room : (past : List Sent) (talking : Talking) → IsTalking past talking → length past < 4294967295 → HasRoom talking
+pub talking-room : (past : List PastFrame) (talking : Talking) → IsTalking past talking → length past < 4294967295 → HasRoom talking
 talking-room past talking is few = record {
   count = omega (arith, is.count_is, few);
   begun = λ X. (
@@ -208,10 +208,10 @@ talking-room past talking is few = record {
 -- ---- all frames
 
 -- what was said before keeps the rule too
-pub talks-before : (frame : Sent) (past : List Sent) → TalksSo (frame ∷ past) → TalksSo past
+pub talks-before : (frame : PastFrame) (past : List PastFrame) → TalksSo (frame ∷ past) → TalksSo past
 talks-before frame past so = record { speaks = λ X. so-before (greeting_of X) X frame past (so.speaks X); faults = so.faults.1 }
 
-talks-behind : (past : List Sent) (frames : List FrameValue) → TalksSo (past_behind past frames) → TalksSo past
+talks-behind : (past : List PastFrame) (frames : List FrameValue) → TalksSo (past_behind past frames) → TalksSo past
 talks-behind past [] so = so
 talks-behind past (frame ∷ later) so = add-before (is_abort (fragment_in frame).kind) refl (talks-behind (add_frame frame past) later so)
   where
@@ -254,7 +254,7 @@ talks-so frames = (
 
 -- what holds behind the first frames, of which these are left
 pub record Talked (frames : List FrameValue) (place : ℕ) (talking : Talking) (left : List FrameValue) : Type 0 where
-  pub past : List Sent
+  pub past : List PastFrame
   pub all : past_of frames ≡ past_behind past left
   pub short : length past ≤ place
   pub is : IsTalking past talking
@@ -264,7 +264,7 @@ pub record Talked (frames : List FrameValue) (place : ℕ) (talking : Talking) (
 pub talked-first : (frames : List FrameValue) (talking : Talking) → AllByRecursion BearsFragment frames → IsTalking [] talking → Talked frames 0 talking frames
 talked-first frames talking bear is = record { past = []; all = refl; short = omega arith; is = is; so = silent-talks; bear = bear }
 
-add-short : (frame : FrameValue) (past : List Sent) → length (add_frame frame past) ≤ length past + 1
+add-short : (frame : FrameValue) (past : List PastFrame) → length (add_frame frame past) ≤ length past + 1
 add-short frame past = elim (cases_Bool (is_abort (fragment_in frame).kind)) [
   | inl aborts ↦ omega (arith, ap length (cond-true (is_abort (fragment_in frame).kind) past (sent_in frame ∷ past) aborts))
   | inr goes ↦ omega (arith, ap length (cond-false (is_abort (fragment_in frame).kind) past (sent_in frame ∷ past) goes))

@@ -1,7 +1,7 @@
 -- The walk over the frames: what is known of both ends goes on with each, and so do the two answers.
 use Rattle.line_laws.proofs.Names.{◌≡◌, ℕ, zero, suc, ◌+◌, ◌-◌, ◌<◌, ◌≤◌, Bool, true, false, not, ◌&&◌, List, [], ◌∷◌, length, drop, map}
 use Rattle.line_laws.proofs.Names.{refl, sym, ap, subst, ◌∙◌, arith, inl, inr, cases_Bool, cases_lt, cond-true, cond-false, and_parts, and_from, both_ways, nat_eq}
-use Rattle.line_laws.proofs.Names.{End, Handheld, Desktop, Sent, is_end, first, said, is_data_of, is_repeat, pieces_before, messages_of, Talk}
+use Rattle.line_laws.proofs.Names.{End, Handheld, Desktop, PastFrame, is_end, first, said, is_data_of, is_repeat, pieces_before, messages_of, Talk}
 use Rattle.line_laws.proofs.Names.{FrameValue, past_behind, past_of, came_in, sent_in, AreNumbered, AllByRecursion}
 use Rattle.line_laws.proofs.Names.{slice_index_or, FateValue, IsKnown, AnswersReached}
 use Rattle.std.proofs.Common.{◌||◌, eqb, get_or}
@@ -39,7 +39,7 @@ or_from : (a b : Bool) → (a ≡ true → b ≡ true) → (not a || b) ≡ true
 or_from true b is = is refl
 or_from false b is = refl
 
-module _ (talk : Talk) (came : ℕ → Bool) (frame : Sent) (past : List Sent) (notice : Notice) (both : BothValue) (says : IsNotice notice frame came past)
+module _ (talk : Talk) (came : ℕ → Bool) (frame : PastFrame) (past : List PastFrame) (notice : Notice) (both : BothValue) (says : IsNotice notice frame came past)
     (are : AreSides talk came past both) where
   sides_after : (X : End) → frame.from ≡ X → SaysMessages X talk (frame ∷ past) → AreSides talk came (frame ∷ past) (both_by X notice both)
   sides_after Handheld from messages = record {
@@ -216,7 +216,7 @@ walk_begins frames = record {
   answers_is = (λ it. (tt, tt), λ it. refl);
 }
 
-says_behind : (X : End) (talk : Talk) (later : List FrameValue) (past : List Sent) → SaysMessages X talk (past_behind past later) → SaysMessages X talk past
+says_behind : (X : End) (talk : Talk) (later : List FrameValue) (past : List PastFrame) → SaysMessages X talk (past_behind past later) → SaysMessages X talk past
 says_behind X talk [] past says = says
 says_behind X talk (frame ∷ later) past says = elim (cases_Bool (is_abort (fragment_in frame).kind)) [
   | inl abort ↦
@@ -237,7 +237,7 @@ drop-next [] (suc index) {frame} is = absurd cc
 drop-next (first ∷ rest) zero {frame} is = (let e : first ≡ frame = cc in ap (λ (f : FrameValue). f.came) e)
 drop-next (first ∷ rest) (suc index) {frame} is = drop-next rest index is
 
-notice-is : (notice : Notice) (frames : List FrameValue) (frame : FrameValue) (later : List FrameValue) (index : ℕ) (past : List Sent) → length past ≡ index
+notice-is : (notice : Notice) (frames : List FrameValue) (frame : FrameValue) (later : List FrameValue) (index : ℕ) (past : List PastFrame) → length past ≡ index
     → drop index frames ≡ frame ∷ later → IsNoticeOf notice frame (index + 1) → IsNotice notice (sent_in frame) (came_in frames) past
 notice-is notice frames frame later index past counted here says = record {
   from_is = says.from_is;

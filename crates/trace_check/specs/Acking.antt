@@ -6,8 +6,8 @@ use Rattle.trace_text.specs.declared.frame.End.{End}
 use Rattle.trace_text.specs.declared.frame.End.TheVariants.{Handheld, Desktop}
 use Rattle.trace_text.specs.Faults.{late_of, newest, newest_repeat}
 use Rattle.trace_text.specs.Frames.{add_frame}
-use Rattle.trace_text.specs.Past.{Sent, first, said, is_data_of}
-use Rattle.trace_text.specs.Proper.{Numbered, is_ack_of}
+use Rattle.trace_text.specs.Past.{PastFrame, first, said, is_data_of}
+use Rattle.trace_text.specs.Proper.{NumberedFrame, is_ack_of}
 use Rattle.trace_text.specs.TraceLines.{FrameValue}
 use Rattle.trace_check.specs.Speaking.{is_again}
 use Rattle.trace_check.specs.declared.acking.Acks.{Acks}
@@ -17,12 +17,12 @@ use Rattle.trace_check.specs.declared.repeats.Repeats.{Repeats}
 -- ---- what came
 
 -- a data frame that came, by its number and its key
-abbrev pub numbered_value : DataCame → Numbered
+abbrev pub numbered_value : DataCame → NumberedFrame
 numbered_value data_frame = record { number = data_frame.number; key = data_frame.key }
 
 -- the data frames of X that came, the newest first, each with the number of the newest late frame
 -- of X up to it
-abbrev pub data_came : End → (ℕ → Bool) → List Sent → List DataCame
+abbrev pub data_came : End → (ℕ → Bool) → List PastFrame → List DataCame
 data_came X came [] = []
 data_came X came (frame ∷ past) =
     if is_data_of X frame && came (length past + 1)
@@ -35,7 +35,7 @@ data_came X came (frame ∷ past) =
     else data_came X came past
 
 -- the first ones of those that came, so many, the newest first
-abbrev pub answered_of : List DataCame → ℕ → List Numbered
+abbrev pub answered_of : List DataCame → ℕ → List NumberedFrame
 answered_of data_frames count = reverse (map numbered_value (take count data_frames))
 
 -- ---- repeats
@@ -46,7 +46,7 @@ newest_of Handheld repeats = repeats.handheld
 newest_of Desktop repeats = repeats.desktop
 
 -- behind one frame more
-abbrev pub repeats_after : Sent → Repeats → Repeats
+abbrev pub repeats_after : PastFrame → Repeats → Repeats
 repeats_after frame old = record {
   handheld = if is_data_of Handheld frame then Some frame.key else old.handheld;
   desktop = if is_data_of Desktop frame then Some frame.key else old.desktop;
@@ -57,7 +57,7 @@ repeats_after frame old = record {
 }
 
 -- they are so behind these frames
-pub record IsRepeats (past : List Sent) (repeats : Repeats) : Type 0 where
+pub record IsRepeats (past : List PastFrame) (repeats : Repeats) : Type 0 where
   pub key_is : (X : End) → newest_of X repeats ≡ first (said X past)
   pub newest_is : repeats.newest ≡ newest_repeat past
   pub count_is : repeats.count ≡ length past
@@ -78,7 +78,7 @@ pub record AcksNext (data_frames : List DataCame) (old : Acks) (key : Key) : Typ
   pub reached : HasReached old.repeats data_frame
 
 -- what was acknowledged when this was sent, and the repeats behind it
-abbrev pub Hears : End → List DataCame → Sent → Acks → Acks → Type 0
+abbrev pub Hears : End → List DataCame → PastFrame → Acks → Acks → Type 0
 Hears by data_frames frame old new =
     MatchBool (is_ack_of by frame)
     (AcksNext data_frames old frame.key
@@ -86,20 +86,20 @@ Hears by data_frames frame old new =
     (new ≡ record { repeats = repeats_after frame old.repeats; acked = old.acked })
 
 -- the frame is an acknowledgement, and not that of the next data frame
-abbrev pub HearsWrong : End → List DataCame → Sent → Acks → Type 0
+abbrev pub HearsWrong : End → List DataCame → PastFrame → Acks → Type 0
 HearsWrong by data_frames frame old =
     (is_ack_of by frame ≡ true) × ¬ (AcksNext data_frames old frame.key)
 
 -- what was sent goes before the past, if something was
-abbrev pub pushed : Option Sent → List Sent → List Sent
+abbrev pub pushed : Option PastFrame → List PastFrame → List PastFrame
 pushed None past = past
 pushed (Some frame) past = frame ∷ past
 
 -- a frame of a trace is passed or not
 pub record Passes (by : End) (data_frames : List DataCame) (frame : FrameValue) (old : Acks)
     (passed : Bool) (new : Acks) : Type 0 where
-  pub sent : Option Sent
-  pub adds : (past : List Sent) → add_frame frame past ≡ pushed sent past
+  pub sent : Option PastFrame
+  pub adds : (past : List PastFrame) → add_frame frame past ≡ pushed sent past
   pub hears : MatchOption sent ((passed ≡ true) × (new ≡ old))
       (λ frame. MatchBool passed (Hears by data_frames frame old new)
       (HearsWrong by data_frames frame old))

@@ -4,7 +4,7 @@ use Rattle.std.specs.Bool.{then_some}
 use Rattle.trace_text.specs.declared.frame.End.{End}
 use Rattle.trace_text.specs.declared.frame.End.TheVariants.{Handheld, Desktop}
 use Rattle.trace_text.specs.Faults.{newest_repeat}
-use Rattle.trace_text.specs.Past.{Sent}
+use Rattle.trace_text.specs.Past.{PastFrame}
 use Rattle.trace_text.specs.Talks.{Talk}
 use Rattle.trace_check.specs.Sides.{SideValue, side_value, IsSide, is_key, with_fragment, with_repeat, with_ack}
 use Rattle.trace_check.specs.declared.both.Both.{Both}
@@ -35,7 +35,7 @@ other_end Handheld = Desktop
 other_end Desktop = Handheld
 
 -- that is known behind this past
-pub record AreSides (talk : Talk) (came : ℕ → Bool) (past : List Sent) (both : BothValue)
+pub record AreSides (talk : Talk) (came : ℕ → Bool) (past : List PastFrame) (both : BothValue)
     : Type 0 where
   pub handheld : IsSide Handheld Desktop talk came past both.handheld
   pub desktop : IsSide Desktop Handheld talk came past both.desktop

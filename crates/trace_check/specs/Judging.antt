@@ -7,7 +7,7 @@ use Rattle.trace_text.specs.declared.frame.End.TheVariants.{Handheld, Desktop}
 use Rattle.trace_text.specs.Fates.{FateValue}
 use Rattle.trace_text.specs.Faults.{RepeatsHaveFaults}
 use Rattle.trace_text.specs.Frames.{BearsFragment, past_of, came_in}
-use Rattle.trace_text.specs.Past.{Sent, said, is_data_of, is_repeat}
+use Rattle.trace_text.specs.Past.{PastFrame, said, is_data_of, is_repeat}
 use Rattle.trace_text.specs.Proper.{IsProper, AreNumbered, ComeInOrder, SaysMessages, AtMostTen, IsKnown, AnswersReached, DataIsAcked}
 use Rattle.trace_text.specs.Talks.{Talk}
 use Rattle.trace_text.specs.TraceLines.{FrameValue}
@@ -25,7 +25,7 @@ pub record IsProperTrace (frames : List FrameValue) : Type 0 where
   pub init : Greets Init Desktop frames
 
 -- each new fragment of X goes out once X knows that the one before it was taken
-abbrev pub KnowsBefore : End → End → Talk → (ℕ → Bool) → List Sent → Type 0
+abbrev pub KnowsBefore : End → End → Talk → (ℕ → Bool) → List PastFrame → Type 0
 KnowsBefore X Y talk came [] = Unit {0}
 KnowsBefore X Y talk came (frame ∷ past) =
     (is_data_of X frame ≡ true → is_repeat X frame past ≡ false → 0 < length (said X past)
@@ -33,7 +33,7 @@ KnowsBefore X Y talk came (frame ∷ past) =
     × KnowsBefore X Y talk came past
 
 -- each new fragment of X goes out once what its message answers was taken
-abbrev pub AnswersInTurn : End → Talk → (ℕ → Bool) → List Sent → Type 0
+abbrev pub AnswersInTurn : End → Talk → (ℕ → Bool) → List PastFrame → Type 0
 AnswersInTurn X talk came [] = Unit {0}
 AnswersInTurn X talk came (frame ∷ past) =
     (is_data_of X frame ≡ true → is_repeat X frame past ≡ false → AnswersReached X talk came past)

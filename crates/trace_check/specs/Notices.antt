@@ -4,7 +4,7 @@ use Rattle.slp_frames.specs.PacketScan.{packet_at}
 use Rattle.padp_link.specs.Pieces.{key_of}
 use Rattle.trace_text.specs.Faults.{is_late}
 use Rattle.trace_text.specs.Frames.{course_of, fragment_in, is_data_kind}
-use Rattle.trace_text.specs.Past.{Sent}
+use Rattle.trace_text.specs.Past.{PastFrame}
 use Rattle.trace_text.specs.TraceLines.{FrameValue}
 use Rattle.trace_check.specs.declared.notice.Notice.{Notice}
 
@@ -18,7 +18,7 @@ pub record IsNoticeOf (notice : Notice) (frame : FrameValue) (number : ℕ) : Ty
   pub came_is : notice.came ≡ frame.came
 
 -- that is what a frame says that is sent behind this past
-pub record IsNotice (notice : Notice) (frame : Sent) (came : ℕ → Bool) (past : List Sent)
+pub record IsNotice (notice : Notice) (frame : PastFrame) (came : ℕ → Bool) (past : List PastFrame)
     : Type 0 where
   pub from_is : notice.from ≡ frame.from
   pub is_data_is : notice.is_data ≡ frame.is_data

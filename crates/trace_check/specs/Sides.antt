@@ -7,7 +7,7 @@ use Rattle.padp_link.specs.declared.piece.Key.{Key}
 use Rattle.padp_link.specs.Pieces.{piece_count}
 use Rattle.trace_text.specs.declared.frame.End.{End}
 use Rattle.trace_text.specs.Faults.{late_of, newest}
-use Rattle.trace_text.specs.Past.{Sent, first, said, same_key}
+use Rattle.trace_text.specs.Past.{PastFrame, first, said, same_key}
 use Rattle.trace_text.specs.Talks.{Talk, messages_of, pieces_before}
 use Rattle.trace_check.specs.Arrivals.{first_late, is_free, bears, acks}
 use Rattle.trace_check.specs.declared.side.Side.{Side}
@@ -45,7 +45,7 @@ pub record AreStarts (messages : List (List ℕ)) (said : ℕ) (starts : List �
   pub behind : 0 < begun → pieces_before messages (begun - 1) < said
 
 -- that is what is known of X behind this past
-pub record IsSide (X Y : End) (talk : Talk) (came : ℕ → Bool) (past : List Sent) (side : SideValue)
+pub record IsSide (X Y : End) (talk : Talk) (came : ℕ → Bool) (past : List PastFrame) (side : SideValue)
     : Type 0 where
   pub starts_are : AreStarts (messages_of X talk) (length (said X past)) side.starts
   pub said_all : length side.arrivals ≡ length (said X past)

@@ -6,7 +6,7 @@ use Rattle.padp_link.specs.declared.piece.Key.{Key}
 use Rattle.trace_text.specs.declared.frame.End.{End}
 use Rattle.trace_text.specs.Faults.{faulted, newest, last_repeat}
 use Rattle.trace_text.specs.Parts.{Part, spoken}
-use Rattle.trace_text.specs.Past.{Sent, same_key, first, said, is_repeat, run}
+use Rattle.trace_text.specs.Past.{PastFrame, same_key, first, said, is_repeat, run}
 use Rattle.trace_text.specs.Proper.{AtMostTen}
 use Rattle.trace_check.specs.Standings.{start, MaySay, MaySayAll, next, standing_behind}
 use Rattle.trace_check.specs.declared.speaker.Speaker.{Speaker}
@@ -57,19 +57,19 @@ BeginsOrNot began greeting part old new =
     (¬ (MaySay greeting old.standing part))
 
 -- the end is so behind these frames
-pub record IsSpeaker (X : End) (past : List Sent) (speaker : Speaker) : Type 0 where
+pub record IsSpeaker (X : End) (past : List PastFrame) (speaker : Speaker) : Type 0 where
   pub newest_is : speaker.newest ≡ first (said X past)
   pub run_is : speaker.run ≡ run X past
   pub repeat_is : speaker.last_repeat ≡ last_repeat X past
   pub standing_is : speaker.standing ≡ standing_behind start (reverse (spoken X past))
 
 -- what the end said in these frames keeps the rule
-pub record SpeaksSo (greeting : HelloKind) (X : End) (past : List Sent) : Type 0 where
+pub record SpeaksSo (greeting : HelloKind) (X : End) (past : List PastFrame) : Type 0 where
   pub says : MaySayAll greeting start (reverse (spoken X past))
   pub ten : AtMostTen X past
 
 -- a frame behind these has its fault, if it is a repeat of X
-abbrev pub HasFault : End → Sent → List Sent → Type 0
+abbrev pub HasFault : End → PastFrame → List PastFrame → Type 0
 HasFault X frame past =
     is_repeat X frame past ≡ true
     → (0 < newest faulted past) × (last_repeat X past ≤ newest faulted past + 1)

@@ -5,7 +5,7 @@ use Rattle.std.specs.Prelude.{Option, Some, None, if◌then◌else◌}
 use Rattle.trace_text.specs.declared.frame.End.{End}
 use Rattle.trace_text.specs.declared.frame.End.TheVariants.{Handheld, Desktop}
 use Rattle.trace_text.specs.Frames.{past_of, past_behind, came_in}
-use Rattle.trace_text.specs.Past.{Sent}
+use Rattle.trace_text.specs.Past.{PastFrame}
 use Rattle.trace_text.specs.Talks.{Talk, Turn, answered_by, answer_to}
 use Rattle.trace_text.specs.TraceLines.{FrameValue}
 use Rattle.trace_check.specs.Arrivals.{is_free}
@@ -59,19 +59,19 @@ answers_after notice both =
     not (is_new notice (side_of notice.from both)) || has_answer notice.from both
 
 -- both ends knew, before they went on, that what they said was taken
-abbrev pub BothKnow : Talk → (ℕ → Bool) → List Sent → Type 0
+abbrev pub BothKnow : Talk → (ℕ → Bool) → List PastFrame → Type 0
 BothKnow talk came past =
     KnowsBefore Handheld Desktop talk came past × KnowsBefore Desktop Handheld talk came past
 
 -- what their messages answer was taken before these went out
-abbrev pub BothAnswer : Talk → (ℕ → Bool) → List Sent → Type 0
+abbrev pub BothAnswer : Talk → (ℕ → Bool) → List PastFrame → Type 0
 BothAnswer talk came past =
     AnswersInTurn Handheld talk came past × AnswersInTurn Desktop talk came past
 
 -- so many frames were walked
 pub record IsWalked (frames : List FrameValue) (count : ℕ) (both : BothValue) (knows answers : Bool)
     : Type 0 where
-  pub past : List Sent
+  pub past : List PastFrame
   pub rest_is : past_behind past (drop count frames) ≡ past_of frames
   pub counted : length past ≡ count
   pub are : AreSides (talk_in frames) (came_in frames) past both

@@ -3,7 +3,7 @@ ghost use Rattle.std.specs.Prelude.{◌≡◌, List};
 ghost use Rattle.trace_text.specs.Fates.{fate_value};
 ghost use Rattle.trace_text.specs.Frames as frames;
 ghost use Rattle.trace_text.specs.Frames.{BearsFragment, add_frame};
-ghost use Rattle.trace_text.specs.Past.{Sent};
+ghost use Rattle.trace_text.specs.Past.{PastFrame};
 ghost use Rattle.trace_text.specs.TraceLines.{frame_value};
 ghost use Rattle.trace_check.specs.Sending.{added, course_value};
 
@@ -32,7 +32,7 @@ pub(crate) struct SentFrame<'a> {
 // What was sent in a frame; an abort says nothing.
 pub(crate) fn sent_in(frame: &Frame) -> Option<SentFrame<'_>>
     requires { BearsFragment (frame_value frame.now) }
-    ensures { (past : List Sent) → add_frame (frame_value frame.now) past ≡ added result past }
+    ensures { (past : List PastFrame) → add_frame (frame_value frame.now) past ≡ added result past }
 {
     let Some(borne) = borne_in(frame.bytes.as_slice()) else {
         return None;

@@ -4,7 +4,7 @@ ghost use Rattle.std.specs.Bool.{MatchBool};
 ghost use Rattle.trace_text.specs.Faults.{is_faulty};
 ghost use Rattle.trace_text.specs.Frames.{BearsFragment, add_frame};
 ghost use Rattle.trace_text.specs.Parts.{part_of};
-ghost use Rattle.trace_text.specs.Past.{Sent};
+ghost use Rattle.trace_text.specs.Past.{PastFrame};
 ghost use Rattle.trace_text.specs.TraceLines.{frame_value};
 ghost use Rattle.trace_text.specs.declared.frame.End.TheVariants as end;
 ghost use Rattle.trace_check.specs.Judging.{Keeps};
@@ -74,7 +74,7 @@ impl Talking {
     fn pass(&mut self, frame: &Frame) -> bool
         requires bears { BearsFragment (frame_value frame.now) }
         requires room { HasRoom self.old }
-        ensures { (past : List Sent) → GoesOnOrNot result past
+        ensures { (past : List PastFrame) → GoesOnOrNot result past
             (add_frame (frame_value frame.now) past) self.old self.new }
     {
         match sent_in(frame) {
@@ -85,7 +85,7 @@ impl Talking {
 
     fn take(&mut self, sent: &SentFrame<'_>) -> bool
         requires { HasRoom self.old }
-        ensures { (past : List Sent) → GoesOnOrNot result past
+        ensures { (past : List PastFrame) → GoesOnOrNot result past
             (sent_value sent.now ∷ past) self.old self.new }
     {
         let said = self.say(sent);

@@ -15,12 +15,12 @@ use Rattle.trace_text.specs.declared.frame.End.{End}
 use Rattle.trace_text.specs.declared.frame.End.TheVariants.{Handheld, Desktop}
 use Rattle.trace_text.specs.Fates.{FateValue, Untouched, Lost, arrives, ends_run}
 use Rattle.trace_text.specs.TraceLines.{FrameValue}
-use Rattle.trace_text.specs.Past.{Sent, is_end, same_key, first, said, at, is_data_of, is_repeat, run}
+use Rattle.trace_text.specs.Past.{PastFrame, is_end, same_key, first, said, at, is_data_of, is_repeat, run}
 use Rattle.trace_text.specs.Faults.{faulted, late_of, newest, last_repeat, IsHeldIn, RepeatsHaveFaults}
 use Rattle.trace_text.specs.Frames.{BearsFragment, MayBear, padp_packet, fragment_in, past_of, came_in}
 use Rattle.trace_text.specs.Talks.{Talk, Turn, messages_of, pieces_before, answered_by}
 use Rattle.trace_text.specs.Proper.{AreNumbered, StaysAway, ComeInOrder, Reaches, IsKnown, EndReached, IfAnswers, AnswersReached, BeginInTurn}
-use Rattle.trace_text.specs.Proper.{AtMostTen, SaysMessages, Numbered, AcksAreFor, is_ack_of, data_that_came, SpeaksProperly, IsProper}
+use Rattle.trace_text.specs.Proper.{AtMostTen, SaysMessages, NumberedFrame, AcksAreFor, is_ack_of, data_that_came, SpeaksProperly, IsProper}
 use Rattle.line_laws.proofs.PastLaws.{same_key-true, same_key-same, is_end-same}
 use Rattle.line_laws.proofs.CameLaws.{same_end}
 use Rattle.line_laws.proofs.FaultLaws.{newest_from}
@@ -89,16 +89,16 @@ bear (frame ∷ later) = do
 
 -- ---- repeats
 
-abbrev HasFault : List Sent → End → Type 0
+abbrev HasFault : List PastFrame → End → Type 0
 HasFault past X = (0 < newest faulted past) × (last_repeat X past ≤ newest faulted past + 1)
 
-abbrev has_fault : (frame : Sent) (past : List Sent) (X : End) → Option (is_repeat X frame past ≡ true → HasFault past X)
+abbrev has_fault : (frame : PastFrame) (past : List PastFrame) (X : End) → Option (is_repeat X frame past ≡ true → HasFault past X)
 has_fault frame past X = where_so (is_repeat X frame past) (Decides-true _) λ repeat. do
   some ← decide (nat_lt 0 (newest faulted past)) (Decides-ltb _ _)
   near ← decide (nat_le (last_repeat X past) (newest faulted past + 1)) (Decides-nat_le _ _)
   Some (some, near)
 
-abbrev pub faults : (past : List Sent) → Option (RepeatsHaveFaults past)
+abbrev pub faults : (past : List PastFrame) → Option (RepeatsHaveFaults past)
 faults [] = Some tt
 faults (frame ∷ past) = do
   handheld ← has_fault frame past Handheld
@@ -108,16 +108,16 @@ faults (frame ∷ past) = do
 
 -- ---- what reached a frame, where none is late
 
-pub never_held : (X : End) (n : ℕ) (past : List Sent) → n ≤ length past → newest (late_of X) past ≡ 0 → IsHeldIn X n past → ⊥
+pub never_held : (X : End) (n : ℕ) (past : List PastFrame) → n ≤ length past → newest (late_of X) past ≡ 0 → IsHeldIn X n past → ⊥
 never_held X n past inside none held =
     let le = newest_from (late_of X) past (omega (arith, held.before)) held.here held.is_late_one in
     omega (arith, held.some)
 
-abbrev front : (past : List Sent) → Option ((frame : Sent) × (older : List Sent) × (past ≡ frame ∷ older))
+abbrev front : (past : List PastFrame) → Option ((frame : PastFrame) × (older : List PastFrame) × (past ≡ frame ∷ older))
 front [] = None
 front (frame ∷ older) = Some (frame, older, refl)
 
-abbrev reaches : (came : ℕ → Bool) (past : List Sent) (n : ℕ) → Option (Reaches came n past)
+abbrev reaches : (came : ℕ → Bool) (past : List PastFrame) (n : ℕ) → Option (Reaches came n past)
 reaches came past n = do
   (frame, older, here) ← front (at n past)
   inside ← decide (nat_le n (length past)) (Decides-nat_le _ _)
@@ -136,7 +136,7 @@ first_is (newest ∷ older) key = decide (same_key newest key) (Decides-same_key
 
 module _ (X Y : End) (talk : Talk) (came : ℕ → Bool) where
   -- frame n acknowledges the newest fragment
-  abbrev known_by : (past : List Sent) (n : ℕ) → Option (IsKnown X Y talk came past)
+  abbrev known_by : (past : List PastFrame) (n : ℕ) → Option (IsKnown X Y talk came past)
   known_by past n = do
     there ← reaches came past n
     is ← decide (is_ack_of Y there.frame) (Decides-true _)
@@ -145,7 +145,7 @@ module _ (X Y : End) (talk : Talk) (came : ℕ → Bool) where
     Some (record { n = n; reaches = there; cause = inl (record { is = is; behind = behind; key_is = key_is }) })
 
   -- frame n bears the last fragment of this message
-  abbrev ended_by : (turn : Turn) (past : List Sent) (n : ℕ) → Option (EndReached turn talk came past)
+  abbrev ended_by : (turn : Turn) (past : List PastFrame) (n : ℕ) → Option (EndReached turn talk came past)
   ended_by turn past n = do
     reached ← reaches came past n
     there ← decide (nat_lt turn.number (length (messages_of turn.end talk))) (Decides-ltb _ _)
@@ -153,17 +153,17 @@ module _ (X Y : End) (talk : Talk) (came : ℕ → Bool) where
     number_is ← decide (nat_eq (length (said turn.end (at n past))) (pieces_before (messages_of turn.end talk) (turn.number + 1))) (Decides-eqb _ _)
     Some (record { n = n; reaches = reached; there = there; bears = record { is = is; number_is = number_is } })
 
-  abbrev answers : (answered : Option Turn) (past : List Sent) → Option (IfAnswers answered talk came past)
+  abbrev answers : (answered : Option Turn) (past : List PastFrame) → Option (IfAnswers answered talk came past)
   answers None past = Some tt
   answers (Some turn) past = newest_found (ended_by turn past) (length past)
 
-  abbrev answers_reached : (past : List Sent) → Option (AnswersReached X talk came past)
+  abbrev answers_reached : (past : List PastFrame) → Option (AnswersReached X talk came past)
   answers_reached past = found_below _
       (λ number. where_so (nat_eq (pieces_before (messages_of X talk) number) (length (said X past))) (Decides-eqb _ _)
       (λ begins. answers (answered_by X number) past))
       (length (messages_of X talk))
 
-  abbrev begins : (past : List Sent) → Option (BeginInTurn X Y talk came past)
+  abbrev begins : (past : List PastFrame) → Option (BeginInTurn X Y talk came past)
   begins [] = Some tt
   begins (frame ∷ past) = do
     here ← where_so (is_data_of X frame) (Decides-true _) λ data_frame. where_so (not (is_repeat X frame past)) (Decides-false _) λ new. do
@@ -173,14 +173,14 @@ module _ (X Y : End) (talk : Talk) (came : ℕ → Bool) where
     older ← begins past
     Some (here, older)
 
-  abbrev ten : (past : List Sent) → Option (AtMostTen X past)
+  abbrev ten : (past : List PastFrame) → Option (AtMostTen X past)
   ten [] = Some tt
   ten (frame ∷ past) = do
     here ← decide (nat_le (run X (frame ∷ past)) 10) (Decides-nat_le _ _)
     older ← ten past
     Some (here, older)
 
-  abbrev acks : (past : List Sent) (answered : List Numbered) → Option (AcksAreFor Y came past answered)
+  abbrev acks : (past : List PastFrame) (answered : List NumberedFrame) → Option (AcksAreFor Y came past answered)
   acks [] [] = Some refl
   acks [] (frame ∷ older) = None
   acks (frame ∷ past) [] = branch (is_ack_of Y frame) (λ ack. None) (λ other. acks past [])
@@ -192,7 +192,7 @@ module _ (X Y : End) (talk : Talk) (came : ℕ → Bool) where
         Some (newest, older, refl, same, there, rest))
       (λ other. acks past (newest ∷ older))
 
-  abbrev pub speaks : (past : List Sent) → SaysMessages X talk past → Option (SpeaksProperly X Y talk came past)
+  abbrev pub speaks : (past : List PastFrame) → SaysMessages X talk past → Option (SpeaksProperly X Y talk came past)
   speaks past says = do
     at_most_ten ← ten past
     in_turn ← begins past

@@ -8,7 +8,7 @@ use Rattle.padp_link.specs.declared.fragment.PadpKind.{PadpKind}
 use Rattle.padp_link.specs.declared.fragment.PadpKind.TheVariants.{Data, Ack, Tickle, Abort}
 use Rattle.trace_text.specs.Fates.{fate_words}
 use Rattle.trace_text.specs.Frames.{add_frame}
-use Rattle.trace_text.specs.Past.{Sent}
+use Rattle.trace_text.specs.Past.{PastFrame}
 use Rattle.trace_text.specs.TraceLines.{FrameValue, trace_text}
 use Rattle.trace_check.specs.Readings.{AreTraced}
 use Rattle.trace_check.proofs.TraceLaws.{one_reading}
@@ -125,7 +125,7 @@ line-joins : (frame : FrameValue) (later : List FrameValue) (behind : List ℕ)
 unfolding line_of
 line-joins frame later behind = simp append_assoc
 
-rows-show : (number : ℕ) (past : List Sent) (frames : List FrameValue) → AreTraced number frames → (behind : List ℕ)
+rows-show : (number : ℕ) (past : List PastFrame) (frames : List FrameValue) → AreTraced number frames → (behind : List ℕ)
     → code_from 0 (rows past frames ++ behind) ≡ trace_text frames ++ code_from 0 behind
 rows-show number past [] traced behind = refl
 rows-show number past (frame ∷ later) traced behind =

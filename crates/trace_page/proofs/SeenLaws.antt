@@ -8,7 +8,7 @@ use Rattle.padp_link.specs.declared.piece.Key.{Key}
 use Rattle.trace_text.specs.declared.frame.End.{End}
 use Rattle.trace_text.specs.declared.frame.End.TheVariants.{Handheld, Desktop}
 use Rattle.trace_text.specs.Frames.{add_frame, course_of, is_abort, is_data_kind, past_behind, sent_in}
-use Rattle.trace_text.specs.Past.{Course, Sent, add, first, is_newest_key, is_repeat, keys, run, said, same_key}
+use Rattle.trace_text.specs.Past.{FrameCourse, PastFrame, add, first, is_newest_key, is_repeat, keys, run, said, same_key}
 use Rattle.trace_text.specs.TraceLines.{FrameValue}
 use Rattle.trace_page.specs.Bearings.{borne}
 use Rattle.trace_page.specs.Pages.{front_of, times}
@@ -48,9 +48,9 @@ own key keys count front =
     ap (λ newest. let s : Side = record { newest = newest; run = if is_newest_key key keys then count + 1 else 1; front = front } in s) (first-add key keys)
     ∙ ap (λ is. let s : Side = record { newest = Some key; run = if is then count + 1 else 1; front = front } in s) (newest-is key keys)
 
-module _ (key : Key) (bytes : List ℕ) (course : Course) (length error : ℕ) (past : List Sent) where
+module _ (key : Key) (bytes : List ℕ) (course : FrameCourse) (length error : ℕ) (past : List PastFrame) where
   seen_kind : (kind : PadpKind) (X : End)
-      → seen_of (if is_abort kind then past else (let s : Sent = record { from = X; is_data = is_data_kind kind; key = key; bytes = bytes; course = course } in s) ∷ past)
+      → seen_of (if is_abort kind then past else (let s : PastFrame = record { from = X; is_data = is_data_kind kind; key = key; bytes = bytes; course = course } in s) ∷ past)
       ≡ seen_after X (record { key = key; kind = kind; length = length; front = slice_index bytes 0; error = error }) (seen_of past)
   unfolding seen_of
   seen_kind Abort Handheld = refl
@@ -78,17 +78,17 @@ module _ (key : Key) (bytes : List ℕ) (course : Course) (length error : ℕ) (
   times_kind Data Desktop = ap (λ is. if is then run Desktop past + 1 else 0) (newest-is key (said Desktop past))
 
 -- what is known behind one more frame
-pub seen-add : (frame : FrameValue) (past : List Sent) → seen_of (add_frame frame past) ≡ seen_after frame.from (borne frame.bytes) (seen_of past)
+pub seen-add : (frame : FrameValue) (past : List PastFrame) → seen_of (add_frame frame past) ≡ seen_after frame.from (borne frame.bytes) (seen_of past)
 unfolding borne
 seen-add frame past = seen_kind _ _ (course_of frame.fate) _ _ past _ frame.from
 
 -- which sending it is, by what is known
-pub times-is : (frame : FrameValue) (past : List Sent) → times past frame ≡ times_by (side_in frame.from (seen_of past)) (borne frame.bytes)
+pub times-is : (frame : FrameValue) (past : List PastFrame) → times past frame ≡ times_by (side_in frame.from (seen_of past)) (borne frame.bytes)
 unfolding borne times
 times-is frame past =
     times_kind _ (sent_in frame).bytes (course_of frame.fate) (borne frame.bytes).length (borne frame.bytes).error past _ frame.from
 
-pub front-is : (X : End) (past : List Sent) → front_of X past ≡ (side_in X (seen_of past)).front
+pub front-is : (X : End) (past : List PastFrame) → front_of X past ≡ (side_in X (seen_of past)).front
 unfolding seen_of
 front-is Handheld past = refl
 front-is Desktop past = refl
@@ -96,14 +96,14 @@ front-is Desktop past = refl
 -- ---- one frame more
 
 -- the frames before a place, the newest first
-abbrev pub past_at : List Frame → ℕ → List Sent
+abbrev pub past_at : List Frame → ℕ → List PastFrame
 past_at frames i = past_of (map frame_value (take i frames))
 
 -- those from it on
 abbrev pub rest_at : List Frame → ℕ → List FrameValue
 rest_at frames i = map frame_value (drop i frames)
 
-past_behind-append : (past : List Sent) (frames : List FrameValue) (frame : FrameValue)
+past_behind-append : (past : List PastFrame) (frames : List FrameValue) (frame : FrameValue)
     → past_behind past (frames ++ frame ∷ []) ≡ add_frame frame (past_behind past frames)
 past_behind-append past [] frame = refl
 past_behind-append past (older ∷ frames) frame = past_behind-append (add_frame older past) frames frame
@@ -123,7 +123,7 @@ rest-more frames i frame inside is =
     rw add-one (drop-cons frames i frame inside ∙ ap (λ (head : Frame). head ∷ drop (suc i) frames) (sym is)) in
     ap (map frame_value) rest
 
-run-few : (X : End) (past : List Sent) → run X past ≤ length past
+run-few : (X : End) (past : List PastFrame) → run X past ≤ length past
 run-few X [] = omega arith
 run-few X (frame ∷ past) = few _ _ (run-few X past)
   where
@@ -132,21 +132,21 @@ run-few X (frame ∷ past) = few _ _ (run-few X past)
     few false true older = omega arith
     few false false older = omega (arith, older)
 
-add-few : (frame : FrameValue) (past : List Sent) → length (add_frame frame past) ≤ length past + 1
+add-few : (frame : FrameValue) (past : List PastFrame) → length (add_frame frame past) ≤ length past + 1
 add-few frame past = few _
   where
     few : (b : Bool) → length (if b then past else sent_in frame ∷ past) ≤ length past + 1
     few true = omega arith
     few false = omega arith
 
-past-few : (past : List Sent) (frames : List FrameValue) → length (past_behind past frames) ≤ length past + length frames
+past-few : (past : List PastFrame) (frames : List FrameValue) → length (past_behind past frames) ≤ length past + length frames
 past-few past [] = omega arith
 past-few past (frame ∷ later) =
     let one = add-few frame past in
     let all = past-few (add_frame frame past) later in
     omega (arith, one, all)
 
-side-few : (X : End) (past : List Sent) → (side_in X (seen_of past)).run ≤ length past
+side-few : (X : End) (past : List PastFrame) → (side_in X (seen_of past)).run ≤ length past
 unfolding seen_of
 side-few Handheld past = run-few Handheld past
 side-few Desktop past = run-few Desktop past

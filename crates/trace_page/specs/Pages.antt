@@ -6,7 +6,7 @@ use Rattle.padp_link.specs.Numbers.{first_flag}
 use Rattle.trace_text.specs.declared.frame.End.{End}
 use Rattle.trace_text.specs.declared.frame.End.TheVariants.{Handheld, Desktop}
 use Rattle.trace_text.specs.Frames.{add_frame, is_data_kind, sent_in}
-use Rattle.trace_text.specs.Past.{Sent, is_data_of, is_repeat, run}
+use Rattle.trace_text.specs.Past.{PastFrame, is_data_of, is_repeat, run}
 use Rattle.trace_text.specs.TraceLines.{FrameValue}
 use Rattle.trace_page.specs.Bearings.{begins_message, borne, is_greeting}
 use Rattle.trace_page.specs.Rows.{is_untouched, row_text}
@@ -14,24 +14,24 @@ use Rattle.trace_page.specs.Sheet.{list_head, page_foot, page_head}
 use Rattle.trace_page.specs.declared.bearing.Bearing.{Bearing}
 
 -- which sending of its fragment a repeat is, 0 for another frame
-unfoldable pub times : List Sent → FrameValue → ℕ
+unfoldable pub times : List PastFrame → FrameValue → ℕ
 times past frame = if is_repeat frame.from (sent_in frame) past then run frame.from past + 1 else 0
 
 -- the first byte of the message that an end is at, 0 before any
-abbrev pub front_of : End → List Sent → ℕ
+abbrev pub front_of : End → List PastFrame → ℕ
 front_of X [] = 0
 front_of X (frame ∷ past) =
     if is_data_of X frame && has_flag first_flag frame.key.flags then slice_index frame.bytes 0
     else front_of X past
 
 -- the row of a frame, by those before it
-abbrev pub row : List Sent → FrameValue → List ℕ
+abbrev pub row : List PastFrame → FrameValue → List ℕ
 row past frame =
     row_text (times past frame) (front_of frame.from (add_frame frame past)) frame
     (borne frame.bytes)
 
 -- a row for each frame, by those before it
-abbrev pub rows : List Sent → List FrameValue → List ℕ
+abbrev pub rows : List PastFrame → List FrameValue → List ℕ
 rows past [] = []
 rows past (frame ∷ later) = row past frame ++ rows (add_frame frame past) later
 
@@ -55,7 +55,7 @@ abbrev pub is_again : ℕ → FrameValue → Bool
 is_again times frame = not (times == 0)
 
 -- how many frames pass
-abbrev pub counted : (ℕ → FrameValue → Bool) → List Sent → List FrameValue → ℕ
+abbrev pub counted : (ℕ → FrameValue → Bool) → List PastFrame → List FrameValue → ℕ
 counted p past [] = 0
 counted p past (frame ∷ later) =
     (if p (times past frame) frame then 1 else 0) + counted p (add_frame frame past) later

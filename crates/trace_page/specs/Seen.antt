@@ -5,7 +5,7 @@ use Rattle.padp_link.specs.declared.piece.Key.{Key}
 use Rattle.trace_text.specs.declared.frame.End.{End}
 use Rattle.trace_text.specs.declared.frame.End.TheVariants.{Handheld, Desktop}
 use Rattle.trace_text.specs.Frames.{is_data_kind}
-use Rattle.trace_text.specs.Past.{Sent, first, run, said, same_key}
+use Rattle.trace_text.specs.Past.{PastFrame, first, run, said, same_key}
 use Rattle.trace_page.specs.Bearings.{begins_message}
 use Rattle.trace_page.specs.Pages.{front_of}
 use Rattle.trace_page.specs.declared.bearing.Bearing.{Bearing}
@@ -13,11 +13,11 @@ use Rattle.trace_page.specs.declared.seen.Seen.{Seen}
 use Rattle.trace_page.specs.declared.seen.Side.{Side}
 
 -- what is known of an end by the frames so far
-abbrev pub side_of : End → List Sent → Side
+abbrev pub side_of : End → List PastFrame → Side
 side_of X past = record { newest = first (said X past); run = run X past; front = front_of X past }
 
 -- of both ends
-unfoldable pub seen_of : List Sent → Seen
+unfoldable pub seen_of : List PastFrame → Seen
 seen_of past = record { handheld = side_of Handheld past; desktop = side_of Desktop past }
 
 -- this key is the newest one

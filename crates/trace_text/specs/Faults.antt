@@ -2,60 +2,60 @@
 use Rattle.std.specs.Prelude.{◌≡◌, ℕ, ◌+◌, ◌≤◌, ◌<◌, max, Bool, true, false, ◌&&◌, List, [], ◌∷◌, length, if◌then◌else◌}
 use Rattle.trace_text.specs.declared.frame.End.{End}
 use Rattle.trace_text.specs.declared.frame.End.TheVariants.{Handheld, Desktop}
-use Rattle.trace_text.specs.Past.{Course, Came, Gone, Late, Sent, is_end, is_data_of, is_repeat, at}
+use Rattle.trace_text.specs.Past.{FrameCourse, Came, Gone, Late, PastFrame, is_end, is_data_of, is_repeat, at}
 
 -- it comes in the end
-abbrev pub comes : Course → Bool
+abbrev pub comes : FrameCourse → Bool
 comes Came = true
 comes Gone = false
 comes Late = true
 
 -- the line did it harm
-abbrev pub is_faulty : Course → Bool
+abbrev pub is_faulty : FrameCourse → Bool
 is_faulty Came = false
 is_faulty Gone = true
 is_faulty Late = true
 
-abbrev pub is_late : Course → Bool
+abbrev pub is_late : FrameCourse → Bool
 is_late Came = false
 is_late Gone = false
 is_late Late = true
 
-abbrev pub faulted : Sent → Bool
+abbrev pub faulted : PastFrame → Bool
 faulted frame = is_faulty frame.course
 
-abbrev pub late_of : End → Sent → Bool
+abbrev pub late_of : End → PastFrame → Bool
 late_of X frame = is_end X frame.from && is_late frame.course
 
-abbrev pub data_comes : End → Sent → Bool
+abbrev pub data_comes : End → PastFrame → Bool
 data_comes X frame = is_data_of X frame && comes frame.course
 
 -- the number of the newest frame that passes, or 0
-abbrev pub newest : (Sent → Bool) → List Sent → ℕ
+abbrev pub newest : (PastFrame → Bool) → List PastFrame → ℕ
 newest p [] = 0
 newest p (frame ∷ past) = if p frame then length past + 1 else newest p past
 
 -- how many pass
-abbrev pub count : (Sent → Bool) → List Sent → ℕ
+abbrev pub count : (PastFrame → Bool) → List PastFrame → ℕ
 count p [] = 0
 count p (frame ∷ past) = if p frame then count p past + 1 else count p past
 
 -- the number of the newest repeat of X, or 0
-abbrev pub last_repeat : End → List Sent → ℕ
+abbrev pub last_repeat : End → List PastFrame → ℕ
 last_repeat X [] = 0
 last_repeat X (frame ∷ past) =
     if is_repeat X frame past then length past + 1 else last_repeat X past
 
 -- of either end
-abbrev pub newest_repeat : List Sent → ℕ
+abbrev pub newest_repeat : List PastFrame → ℕ
 newest_repeat past = max (last_repeat Handheld past) (last_repeat Desktop past)
 
 -- frame n of X is held behind this past: it or an earlier frame of X is late, and no repeat stands
 -- behind that one
-pub record IsHeldIn (X : End) (n : ℕ) (past : List Sent) : Type 0 where
+pub record IsHeldIn (X : End) (n : ℕ) (past : List PastFrame) : Type 0 where
   pub late : ℕ
-  pub frame : Sent
-  pub older : List Sent
+  pub frame : PastFrame
+  pub older : List PastFrame
   pub some : 0 < late
   pub before : late ≤ n
   pub here : at late past ≡ frame ∷ older
@@ -64,7 +64,7 @@ pub record IsHeldIn (X : End) (n : ℕ) (past : List Sent) : Type 0 where
 
 -- Each repeat has its fault: where w is the same end's repeat before it, a frame from w - 1 on is
 -- faulted, and else any frame.
-abbrev pub RepeatsHaveFaults : List Sent → Type 0
+abbrev pub RepeatsHaveFaults : List PastFrame → Type 0
 RepeatsHaveFaults [] = Unit {0}
 RepeatsHaveFaults (frame ∷ past) =
     ((X : End) → is_repeat X frame past ≡ true

@@ -13,11 +13,11 @@ use Rattle.padp_link.specs.Pieces.{key_of}
 use Rattle.trace_text.specs.Fates.{FateValue, Untouched, Noise}
 use Rattle.trace_text.specs.Fates as fate
 use Rattle.trace_text.specs.TraceLines.{FrameValue}
-use Rattle.trace_text.specs.Past.{Course, Came, Gone, Sent}
+use Rattle.trace_text.specs.Past.{FrameCourse, Came, Gone, PastFrame}
 use Rattle.trace_text.specs.Past as past
 
 -- what becomes of a frame by its fate; with the fates that end a run no frame stands behind it
-abbrev pub course_of : FateValue → Course
+abbrev pub course_of : FateValue → FrameCourse
 course_of Untouched = Came
 course_of (Noise noise) = Came
 course_of fate.Late = past.Late
@@ -64,7 +64,7 @@ is_abort Abort = true
 is_abort _ = false
 
 -- what was sent in a frame
-abbrev pub sent_in : FrameValue → Sent
+abbrev pub sent_in : FrameValue → PastFrame
 sent_in frame = record {
   from = frame.from;
   is_data = is_data_kind (fragment_in frame).kind;
@@ -74,15 +74,15 @@ sent_in frame = record {
 }
 
 -- a frame goes before those that were sent; an abort says nothing
-abbrev pub add_frame : FrameValue → List Sent → List Sent
+abbrev pub add_frame : FrameValue → List PastFrame → List PastFrame
 add_frame frame past = if is_abort (fragment_in frame).kind then past else sent_in frame ∷ past
 
 -- the frames behind these, the newest first
-abbrev pub past_behind : List Sent → List FrameValue → List Sent
+abbrev pub past_behind : List PastFrame → List FrameValue → List PastFrame
 past_behind past [] = past
 past_behind past (frame ∷ later) = past_behind (add_frame frame past) later
 
-abbrev pub past_of : List FrameValue → List Sent
+abbrev pub past_of : List FrameValue → List PastFrame
 past_of frames = past_behind [] frames
 
 -- the frame of this number, from 1 on, came

@@ -5,7 +5,7 @@ use Rattle.padp_link.specs.declared.piece.Key.{Key}
 use Rattle.padp_link.specs.Neighbours.{session_id}
 use Rattle.padp_link.specs.Pieces.{pieces, fragment_of}
 use Rattle.trace_text.specs.declared.frame.End.{End}
-use Rattle.trace_text.specs.Past.{Sent, same_key, add, is_data_of}
+use Rattle.trace_text.specs.Past.{PastFrame, same_key, add, is_data_of}
 
 pub record Part : Type 0 where
   pub key : Key
@@ -14,7 +14,7 @@ pub record Part : Type 0 where
 abbrev pub key_of_part : Part → Key
 key_of_part part = part.key
 
-abbrev pub part_of : Sent → Part
+abbrev pub part_of : PastFrame → Part
 part_of frame = record { key = frame.key; bytes = frame.bytes }
 
 abbrev pub add_part : Part → List Part → List Part
@@ -22,16 +22,16 @@ add_part part [] = part ∷ []
 add_part part (newest ∷ older) =
     if same_key part.key newest.key then newest ∷ older else part ∷ newest ∷ older
 
-abbrev pub parts : (Sent → Bool) → List Sent → List Part
+abbrev pub parts : (PastFrame → Bool) → List PastFrame → List Part
 parts p [] = []
 parts p (frame ∷ past) = if p frame then add_part (part_of frame) (parts p past) else parts p past
 
 -- what X said
-abbrev pub spoken : End → List Sent → List Part
+abbrev pub spoken : End → List PastFrame → List Part
 spoken X past = parts (is_data_of X) past
 
 -- what the other end took of it, by the numbers of the frames that came
-abbrev pub taken : End → (ℕ → Bool) → List Sent → List Part
+abbrev pub taken : End → (ℕ → Bool) → List PastFrame → List Part
 taken X came [] = []
 taken X came (frame ∷ past) =
     if is_data_of X frame && came (length past + 1)

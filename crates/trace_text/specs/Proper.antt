@@ -8,7 +8,7 @@ use Rattle.trace_text.specs.declared.frame.End.{End}
 use Rattle.trace_text.specs.declared.frame.End.TheVariants.{Handheld, Desktop}
 use Rattle.trace_text.specs.Fates.{FateValue, arrives, ends_run}
 use Rattle.trace_text.specs.TraceLines.{FrameValue}
-use Rattle.trace_text.specs.Past.{Sent, is_end, first, said, at, is_data_of, IsDataOf, IsAckOf, is_repeat, run}
+use Rattle.trace_text.specs.Past.{PastFrame, is_end, first, said, at, is_data_of, IsDataOf, IsAckOf, is_repeat, run}
 use Rattle.trace_text.specs.Faults.{IsHeldIn, RepeatsHaveFaults}
 use Rattle.trace_text.specs.Frames.{BearsFragment, past_of, came_in}
 use Rattle.trace_text.specs.Parts.{Part, spoken, session_parts}
@@ -35,30 +35,30 @@ ComeInOrder (frame ∷ later) =
     × ComeInOrder later
 
 -- Frame n reached the frame that is sent behind this past: it stands there, came, and isn't held.
-pub record Reaches (came : ℕ → Bool) (n : ℕ) (past : List Sent) : Type 0 where
-  pub frame : Sent
-  pub older : List Sent
+pub record Reaches (came : ℕ → Bool) (n : ℕ) (past : List PastFrame) : Type 0 where
+  pub frame : PastFrame
+  pub older : List PastFrame
   pub inside : n ≤ length past
   pub here : at n past ≡ frame ∷ older
   pub comes : came n ≡ true
   pub free : IsHeldIn frame.from n past → ⊥
 
 -- frame n is an acknowledgement by Y of the newest fragment of X, behind that one's first frame
-pub record AcksNewest (X Y : End) (past : List Sent) (n : ℕ) (frame : Sent) : Type 0 where
+pub record AcksNewest (X Y : End) (past : List PastFrame) (n : ℕ) (frame : PastFrame) : Type 0 where
   pub is : IsAckOf Y frame
   pub behind : length (said X (at n past)) ≡ length (said X past)
   pub key_is : first (said X past) ≡ Some frame.key
 
 -- frame n bears the fragment of X of this number, from 1 on
-pub record BearsNumber (X : End) (past : List Sent) (n : ℕ) (frame : Sent)
+pub record BearsNumber (X : End) (past : List PastFrame) (n : ℕ) (frame : PastFrame)
     (number : ℕ) : Type 0 where
   pub is : IsDataOf X frame
   pub number_is : length (said X (at n past)) ≡ number
 
 -- frame n bears the first fragment of the message that answers X's message of this number, whose
 -- last fragment is the newest of X
-pub record AnswersNewest (X Y : End) (talk : Talk) (past : List Sent) (n : ℕ)
-    (frame : Sent) : Type 0 where
+pub record AnswersNewest (X Y : End) (talk : Talk) (past : List PastFrame) (n : ℕ)
+    (frame : PastFrame) : Type 0 where
   pub number : ℕ
   pub answer : ℕ
   pub asked : number < length (messages_of X talk)
@@ -68,26 +68,26 @@ pub record AnswersNewest (X Y : End) (talk : Talk) (past : List Sent) (n : ℕ)
   pub bears : BearsNumber Y past n frame (pieces_before (messages_of Y talk) answer + 1)
 
 -- a frame that says to X that its newest fragment was taken reached what is sent behind this past
-pub record IsKnown (X Y : End) (talk : Talk) (came : ℕ → Bool) (past : List Sent) : Type 0 where
+pub record IsKnown (X Y : End) (talk : Talk) (came : ℕ → Bool) (past : List PastFrame) : Type 0 where
   pub n : ℕ
   pub reaches : Reaches came n past
   pub cause : AcksNewest X Y past n reaches.frame ⊎ AnswersNewest X Y talk past n reaches.frame
 
 -- a frame with the last fragment of this message reached it
 pub record EndReached (turn : Turn) (talk : Talk) (came : ℕ → Bool)
-    (past : List Sent) : Type 0 where
+    (past : List PastFrame) : Type 0 where
   pub n : ℕ
   pub reaches : Reaches came n past
   pub there : turn.number < length (messages_of turn.end talk)
   pub bears : BearsNumber turn.end past n reaches.frame
       (pieces_before (messages_of turn.end talk) (turn.number + 1))
 
-abbrev pub IfAnswers : Option Turn → Talk → (ℕ → Bool) → List Sent → Type 0
+abbrev pub IfAnswers : Option Turn → Talk → (ℕ → Bool) → List PastFrame → Type 0
 IfAnswers None talk came past = Unit {0}
 IfAnswers (Some turn) talk came past = EndReached turn talk came past
 
 -- where a message of X begins behind this past, the end of the message that it answers was reached
-abbrev pub AnswersReached : End → Talk → (ℕ → Bool) → List Sent → Type 0
+abbrev pub AnswersReached : End → Talk → (ℕ → Bool) → List PastFrame → Type 0
 AnswersReached X talk came past =
     (number : ℕ) → number < length (messages_of X talk)
     → pieces_before (messages_of X talk) number ≡ length (said X past)
@@ -95,7 +95,7 @@ AnswersReached X talk came past =
 
 -- each new fragment of X goes out once X knows that the one before it was taken, and once what its
 -- message answers was taken
-abbrev pub BeginInTurn : End → End → Talk → (ℕ → Bool) → List Sent → Type 0
+abbrev pub BeginInTurn : End → End → Talk → (ℕ → Bool) → List PastFrame → Type 0
 BeginInTurn X Y talk came [] = Unit {0}
 BeginInTurn X Y talk came (frame ∷ past) =
     (is_data_of X frame ≡ true → is_repeat X frame past ≡ false
@@ -103,22 +103,22 @@ BeginInTurn X Y talk came (frame ∷ past) =
     × BeginInTurn X Y talk came past
 
 -- no key stands more than ten times in a row
-abbrev pub AtMostTen : End → List Sent → Type 0
+abbrev pub AtMostTen : End → List PastFrame → Type 0
 AtMostTen X [] = Unit {0}
 AtMostTen X (frame ∷ past) = (run X (frame ∷ past) ≤ 10) × AtMostTen X past
 
 -- what X said are the first parts of its messages
-pub record SaysMessages (X : End) (talk : Talk) (past : List Sent) : Type 0 where
+pub record SaysMessages (X : End) (talk : Talk) (past : List PastFrame) : Type 0 where
   pub rest : List Part
   pub is : reverse (spoken X past) ++ rest ≡ session_parts 0 (messages_of X talk)
 
 -- a frame with its number
-pub record Numbered : Type 0 where
+pub record NumberedFrame : Type 0 where
   pub number : ℕ
   pub key : Key
 
 -- the data frames of X that came, the newest first
-abbrev pub data_that_came : End → (ℕ → Bool) → List Sent → List Numbered
+abbrev pub data_that_came : End → (ℕ → Bool) → List PastFrame → List NumberedFrame
 data_that_came X came [] = []
 data_that_came X came (frame ∷ past) =
     if is_data_of X frame && came (length past + 1)
@@ -126,38 +126,38 @@ data_that_came X came (frame ∷ past) =
     else data_that_came X
     came past
 
-abbrev pub is_ack_of : End → Sent → Bool
+abbrev pub is_ack_of : End → PastFrame → Bool
 is_ack_of Y frame = is_end Y frame.from && not frame.is_data
 
 -- The acknowledgements by Y in this past are those of these data frames, in order: each bears the
 -- key of its own, which reached it.
-abbrev pub AcksAreFor : End → (ℕ → Bool) → List Sent → List Numbered → Type 0
+abbrev pub AcksAreFor : End → (ℕ → Bool) → List PastFrame → List NumberedFrame → Type 0
 AcksAreFor Y came [] answered = answered ≡ []
 AcksAreFor Y came (frame ∷ past) answered =
     MatchBool (is_ack_of Y frame)
-    ((data_frame : Numbered) × (older : List Numbered) × (answered ≡ data_frame ∷ older)
+    ((data_frame : NumberedFrame) × (older : List NumberedFrame) × (answered ≡ data_frame ∷ older)
     × (data_frame.key ≡ frame.key) × Reaches came data_frame.number past
     × AcksAreFor Y came past older)
     (AcksAreFor Y came past answered)
 
 -- of all but the last
-pub record AllButLastAcked (Y : End) (came : ℕ → Bool) (past : List Sent)
-    (answered : List Numbered) : Type 0 where
-  pub last : Numbered
-  pub older : List Numbered
+pub record AllButLastAcked (Y : End) (came : ℕ → Bool) (past : List PastFrame)
+    (answered : List NumberedFrame) : Type 0 where
+  pub last : NumberedFrame
+  pub older : List NumberedFrame
   pub is : answered ≡ last ∷ older
   pub acked : AcksAreFor Y came past older
 
 -- The acknowledgements are those of the data frames that came: of all of them, or of all but the
 -- last.
-abbrev pub DataIsAcked : End → End → (ℕ → Bool) → List Sent → Type 0
+abbrev pub DataIsAcked : End → End → (ℕ → Bool) → List PastFrame → Type 0
 DataIsAcked X Y came past =
     AcksAreFor Y came past (data_that_came X came past)
     ⊎ AllButLastAcked Y came past (data_that_came X came past)
 
 -- all that holds of one end's frames
 pub record SpeaksProperly (X Y : End) (talk : Talk) (came : ℕ → Bool)
-    (past : List Sent) : Type 0 where
+    (past : List PastFrame) : Type 0 where
   pub says : SaysMessages X talk past
   pub ten : AtMostTen X past
   pub begins : BeginInTurn X Y talk came past

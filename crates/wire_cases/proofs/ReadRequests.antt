@@ -2,14 +2,14 @@
 use Rattle.std.proofs.Common.{◌≡◌, ℕ, ◌+◌, ◌≤◌, List, [], ◌∷◌, length, Option, Some, None, ap, ◌∙◌, arith}
 use Rattle.std.proofs.lemmas.List.{length-append}
 use Rattle.dlp_args.specs.Arguments.{header}
-use Rattle.dlp_args.specs.Cells.{Kind, Byte, Half, Word, Pad, Run, Text, MaybeText, Rest, Counted, Whole, Names, Cell, IsCell, CellFits}
+use Rattle.dlp_args.specs.Cells.{CellKind, Byte, Half, Word, Pad, Run, Text, MaybeText, Rest, Counted, Whole, Names, Cell, IsCell, CellFits}
 use Rattle.dlp_args.specs.Fields.{Fields, AreFields, FieldsFit}
 use Rattle.dlp_requests.proofs.RequestLaws.{IsRequest-short}
 use Rattle.dlp_requests.specs.Forms.{argument_of, kinds_of}
 use Rattle.dlp_requests.specs.RequestTexts.{AreShort, HasArgument, IsRequest, IsShortCell, RequestText}
 use Rattle.dlp_requests.specs.RequestValues.{RequestValue}
 
-cell_fits : (k : Kind) (x : Cell k) (text rest : List ℕ) → IsCell k x text rest → CellFits k x
+cell_fits : (k : CellKind) (x : Cell k) (text rest : List ℕ) → IsCell k x text rest → CellFits k x
 cell_fits Byte n text rest is = is.1
 cell_fits Half n text rest is = is.1
 cell_fits Word n text rest is = is.1
@@ -23,12 +23,12 @@ cell_fits Counted some text rest is = is.1
 cell_fits Whole some text rest is = tt
 cell_fits Names names text rest is = (is.1, is.2)
 
-fields_fit : (ks : List Kind) (fields : Fields ks) (bytes : List ℕ) → AreFields ks fields bytes → FieldsFit ks fields
+fields_fit : (ks : List CellKind) (fields : Fields ks) (bytes : List ℕ) → AreFields ks fields bytes → FieldsFit ks fields
 fields_fit [] fields bytes are = tt
 fields_fit (k ∷ []) fields bytes are = cell_fits k fields.0 are.0 are.1 are.3
 fields_fit (k ∷ l ∷ ks) fields bytes are = (cell_fits k fields.0 are.0 are.1 are.3, fields_fit (l ∷ ks) fields.1 are.1 are.4)
 
-cell_short : (k : Kind) (x : Cell k) (text rest : List ℕ) → IsCell k x text rest → length text ≤ 65500 → IsShortCell k x
+cell_short : (k : CellKind) (x : Cell k) (text rest : List ℕ) → IsCell k x text rest → length text ≤ 65500 → IsShortCell k x
 cell_short Text some text rest is short = let len = ap length is.0.0 in omega (arith, length-append some (0 ∷ []))
 cell_short Whole some text rest is short = let len = ap length is.0 in omega arith
 cell_short Byte x text rest is short = tt
@@ -41,7 +41,7 @@ cell_short Rest x text rest is short = tt
 cell_short Counted x text rest is short = tt
 cell_short Names x text rest is short = tt
 
-are_short : (ks : List Kind) (fields : Fields ks) (bytes : List ℕ) → AreFields ks fields bytes → length bytes ≤ 65500 → AreShort ks fields
+are_short : (ks : List CellKind) (fields : Fields ks) (bytes : List ℕ) → AreFields ks fields bytes → length bytes ≤ 65500 → AreShort ks fields
 are_short [] fields bytes are short = tt
 are_short (k ∷ ks) fields bytes are short =
     let len : length bytes ≡ length are.0 + length are.1 = ap length are.2 ∙ length-append are.0 are.1 in

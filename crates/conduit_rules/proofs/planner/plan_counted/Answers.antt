@@ -7,7 +7,7 @@ use Rattle.conduit_rules.specs.Fates.{fate_under}
 use Rattle.conduit_rules.specs.Fronts.{seen_id, record_id}
 use Rattle.conduit_rules.specs.News.{noted}
 use Rattle.pdb_values.specs.declared.record.Record.{Record}
-use Rattle.conduit_rules.specs.States.{Based, Held, has_row}
+use Rattle.conduit_rules.specs.States.{BaseState, SideState, has_row}
 use Rattle.conduit_rules.proofs.DraftLaws.{draft-start, map-loose_for}
 use Rattle.conduit_rules.proofs.CountedLaws.{pass-start, pass-next, pass-end, front-some, steps-left, one_if}
 use Rattle.conduit_rules.proofs.PassLaws.{front-within}
@@ -50,7 +50,7 @@ loop-front-preserved g c =
           (map option_copied c.note_row.new.slots.items) c.loop-front.draft c.decide.new.self
           c.loop-front.next c.max-next.result f c.loop-front.invariant.pass front
           (omega arith)
-          (λ from. subst {A = Based × Held × Held} (λ p. Grew c.loop-front.draft c.decide.new.self f.id (fate_under c.args.action p.0 p.1 p.2) p.1
+          (λ from. subst {A = BaseState × SideState × SideState} (λ p. Grew c.loop-front.draft c.decide.new.self f.id (fate_under c.args.action p.0 p.1 p.2) p.1
           (partner_under c.args.action p.0 p.1))
           (λ k. (c.in_front-basis.ensures k, c.seen_in-handheld.ensures k, c.row_in-desktop.ensures k)) (c.in_ok-decide.ensures.grows from))
           c.decide.ensures.stays

@@ -1,6 +1,6 @@
 use Rattle.std.proofs.Common.{subst}
 use Rattle.std.specs.Prelude.{Option}
-use Rattle.run_words.specs.Commands.{Task}
+use Rattle.run_words.specs.Commands.{WordTask}
 use Rattle.hotsync_run.specs.Calls.{IsCall}
 use Rattle.hotsync_run.proofs.HeadlineLaws.{silent_run}
 use Rattle.hotsync_run.proofs.promises.what_is_refused_changes_nothing.Goals as goal
@@ -9,5 +9,5 @@ pub returns : goal.returns
 returns c = record {
   run = silent_run;
   words = λ call is none.
-      subst (λ (task : Option Task). IsCall task call.before call.after call.out call.out_after call.status call.report) none is;
+      subst (λ (task : Option WordTask). IsCall task call.before call.after call.out call.out_after call.status call.report) none is;
 }

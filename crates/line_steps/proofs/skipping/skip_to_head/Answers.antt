@@ -1,6 +1,6 @@
 use Rattle.line_steps.proofs.Names.{◌≡◌, ◌<◌, length, ◌&&◌, Option, Some, false, refl, sym, ap, subst, ◌∙◌, arith, inr, and_from, cond-true, cond-false, Half, fate_value}
 use Rattle.line_steps.proofs.Names.{Frame, ends_run, strange_bytes, tally_after}
-use Rattle.line_steps.proofs.Names.{arrives, is_end, frame_value, Read}
+use Rattle.line_steps.proofs.Names.{arrives, is_end, frame_value, MovesReader}
 use Rattle.line_steps.proofs.FrameLaws.{length-past}
 use Rattle.line_steps.proofs.HoldsLaws.{skip_step, going, has_bytes, and_none}
 use Rattle.line_steps.proofs.CountingLaws.{landed_away}
@@ -48,7 +48,7 @@ loop-x-preserved c =
     let frame = it.frame in
     let goes = going c.loop-x.x.taken c.loop-x.invariant.0.0 it.here in
     let from_is : is_end c.loop-x.x.end frame.from ≡ c.is_from.result = sym (c.is_from.ensures ∙ ap (λ v. is_end c.loop-x.x.end v.from) it.is) in
-    let left = λ (new : Half) (read : Read c.loop-x.y new). skips_less c.args.x.now c.args.y.now c.loop-x.invariant.0.0 c.loop-x.invariant.1 inside read in
+    let left = λ (new : Half) (read : MovesReader c.loop-x.y new). skips_less c.args.x.now c.args.y.now c.loop-x.invariant.0.0 c.loop-x.invariant.1 inside read in
     elim c.if-is_from.branch [
       | then-is_from+else-arrives w ↦ (let away : arrives (fate_value frame.fate) ≡ false =
           sym (ap (λ v. arrives v.fate) it.is) ∙ (sym w.arrives.ensures ∙ w.if-arrives.false) in

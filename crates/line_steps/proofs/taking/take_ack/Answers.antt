@@ -1,5 +1,5 @@
 use Rattle.line_steps.proofs.Names.{◌<◌, ◌+◌, ◌≤◌, None, arith, slice_get_within, sym, ap, subst, ◌∙◌, is_some, both_ways, on_ok_weaker, piece_count, fate_value, part_now, side_of}
-use Rattle.line_steps.proofs.Names.{Holds, Halted, Halts, Sends, StillUnderway, work_left}
+use Rattle.line_steps.proofs.Names.{Holds, HaltsBetween, Halts, Sends, StillUnderway, work_left}
 use Rattle.line_steps.proofs.HoldsLaws.{moved}
 use Rattle.line_steps.specs.declared.hearing.Heard.TheVariants as heard_as
 use Rattle.line_steps.proofs.AdvancingLaws.{halts_up}
@@ -113,7 +113,7 @@ returns-clause-halted c =
     let more : y.sender.acknowledged + 1 < piece_count y.sender.length = subst (λ s. s.acknowledged < piece_count s.length) next waits in
     let half = record y { sender = c.on_ack.new.self } in
     err_weaker c.send_piece.result
-    (λ halt it. subst (λ s. Halted halt wire x y new (moved x) (record y { sender = s })) (sym next)
+    (λ halt it. subst (λ s. HaltsBetween halt wire x y new (moved x) (record y { sender = s })) (sym next)
     (halted_ack (fate_value c.args.fate.now) c.requires.holds c.requires.next (c.on_ack.ensures.taken.0 c.if-not-on_ack.false) more
     (subst (λ s. Halts wire.frames.items y.end s.id (part_now (side_of (record y { sender = s }))) (fate_value c.args.fate.now) halt
     new.frames.items) next it)))

@@ -1,7 +1,7 @@
 use Rattle.std.proofs.Common.{arith, List, ap, map, replicate}
 use Rattle.std.proofs.lemmas.List.{length-set}
 use Rattle.category_tables.specs.Merges.{kept_at}
-use Rattle.category_tables.specs.Tables.{EntryValue, entry_value}
+use Rattle.category_tables.specs.Tables.{CategoryValue, entry_value}
 use Rattle.category_tables.proofs.PlaceLaws.{made_all, made_more}
 use Rattle.category_tables.proofs.merging.Merging.begin.Goals as goal
 
@@ -15,4 +15,4 @@ loop-number-preserved c = record {
 pub returns : goal.returns
 returns c =
     let all = made_all _ c.loop-number.entries c.loop-number.invariant.whole (λ k d less. c.loop-number.invariant.each k d (omega arith)) in
-    ap (λ (l : List EntryValue). record { entries = l; places = replicate 16 0 }) all
+    ap (λ (l : List CategoryValue). record { entries = l; places = replicate 16 0 }) all

@@ -1,4 +1,4 @@
-use Rattle.line_world.proofs.Names.{◌≡◌, ◌≤◌, length, map, Some, refl, subst, sym, arith, inl, inr, length-map, MayExchange, Answered, Unanswered, downs_of}
+use Rattle.line_world.proofs.Names.{◌≡◌, ◌≤◌, length, map, Some, refl, subst, sym, arith, inl, inr, length-map, MayExchange, HasAnswer, LacksAnswer, downs_of}
 use Rattle.line_world.proofs.Names.{frame_value, IsCauseOf, NamesLast, Served, log_value, since_itself, IsWorld, WorldSince, WorldValue, world_talk}
 use Rattle.line_world.proofs.TalkLaws.{talk-answered, talk-broke}
 use Rattle.line_world.proofs.WentLaws.{since-went}
@@ -64,7 +64,7 @@ returns-in-Ok-clause-answered g c =
     } in
     let count : c.len-self-inside.result ≡ length (log_value later).replies =
     omega (arith, c.len-self-inside.ensures, length-map later.replies.items (λ t. t.bytes)) in
-    subst (λ v. Answered (Some (world_talk v)) c.args.request.now c.converse.new.reply (Some (world_talk new))) c.self.view_is
+    subst (λ v. HasAnswer (Some (world_talk v)) c.args.request.now c.converse.new.reply (Some (world_talk new))) c.self.view_is
     (talk-answered old new c.self.invariant.is_log (c.self.invariant.running c.in_default.is).all count c.in-Ok.ensures.answers.performs)
 
 pub returns-in-Ok-clause-since : goal.returns-in-Ok-clause-since
@@ -121,7 +121,7 @@ returns-in-Err-clause-unanswered g c =
           Some c.fault_of-fault.result;
       cause = c.cause_of-cause.result;
     } in
-    subst (λ v. Unanswered (Some (world_talk v)) c.args.request.now (Some (world_talk new))) c.self.view_is
+    subst (λ v. LacksAnswer (Some (world_talk v)) c.args.request.now (Some (world_talk new))) c.self.view_is
     (talk-broke g.F.Folder.contents g.F.Folder.moments g.F.Folder.paths g.F.Folder.faults old new breaks.went c.self.invariant.is_log
     (c.self.invariant.running c.in_default.is).all refl breaks.is)
 

@@ -2,7 +2,7 @@ use Rattle.std.proofs.Common.{refl, subst, sym}
 use Rattle.std.specs.Prelude.{Some, None}
 use Rattle.std.specs.Option.{option_map}
 use Rattle.dlp_commands.specs.Links.{MayExchange}
-use Rattle.dlp_commands.specs.Talks.{Answered, Unanswered}
+use Rattle.dlp_commands.specs.Talks.{HasAnswer, LacksAnswer}
 use Rattle.port_link.specs.Causes.{link_fault}
 use Rattle.port_link.specs.Standing.{talk_of}
 use Rattle.port_link.proofs.LinkLaws.{asks_told, begun_is}
@@ -96,7 +96,7 @@ returns-in-Ok-clause-answered g c =
     let asks = asks-by c.args.request.now v.reply old new None c.in_default.is c.id_of_next-self-inside.ensures refl c.converse.ensures.paths
     c.in-Ok.ensures.converses c.in-Ok.ensures.cause in
     let told = asks_told c.args.request.now v.reply old new c.converse.ensures.short c.in_default.is (begun_is old.begun old.cause c.in_default.is may) c.self.invariant asks in
-    subst (λ (value : LinkValue). Answered (talk_of value) c.args.request.now v.reply (talk_of new)) c.self.view_is (told.answered c.in_default.is)
+    subst (λ (value : LinkValue). HasAnswer (talk_of value) c.args.request.now v.reply (talk_of new)) c.self.view_is (told.answered c.in_default.is)
 
 pub returns-in-Err-clause-unanswered : goal.returns-in-Err-clause-unanswered
 returns-in-Err-clause-unanswered g c =
@@ -122,7 +122,7 @@ returns-in-Err-clause-unanswered g c =
     let asks = asks-by c.args.request.now v.reply old new (Some c.in-Err.cause) refl c.id_of_next-self-inside.ensures refl c.converse.ensures.paths
     c.in-Err.ensures.converses c.in-Err.ensures.cause in
     let told = asks_told c.args.request.now v.reply old new c.converse.ensures.short c.in_default.is (begun_is old.begun old.cause c.in_default.is may) c.self.invariant asks in
-    subst (λ (value : LinkValue). Unanswered (talk_of value) c.args.request.now (talk_of new)) c.self.view_is (told.unanswered (λ none. cc))
+    subst (λ (value : LinkValue). LacksAnswer (talk_of value) c.args.request.now (talk_of new)) c.self.view_is (told.unanswered (λ none. cc))
 
 pub invariant_of-self : goal.invariant_of-self
 invariant_of-self g c =
