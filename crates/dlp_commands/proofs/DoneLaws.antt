@@ -15,9 +15,7 @@ use Rattle.pdb_values.specs.declared.user.UserInfo.{UserInfo}
 use Rattle.pdb_values.proofs.NamedLaws.{AllByRecursion-database_of, AllByRecursion-replaced, AllByRecursion-with_new, AllByRecursion-without_named}
 use Rattle.pdb_values.proofs.NamedLaws.{NamesRise-replaced, NamesRise-with_new, NamesRise-without_named, database_of-name, database_of-replaced}
 use Rattle.pdb_values.proofs.NamedLaws.{database_of-with_new, database_of-without_other, length-replaced, length-with_new, length-without_named}
-use Rattle.dlp_args.specs.Fields.{FieldsFit}
 use Rattle.dlp_requests.specs.Forms as form
-use Rattle.dlp_requests.specs.Forms.{kinds_of}
 use Rattle.dlp_requests.specs.RequestValues.{RequestValue}
 use Rattle.dlp_replies.specs.ReplyValues.{ReplyValue}
 use Rattle.palm_device.specs.Blocks.{empty_database}
@@ -28,19 +26,15 @@ use Rattle.palm_device.specs.Soundness.{AreIds, IsDevice, ids_of}
 use Rattle.palm_device.specs.declared.opened.Opened.{Opened}
 use Rattle.palm_device.proofs.BoundLaws.{AllByRecursion-get, IsBoundedDatabase-empty}
 use Rattle.dlp_commands.specs.Changes.{is_change}
-use Rattle.dlp_commands.specs.DeviceSteps.{function_number}
+use Rattle.dlp_commands.specs.DeviceSteps.{RequestFits, function_number}
 use Rattle.dlp_commands.specs.Reached.{read_next_modified_rec, reads, reset_record_index, with_next, writes}
-use Rattle.dlp_commands.specs.Readings.{next_in, read_number}
+use Rattle.dlp_commands.specs.Readings.{next_in}
 use Rattle.dlp_commands.specs.Targets.{is_name, target, writable_name}
-use Rattle.dlp_commands.specs.Writings.{WritingValue, write_number}
+use Rattle.dlp_commands.specs.Writings.{WritingValue}
 use Rattle.dlp_commands.specs.declared.reading.Reading.{Reading}
-use Rattle.dlp_commands.proofs.ReplyLaws.{NextReplies, Replies, next_keeps, read_in_keeps}
+use Rattle.dlp_commands.proofs.ReplyLaws.{NextReplies, Replies, next_keeps, read_in_keeps, read_number, write_number}
 use Rattle.dlp_commands.proofs.TriedLaws.{Keeps, keeps_check, keeps_need, keeps_then}
 use Rattle.dlp_commands.proofs.WriteLaws.{GivesFree, Writes, WritingFits, written_in_writes}
-
--- the fields of a request keep the bounds of its layout
-abbrev pub RequestFits : RequestValue → Type 0
-RequestFits value = FieldsFit (kinds_of value.form) value.fields
 
 -- what is open keeps its bounds
 abbrev IsBoundedSlot : Option Opened → Type 0

@@ -1,6 +1,4 @@
-pub mod ActLaws
 pub mod AnswerLaws
-pub mod DataLaws
 pub mod DoneLaws
 pub mod Fits
 pub mod NumberLaws

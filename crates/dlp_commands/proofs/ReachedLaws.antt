@@ -66,20 +66,20 @@ pub next_some : (old : Device) (handle : ℕ) (base : Base) → base_at old hand
     → next_of old handle ≡ next_in base.opened.next base.database
 next_some old handle base some = rw some refl
 
-pub reset_none : (old : Device) (handle : ℕ) → base_at old handle ≡ None
-    → outcome old 0x30 (reset_record_index old handle) ≡ (reply_text (Refused 0x30 none_open), old)
+pub reset_none : (old : Device) (number handle : ℕ) → base_at old handle ≡ None
+    → outcome old number (reset_record_index old handle) ≡ (reply_text (Refused number none_open), old)
 unfolding reset_record_index
-reset_none old handle none = rw none refl
+reset_none old number handle none = rw none refl
 
-pub reset_unfit : (old : Device) (handle : ℕ) (base : Base) → base_at old handle ≡ Some base → on_records base.database ≡ false
-    → outcome old 0x30 (reset_record_index old handle) ≡ (reply_text (Refused 0x30 not_supported), old)
+pub reset_unfit : (old : Device) (number handle : ℕ) (base : Base) → base_at old handle ≡ Some base → on_records base.database ≡ false
+    → outcome old number (reset_record_index old handle) ≡ (reply_text (Refused number not_supported), old)
 unfolding reset_record_index
-reset_unfit old handle base some unfit = rw (some, unfit) refl
+reset_unfit old number handle base some unfit = rw (some, unfit) refl
 
-pub reset_done : (old : Device) (handle : ℕ) (base : Base) → base_at old handle ≡ Some base → on_records base.database ≡ true
-    → outcome old 0x30 (reset_record_index old handle) ≡ (reply_text reply.ResetRecordIndex, with_index old handle 0)
+pub reset_done : (old : Device) (number handle : ℕ) (base : Base) → base_at old handle ≡ Some base → on_records base.database ≡ true
+    → outcome old number (reset_record_index old handle) ≡ (reply_text reply.ResetRecordIndex, with_index old handle 0)
 unfolding reset_record_index
-reset_done old handle base some suits = rw (some, suits) refl
+reset_done old number handle base some suits = rw (some, suits) refl
 
 -- ---- functions that write
 

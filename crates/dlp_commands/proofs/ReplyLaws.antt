@@ -11,6 +11,8 @@ use Rattle.pdb_values.specs.Blocks.{block_length}
 use Rattle.pdb_values.specs.Databases.{DatabaseValue}
 use Rattle.pdb_values.specs.declared.record.Record.{Record}
 use Rattle.pdb_values.specs.declared.user.UserInfo.{UserInfo}
+use Rattle.dlp_requests.specs.Forms as form
+use Rattle.dlp_requests.specs.Forms.{number_of}
 use Rattle.dlp_replies.specs.Frames.{FrameFits, IsReply, ValuesFit, frame, function_byte, name_text, reply_text}
 use Rattle.dlp_replies.specs.IdLists.{IsId}
 use Rattle.dlp_replies.specs.ReplyValues as reply
@@ -20,9 +22,10 @@ use Rattle.palm_device.specs.Soundness.{ids_of}
 use Rattle.palm_device.proofs.BoundLaws.{AllByRecursion-drop, AllByRecursion-get, AllByRecursion-take, slice_get-within}
 use Rattle.dlp_commands.specs.DatabaseFunctions.{listed, more_flag}
 use Rattle.dlp_commands.specs.Holding.{fits, on_records}
-use Rattle.dlp_commands.specs.Readings.{next_in, read_in, read_number, read_of, record_part, resource_part, wire_attributes}
+use Rattle.dlp_commands.specs.Readings.{next_in, read_in, read_of, record_part, resource_part, wire_attributes}
 use Rattle.dlp_commands.specs.UserFunctions.{system_reply, user_reply}
-use Rattle.dlp_commands.specs.Writings.{WritingValue, write_number, write_reply}
+use Rattle.dlp_commands.specs.Writings as writing
+use Rattle.dlp_commands.specs.Writings.{WritingValue, write_reply}
 use Rattle.dlp_commands.specs.declared.reading.Reading.{Reading}
 use Rattle.dlp_commands.specs.declared.reading.Reading.TheVariants as reading
 use Rattle.dlp_commands.proofs.Fits.{date_length, has_no_zero, ids_fit, list_fits, next_fits, record_fits, resource_fits, user_fits}
@@ -32,6 +35,29 @@ use Rattle.dlp_commands.proofs.TriedLaws.{Keeps, keeps_check, keeps_need}
 pub record Replies (number : ℕ) (value : ReplyValue) : Type 0 where
   pub is : IsReply value
   pub function : function_byte (frame value) ≡ number
+
+-- the function's byte of a reading
+abbrev pub read_number : Reading → ℕ
+read_number (reading.AppBlock offset count) = number_of form.ReadAppBlock
+read_number (reading.SortBlock offset count) = number_of form.ReadSortBlock
+read_number reading.EntryCount = number_of form.ReadOpenDbInfo
+read_number (reading.RecordOfId id offset count) = number_of form.ReadRecordById
+read_number (reading.RecordAt index offset count) = number_of form.ReadRecordByIndex
+read_number (reading.RecordIds start maximum) = number_of form.ReadRecordIdList
+read_number (reading.ResourceOfType kind id offset count) = number_of form.ReadResourceByType
+read_number (reading.ResourceAt index offset count) = number_of form.ReadResourceByIndex
+
+-- and of a writing
+abbrev pub write_number : WritingValue → ℕ
+write_number (writing.AppBlock bytes) = number_of form.WriteAppBlock
+write_number (writing.SortBlock bytes) = number_of form.WriteSortBlock
+write_number (writing.WriteRecord id attributes category bytes) = number_of form.WriteRecord
+write_number (writing.DeleteRecord flags id) = number_of form.DeleteRecord
+write_number writing.CleanUp = number_of form.CleanUpDatabase
+write_number writing.ResetFlags = number_of form.ResetSyncFlags
+write_number (writing.MoveCategory from to) = number_of form.MoveCategory
+write_number (writing.WriteResource kind id bytes) = number_of form.WriteResource
+write_number (writing.DeleteResource flags kind id) = number_of form.DeleteResource
 
 -- ---- replies
 

@@ -21,12 +21,12 @@ use Rattle.palm_device.specs.Devices.{Device}
 use Rattle.palm_device.specs.Soundness.{IsDevice}
 use Rattle.dlp_commands.specs.Changes.{changes, given_in, is_change}
 use Rattle.dlp_commands.specs.DeviceRuns.{Exchange, Ran}
-use Rattle.dlp_commands.specs.DeviceSteps.{DeviceStep, MayGive, MayGiveTo, first_byte, function_number, outcome, served, served_by, tried}
+use Rattle.dlp_commands.specs.DeviceSteps.{DeviceStep, MayGive, MayGiveTo, RequestFits, first_byte, function_number, outcome, served, served_by, tried}
 use Rattle.dlp_commands.specs.Errors.{fault_code}
 use Rattle.dlp_commands.specs.Reached.{Trial}
 use Rattle.dlp_commands.specs.Talks.{Talk, WasAnswered, given}
 use Rattle.dlp_commands.specs.Targets.{is_name, target_of}
-use Rattle.dlp_commands.proofs.DoneLaws.{Done, RequestFits}
+use Rattle.dlp_commands.proofs.DoneLaws.{Done}
 use Rattle.dlp_commands.proofs.NumberLaws.{FieldsFit-AreFields, first_byte-request_text, function_number-first_byte}
 use Rattle.dlp_commands.proofs.ReplyLaws.{Replies, refused_reply}
 use Rattle.dlp_commands.proofs.TableLaws.{tried_done}

@@ -21,13 +21,13 @@ use Rattle.palm_device.specs.Handles.{Base, base_at, just_opened}
 use Rattle.palm_device.specs.Heads.{new_head}
 use Rattle.palm_device.specs.Records.{IsFree}
 use Rattle.dlp_commands.specs.DatabaseFunctions.{close_db, create_db, delete_db, named, open_db, read_db_list}
-use Rattle.dlp_commands.specs.DeviceSteps.{FormMayGive, tried, tried_by}
+use Rattle.dlp_commands.specs.DeviceSteps.{FormMayGive, RequestFits, tried, tried_by}
 use Rattle.dlp_commands.specs.UserFunctions.{name_or_empty, with_marks, write_user_info, name_length}
 use Rattle.dlp_commands.specs.Writings as writing
 use Rattle.dlp_commands.specs.declared.reading.Reading.TheVariants as reading
 use Rattle.dlp_commands.proofs.ReplyLaws.{list_is_reply, reply_by, system_is_reply, user_is_reply}
 use Rattle.dlp_commands.proofs.TriedLaws.{Keeps, keeps_check, keeps_need, keeps_then}
-use Rattle.dlp_commands.proofs.DoneLaws.{Done, RequestFits, free_few, handle_count, handle_each, made_done, marked_done, next_done, reads_done, removed_done}
+use Rattle.dlp_commands.proofs.DoneLaws.{Done, free_few, handle_count, handle_each, made_done, marked_done, next_done, reads_done, removed_done}
 use Rattle.dlp_commands.proofs.DoneLaws.{reset_done, same_done, writes_done}
 
 -- ---- functions on databases

@@ -24,8 +24,8 @@ use Rattle.dlp_commands.specs.Errors.{◌>>=◌}
 use Rattle.dlp_commands.specs.Holding.{fits, on_records, on_resources}
 use Rattle.dlp_commands.specs.Writings as writing
 use Rattle.dlp_commands.specs.Writings.{IsShortWriting, WritingValue, may_write, write_reply, with_moved, with_resource, without_category, without_record}
-use Rattle.dlp_commands.specs.Writings.{without_records, without_resources, write_number, written, written_in, written_on, written_record}
-use Rattle.dlp_commands.proofs.ReplyLaws.{Replies, written_reply}
+use Rattle.dlp_commands.specs.Writings.{without_records, without_resources, written, written_in, written_on, written_record}
+use Rattle.dlp_commands.proofs.ReplyLaws.{Replies, write_number, written_reply}
 use Rattle.dlp_commands.proofs.TriedLaws.{Keeps, keeps_check, keeps_need, keeps_then}
 
 -- what is written keeps the bounds of its types

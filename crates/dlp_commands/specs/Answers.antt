@@ -23,8 +23,9 @@ abbrev pub answered : ℕ → Result ReplyValue ℕ → List ℕ
 answered number (Ok value) = reply_text value
 answered number (Err code) = reply_text (Refused number code)
 
--- the answer's reply and the new device are what the table says of the old one
-abbrev pub Does : {A : Type 0} → ℕ → (A → ReplyValue) → Device → Device → Result A Refusal
+-- the answer's reply, under the byte of any function, and the new device are what the table says of
+-- the old one
+abbrev pub Does : {A : Type 0} → (A → ReplyValue) → Device → Device → Result A Refusal
     → Trial → Type 0
-Does number reply old new result tried =
-    outcome old number tried ≡ (answer_text number reply result, new)
+Does reply old new result tried =
+    (number : ℕ) → outcome old number tried ≡ (answer_text number reply result, new)

@@ -2,13 +2,14 @@
 -- `dlp.c`).
 use Rattle.std.specs.Prelude.{◌≡◌, ℕ, List, [], ◌∷◌, Result, Ok, Err, IfSome}
 use Rattle.dlp_requests.specs.declared.fault.RequestFault.{RequestFault}
-use Rattle.dlp_args.specs.Fields.{Fields}
+use Rattle.dlp_args.specs.Fields.{Fields, FieldsFit}
 use Rattle.dlp_requests.specs.Forms as form
 use Rattle.dlp_requests.specs.Forms.{Form, kinds_of, number_of}
 use Rattle.dlp_requests.specs.RequestValues.{RequestValue}
 use Rattle.dlp_requests.specs.RequestReading.{request_at}
-use Rattle.dlp_replies.specs.ReplyValues.{Refused}
-use Rattle.dlp_replies.specs.Frames.{reply_text}
+use Rattle.dlp_replies.specs.ReplyReading.{reply_at}
+use Rattle.dlp_replies.specs.ReplyValues.{Refused, ReplyValue}
+use Rattle.dlp_replies.specs.Frames.{IsReply, reply_text}
 use Rattle.palm_device.specs.Devices.{Device}
 use Rattle.palm_device.specs.Handles.{base_at}
 use Rattle.palm_device.specs.Records.{IsFree}
@@ -83,10 +84,14 @@ tried free device value = tried_by free device value.form value.fields
 abbrev pub function_number : RequestValue → ℕ
 function_number value = number_of value.form
 
--- an error changes nothing and is replied
+-- an error is replied and changes nothing
+abbrev pub refusal : Device → ℕ → ℕ → List ℕ × Device
+refusal old number code = (reply_text (Refused number code), old)
+
+-- what was done is replied, or the error
 abbrev pub outcome : Device → ℕ → Trial → List ℕ × Device
 outcome old number (Ok done) = (reply_text done.1, done.0)
-outcome old number (Err code) = (reply_text (Refused number code), old)
+outcome old number (Err code) = refusal old number code
 
 -- the first byte of a message, or 0 of one that has none
 abbrev pub first_byte : List ℕ → ℕ
@@ -96,12 +101,22 @@ first_byte (byte ∷ bytes) = byte
 -- a request does what it does; bytes that are none are refused under their first byte
 abbrev pub served_by : Device → ℕ → List ℕ → Result RequestValue RequestFault → List ℕ × Device
 served_by old free bytes (Ok value) = outcome old (function_number value) (tried free old value)
-served_by old free bytes (Err fault) =
-    (reply_text (Refused (first_byte bytes) (fault_code fault)), old)
+served_by old free bytes (Err fault) = refusal old (first_byte bytes) (fault_code fault)
+
+-- bytes that are the text of a reply, and are read as this reply to the function of a request's
+-- bytes
+abbrev pub IsReplyTo : List ℕ → List ℕ → Type 0
+IsReplyTo bytes reply =
+    (value : ReplyValue) × IsReply value × (reply ≡ reply_text value)
+    × (reply_at (first_byte bytes) reply ≡ Ok value)
 
 -- the reply to bytes and the device after; `free` is the id that a new record gets
 unfoldable pub served : Device → ℕ → List ℕ → List ℕ × Device
 served old free bytes = served_by old free bytes (request_at bytes)
+
+-- the fields of a request keep the bounds of its layout
+abbrev pub RequestFits : RequestValue → Type 0
+RequestFits value = FieldsFit (kinds_of value.form) value.fields
 
 -- the request may give a new record this id: WriteRecord of id 0 asks for a free one
 abbrev pub FormMayGive : Device → ℕ → (f : Form) → Fields (kinds_of f) → Type 0

@@ -1,6 +1,6 @@
 pub mod Answers
+pub mod Asked
 pub mod Changes
-pub mod Commands
 pub mod DatabaseFunctions
 pub mod DeviceRuns
 pub mod DeviceSteps
@@ -10,7 +10,6 @@ pub mod Links
 pub mod Reached
 pub mod Readings
 pub mod Refusals
-pub mod RequestData
 pub mod Talks
 pub mod Targets
 pub mod UserFunctions

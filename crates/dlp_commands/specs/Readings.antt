@@ -67,17 +67,6 @@ most_ids = 16000
 
 -- ---- the functions
 
--- the function's byte
-abbrev pub read_number : Reading → ℕ
-read_number (reading.AppBlock offset count) = 0x1B
-read_number (reading.SortBlock offset count) = 0x1D
-read_number reading.EntryCount = 0x2B
-read_number (reading.RecordOfId id offset count) = 0x20
-read_number (reading.RecordAt index offset count) = 0x20
-read_number (reading.RecordIds start maximum) = 0x31
-read_number (reading.ResourceOfType kind id offset count) = 0x23
-read_number (reading.ResourceAt index offset count) = 0x23
-
 -- what the database has to hold
 abbrev pub read_on : Reading → Holds
 read_on (reading.AppBlock offset count) = holds.Either

@@ -27,10 +27,14 @@ asked talk = map (λ (exchange : Exchange). exchange.request) talk.exchanges
 abbrev pub issued : Talk → List (List ℕ)
 issued talk = asked talk ++ option_to_list talk.left
 
+-- the ids that exchanges gave to new records, in order
+abbrev pub ids_given : List Exchange → List ℕ
+ids_given exchanges =
+    flat_map (λ (exchange : Exchange). given_in exchange.request exchange.reply) exchanges
+
 -- the ids that new records were given, in order
 abbrev pub given : Talk → List ℕ
-given talk =
-    flat_map (λ (exchange : Exchange). given_in exchange.request exchange.reply) talk.exchanges
+given talk = ids_given talk.exchanges
 
 -- the device took one step by the request, this was its reply, and no earlier request was left
 -- without one

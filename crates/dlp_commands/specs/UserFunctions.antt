@@ -1,5 +1,5 @@
--- The functions on the user, on the system and on the whole session: the table, with the errors in its order
--- (pilot-link, `pi-dlp.h`).
+-- The functions on the user, on the system and on the whole session: the table, with the errors in
+-- its order (pilot-link, `pi-dlp.h`).
 use Rattle.std.specs.Prelude.{ℕ, ◌+◌, List, [], ◌∷◌, length, Option, Some, None, Result, Ok, ◌==◌, if◌then◌else◌}
 use Rattle.pdb_values.specs.PalmDates.{read_wire}
 use Rattle.pdb_values.specs.Users.{user_name_of}

@@ -2,6 +2,7 @@
 -- (pilot-link, `pi-dlp.h`), and
 -- the edits that do it.
 use Rattle.std.specs.Prelude.{◌≡◌, ◌≤◌, ℕ, ◌%◌, Bool, false, List, [], length, Result, Ok, Err, ◌&&◌, ◌||◌, not, nat_le, nat_lt, ◌==◌, if◌then◌else◌}
+use Rattle.pdb_values.specs.Bounds.{greatest_id, most_bytes, most_entries}
 use Rattle.pdb_values.specs.Databases.{DatabaseValue}
 use Rattle.pdb_values.specs.declared.record.Record.{Record}
 use Rattle.dlp_replies.specs.ReplyValues as reply
@@ -50,18 +51,6 @@ writing_value (writing.MoveCategory from to) = MoveCategory from to
 writing_value (writing.Resource kind id bytes) = WriteResource kind.0 id bytes.now
 writing_value (writing.DeleteResource flags kind id) = DeleteResource flags kind.0 id
 
--- the function's byte
-abbrev pub write_number : WritingValue → ℕ
-write_number (AppBlock bytes) = 0x1C
-write_number (SortBlock bytes) = 0x1E
-write_number (WriteRecord id attributes category bytes) = 0x21
-write_number (DeleteRecord flags id) = 0x22
-write_number CleanUp = 0x26
-write_number ResetFlags = 0x27
-write_number (MoveCategory from to) = 0x2C
-write_number (WriteResource kind id bytes) = 0x24
-write_number (DeleteResource flags kind id) = 0x25
-
 -- what the database has to hold
 abbrev pub written_on : WritingValue → Holds
 written_on (AppBlock bytes) = holds.Either
@@ -76,10 +65,10 @@ written_on (DeleteResource flags kind id) = holds.Resources
 
 -- the data that is written is at most 65,500 bytes
 abbrev pub IsShortWriting : WritingValue → Type 0
-IsShortWriting (AppBlock bytes) = length bytes ≤ 65500
-IsShortWriting (SortBlock bytes) = length bytes ≤ 65500
-IsShortWriting (WriteRecord id attributes category bytes) = length bytes ≤ 65500
-IsShortWriting (WriteResource kind id bytes) = length bytes ≤ 65500
+IsShortWriting (AppBlock bytes) = length bytes ≤ most_bytes
+IsShortWriting (SortBlock bytes) = length bytes ≤ most_bytes
+IsShortWriting (WriteRecord id attributes category bytes) = length bytes ≤ most_bytes
+IsShortWriting (WriteResource kind id bytes) = length bytes ≤ most_bytes
 IsShortWriting other = Unit {0}
 
 -- a free id is asked for
@@ -92,9 +81,9 @@ asks_free other = false
 -- an id above 16,777,215 or a category above 15: parameter; a new one and 65,535 records: limit
 abbrev pub may_write : ℕ → ℕ → List Record → Result (Unit {0}) ℕ
 may_write id category items = do
-  bounded ← check parameter (nat_le id 16777215)
+  bounded ← check parameter (nat_le id greatest_id)
   sorted ← check parameter (nat_le category 15)
-  check limit (not (is_new id items) || nat_lt (length items) 65535)
+  check limit (not (is_new id items) || nat_lt (length items) most_entries)
 
 -- the record of this id, or a new last one, gets this content, live and dirty
 abbrev pub written_record : ℕ → ℕ → Bool → ℕ → List ℕ → DatabaseValue

@@ -2,6 +2,7 @@
 ghost use Rattle.std.specs.Prelude.{◌≡◌, ◌≤◌, IfOk, drop, length, take};
 ghost use Rattle.std.specs.Option.{option_copied};
 ghost use Rattle.pdb_values.specs.Blocks.{block_length};
+ghost use Rattle.pdb_values.specs.Bounds.{most_bytes};
 ghost use Rattle.dlp_commands.specs.Answers.{Finds};
 ghost use Rattle.dlp_commands.specs.Readings as table;
 
@@ -18,10 +19,10 @@ pub(crate) fn part_of(bytes: &[u8], offset: usize, count: usize) -> &[u8]
 
 // The bytes of a block from an offset on, at most so many.
 pub(crate) fn block_part(block: Option<&[u8]>, offset: u16, count: u16) -> Result<&[u8], Refusal>
-    requires { block_length (option_copied block) ≤ 65500 }
+    requires { block_length (option_copied block) ≤ most_bytes }
     ensures part { Finds (λ bytes. bytes.now) result
         (table.block_part (option_copied block.entry) offset count) }
-    ensures short { IfOk result (λ bytes. length bytes.now ≤ 65500) }
+    ensures short { IfOk result (λ bytes. length bytes.now ≤ most_bytes) }
 {
     let Some(bytes) = block else {
         return Err(Refusal::NotFound);

@@ -1,31 +1,26 @@
 // What holds of every step and run of a device.
-ghost use Rattle.std.specs.Prelude.{◌≡◌, ◌++◌, ◌∷◌, ◌<◌, ◌^◌, [], ℕ, List, Ok, Err, Some, false, get_or};
-ghost use Rattle.std.specs.List.{flat_map};
+ghost use Rattle.std.specs.Prelude.{◌≡◌, ◌++◌, ◌<◌, ◌^◌, ℕ, List, Ok, Err, Some, false, get_or};
 ghost use Rattle.dlp_requests.specs.declared.fault.RequestFault.{RequestFault};
 ghost use Rattle.dlp_requests.specs.RequestReading.{request_at};
 ghost use Rattle.dlp_requests.specs.RequestTexts.{request_text};
 ghost use Rattle.dlp_requests.specs.RequestValues.{RequestValue};
 ghost use Rattle.dlp_requests.specs.Forms as form;
-ghost use Rattle.dlp_replies.specs.Frames.{IsReply, reply_text};
-ghost use Rattle.dlp_replies.specs.ReplyReading.{reply_at};
-ghost use Rattle.dlp_replies.specs.ReplyValues.{Refused, ReplyValue};
 ghost use Rattle.palm_device.specs.Bounds.{IsBounded};
-ghost use Rattle.pdb_values.specs.NamedDatabases.{database_of};
 ghost use Rattle.palm_device.specs.Devices.{Device};
 ghost use Rattle.palm_device.specs.Handles.{no_handles};
 ghost use Rattle.palm_device.specs.Soundness.{IsDevice};
-ghost use Rattle.dlp_commands.specs.Changes.{changes, given_in, is_change};
+ghost use Rattle.dlp_commands.specs.Changes.{KeepsNamed, KeepsStore, changes, given_in, is_change};
 ghost use Rattle.dlp_commands.specs.DeviceRuns.{Exchange, Ran};
-ghost use Rattle.dlp_commands.specs.DeviceSteps.{DeviceStep, first_byte, function_number, served, tried};
+ghost use Rattle.dlp_commands.specs.DeviceSteps.{DeviceStep, IsReplyTo, first_byte, function_number, refusal, served, tried};
 ghost use Rattle.dlp_commands.specs.Errors.{fault_code};
-ghost use Rattle.dlp_commands.specs.Talks.{Talk, WasAnswered, given};
+ghost use Rattle.dlp_commands.specs.Talks.{Talk, WasAnswered, given, ids_given};
 ghost use Rattle.dlp_commands.specs.Targets.{is_name, target_of};
 
 /// A step is determined by the device, the request and the id that a new record was given.
 pub fn step_is_determined()
     ensures { (old one other : Device) (bytes reply answer : List ℕ)
-        (first : DeviceStep old bytes reply one) (second : DeviceStep old bytes answer other)
-        → first.free ≡ second.free → (reply ≡ answer) × (one ≡ other) }
+        (first : DeviceStep old bytes reply one) (last : DeviceStep old bytes answer other)
+        → first.free ≡ last.free → (reply ≡ answer) × (one ≡ other) }
 {}
 
 /// Runs append, and a run is cut at any place.
@@ -39,23 +34,19 @@ pub fn runs_append()
 
 /// A request that is refused, and bytes that are no request, change nothing, and the error is replied.
 pub fn refused_changes_nothing()
-    ensures refused { (old : Device) (free code : ℕ) (bytes : List ℕ) (value : RequestValue)
-        → request_at bytes ≡ Ok value → tried free old value ≡ Err code
-        → served old free bytes ≡ (reply_text (Refused (function_number value) code), old) }
+    ensures refused { (old : Device) (free code : ℕ) (text : List ℕ) (value : RequestValue)
+        → request_at text ≡ Ok value → tried free old value ≡ Err code
+        → served old free text ≡ refusal old (function_number value) code }
     ensures no_request { (old : Device) (free : ℕ) (bytes : List ℕ) (fault : RequestFault)
         → request_at bytes ≡ Err fault
-        → served old free bytes ≡ (
-          reply_text
-              (Refused (first_byte bytes) (fault_code fault)),
-          old,
-        ) }
+        → served old free bytes ≡ refusal old (first_byte bytes) (fault_code fault) }
 {}
 
 /// A request that reads changes no database and not the user; handles and record indexes at most.
 pub fn reading_keeps_databases()
     ensures { (old new : Device) (bytes reply : List ℕ) (value : RequestValue)
         → request_at bytes ≡ Ok value → is_change (function_number value) ≡ false
-        → DeviceStep old bytes reply new → (new.databases ≡ old.databases) × (new.user ≡ old.user) }
+        → DeviceStep old bytes reply new → KeepsStore old new }
 {}
 
 /// The first byte of a request, read or written, says whether it may change databases or the user; and whatever the bytes, where
@@ -66,15 +57,14 @@ pub fn first_byte_tells_changes()
     ensures written { (value : RequestValue) → changes (request_text value)
         ≡ is_change (function_number value) }
     ensures stays { (old new : Device) (bytes reply : List ℕ) → changes bytes ≡ false
-        → DeviceStep old bytes reply new → (new.databases ≡ old.databases) × (new.user ≡ old.user) }
+        → DeviceStep old bytes reply new → KeepsStore old new }
 {}
 
 /// A step changes no database but the one of the request's handle, where that is open for writing, the one that CreateDB makes
 /// and the one that DeleteDB removes.
 pub fn only_the_target_changes()
     ensures { (old new : Device) (bytes reply name : List ℕ) → DeviceStep old bytes reply new
-        → is_name name (target_of old (request_at bytes)) ≡ false
-        → database_of name new.databases ≡ database_of name old.databases }
+        → is_name name (target_of old (request_at bytes)) ≡ false → KeepsNamed name old new }
 {}
 
 /// Names stay in byte order and differ, and there are at most 200; ids within a database stay different, and none is 0; there are
@@ -94,17 +84,13 @@ pub fn bounds_stay()
 pub fn replies_are_read()
     ensures { (old new : Device) (bytes reply : List ℕ)
         → IsDevice old → IsBounded old → DeviceStep old bytes reply new
-        → (value : ReplyValue) × IsReply value × (reply ≡ reply_text value)
-        × (reply_at (first_byte bytes) reply ≡ Ok value) }
+        → IsReplyTo bytes reply }
 {}
 
 /// The ids that exchanges gave to new records append, and an answered request adds its own.
 pub fn given_ids_append()
     ensures joined { (front back : List Exchange)
-        → flat_map (λ (exchange : Exchange). given_in exchange.request exchange.reply)
-        (front ++ back)
-        ≡ flat_map (λ (exchange : Exchange). given_in exchange.request exchange.reply) front
-        ++ flat_map (λ (exchange : Exchange). given_in exchange.request exchange.reply) back }
+        → ids_given (front ++ back) ≡ ids_given front ++ ids_given back }
     ensures answered { (old new : Talk) (request reply : List ℕ)
         → WasAnswered old request reply (Some new)
         → given new ≡ given old ++ given_in request reply }

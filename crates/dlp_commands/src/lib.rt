@@ -6,12 +6,11 @@
 //! a device, `DeviceRuns` what several do. A `Link` is a device behind a line. The public source is pilot-link's `pi-dlp.h` and
 //! `dlp.c`.
 //!
-//! What every program that is a device shares is here too: a request as a `Command`, what a `Reading` finds in a database, the
-//! `Edit` that a `Writing` plans, and how replies and errors are written.
+//! What every program that is a device shares is here too: what a request asks of the database of its handle, as a `Reading` or a
+//! `Writing`; what a `Reading` finds there, the `Edit` that a `Writing` plans, and how replies and errors are written.
 #![tactic(auto)]
 
 mod block;
-mod command;
 mod holds;
 mod laws;
 mod link;
@@ -25,7 +24,6 @@ mod system;
 mod user;
 mod writing;
 
-pub use command::{Change, Command, Quiet};
 pub use dlp_args::{Message, MessageText};
 pub use dlp_replies::{Entries, ErrorCode, Ids, Reply, ReplyFault, read_reply, write_reply};
 pub use dlp_requests::{Request, RequestFault, read_request, write_request};
@@ -41,7 +39,7 @@ pub use palm_device::Edit;
 pub use reading::Reading;
 pub use record::next_record;
 pub use refusal::Refusal;
-pub use reply::{put_done, put_fault, put_listed, put_refusal, put_reply};
+pub use reply::{first_byte, put_done, put_fault, put_listed, put_refusal, put_reply};
 pub use system::system_reply;
 pub use user::{UserMarks, marked, user_reply};
 pub use writing::Writing;

@@ -46,5 +46,5 @@ pub fn listed(head: &DbHead) -> DbHead
 pub fn is_writable(mode: u8, head: &DbHead) -> bool
     ensures { result ≡ (has_this_bit 0x40 mode && not (is_read_only head.now.attributes)) }
 {
-    has_bit(0x40, mode as u16) && !has_bit(0x0002, head.attributes)
+    has_bit(0x40, mode as u16) && !has_bit(DbHead::READ_ONLY, head.attributes)
 }

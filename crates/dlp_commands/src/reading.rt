@@ -1,9 +1,13 @@
 // The functions that read the database of a handle.
-ghost use Rattle.std.specs.Prelude.{◌≡◌, ◌≤◌, IfOk, OnOk, length};
+ghost use Rattle.std.specs.Prelude.{◌≡◌, IfOk, IfSome, OnOk, is_some};
+ghost use Rattle.dlp_requests.specs.Views.{request_value};
 ghost use Rattle.dlp_replies.specs.Views.{reply_value};
 ghost use Rattle.dlp_replies.specs.Writables.{IsWritable};
 ghost use Rattle.dlp_commands.specs.Answers.{Finds, answered};
-ghost use Rattle.dlp_commands.specs.Readings.{read_in, read_number, read_of, read_on};
+ghost use Rattle.dlp_commands.specs.Asked.{AsksToRead, entry_forms, reading_forms, resource_forms};
+ghost use Rattle.dlp_commands.specs.Changes.{is_among};
+ghost use Rattle.dlp_commands.specs.DeviceSteps.{function_number};
+ghost use Rattle.dlp_commands.specs.Readings.{read_in, read_of, read_on};
 
 use crate::block::block_part;
 use crate::holds::Holds;
@@ -13,6 +17,7 @@ use crate::reply::{put_ids, put_refusal, put_reply};
 use crate::resource::resource_part;
 use dlp_args::Message;
 use dlp_replies::{Reply, write_reply};
+use dlp_requests::Request;
 use palm_device::{entry_count, place_of_id, place_of_resource};
 use pdb_values::{Database, FourCc};
 use std::alloc::{AllocError, Global};
@@ -23,22 +28,22 @@ use std::alloc::{AllocError, Global};
 pub enum Reading {
     AppBlock {
         offset: u16,
-        count: u16,
+        length: u16,
     },
     SortBlock {
         offset: u16,
-        count: u16,
+        length: u16,
     },
     EntryCount,
     RecordOfId {
         id: u32,
         offset: u16,
-        count: u16,
+        length: u16,
     },
     RecordAt {
         index: u16,
         offset: u16,
-        count: u16,
+        length: u16,
     },
     /// The ids of records from an index on.
     RecordIds {
@@ -49,30 +54,114 @@ pub enum Reading {
         kind: FourCc,
         id: u16,
         offset: u16,
-        count: u16,
+        length: u16,
     },
     ResourceAt {
         index: u16,
         offset: u16,
-        count: u16,
+        length: u16,
     },
 }
 
 #[tactic(auto, using(crate::proofs::AnswerLaws::found_text))]
 impl Reading {
-    /// The function's byte.
-    pub fn number(&self) -> u8
-        ensures { result ≡ read_number self.now }
+    /// What a request reads of the database of its handle, with that handle; `None` where it reads none.
+    pub fn of(request: &Request<'_>) -> Option<(u8, Reading)>
+        ensures asks { IfSome result
+            (λ found. AsksToRead (request_value request.now) found.0 found.1) }
+        ensures some { is_some result
+            ≡ is_among reading_forms (function_number (request_value request.now)) }
     {
-        match self {
-            Reading::AppBlock { .. } => 0x1B,
-            Reading::SortBlock { .. } => 0x1D,
-            Reading::EntryCount => 0x2B,
-            Reading::RecordOfId { .. } => 0x20,
-            Reading::RecordAt { .. } => 0x20,
-            Reading::RecordIds { .. } => 0x31,
-            Reading::ResourceOfType { .. } => 0x23,
-            Reading::ResourceAt { .. } => 0x23,
+        match *request {
+            Request::ReadAppBlock {
+                handle,
+                offset,
+                length,
+            } => Some((handle, Reading::AppBlock { offset, length })),
+            Request::ReadSortBlock {
+                handle,
+                offset,
+                length,
+            } => Some((handle, Reading::SortBlock { offset, length })),
+            Request::ReadOpenDbInfo { handle } => Some((handle, Reading::EntryCount)),
+            _ => Reading::of_records(request),
+        }
+    }
+
+    // The same of a request for records or resources.
+    fn of_records(request: &Request<'_>) -> Option<(u8, Reading)>
+        ensures asks { IfSome result
+            (λ found. AsksToRead (request_value request.now) found.0 found.1) }
+        ensures some { is_some result
+            ≡ is_among entry_forms (function_number (request_value request.now)) }
+    {
+        match *request {
+            Request::ReadRecordIdList {
+                handle,
+                start,
+                maximum,
+                ..
+            } => Some((handle, Reading::RecordIds { start, maximum })),
+            Request::ReadRecordById {
+                handle,
+                id,
+                offset,
+                length,
+            } => Some((handle, Reading::RecordOfId { id, offset, length })),
+            Request::ReadRecordByIndex {
+                handle,
+                index,
+                offset,
+                length,
+            } => Some((
+                handle,
+                Reading::RecordAt {
+                    index,
+                    offset,
+                    length,
+                },
+            )),
+            _ => Reading::of_resources(request),
+        }
+    }
+
+    // The same of a request for resources.
+    fn of_resources(request: &Request<'_>) -> Option<(u8, Reading)>
+        ensures asks { IfSome result
+            (λ found. AsksToRead (request_value request.now) found.0 found.1) }
+        ensures some { is_some result
+            ≡ is_among resource_forms (function_number (request_value request.now)) }
+    {
+        match *request {
+            Request::ReadResourceByType {
+                handle,
+                kind,
+                id,
+                offset,
+                length,
+            } => Some((
+                handle,
+                Reading::ResourceOfType {
+                    kind,
+                    id,
+                    offset,
+                    length,
+                },
+            )),
+            Request::ReadResourceByIndex {
+                handle,
+                index,
+                offset,
+                length,
+            } => Some((
+                handle,
+                Reading::ResourceAt {
+                    index,
+                    offset,
+                    length,
+                },
+            )),
+            _ => None,
         }
     }
 
@@ -92,21 +181,21 @@ impl Reading {
         }
     }
 
-    /// Replies what the database has of it, or the error. Want of memory comes for ids alone.
+    /// Replies what the database has of it, or the error, to the function of this byte. Want of memory comes for ids alone.
     pub fn answer(
         &self,
         alloc: Global,
         database: &Database,
+        number: u8,
         out: &mut Message,
     ) -> Result<(), AllocError>
-        ensures { OnOk result (out.new ≡ answered (read_number self.now)
-            (read_in self.now database.now)) }
+        ensures { OnOk result (out.new ≡ answered number (read_in self.now database.now)) }
     {
         if !self.holds().fits(database) {
-            put_refusal(out, self.number(), Refusal::NotSupported);
+            put_refusal(out, number, Refusal::NotSupported);
             return Ok(());
         }
-        self.answer_suited(alloc, database, out)
+        self.answer_suited(alloc, database, number, out)
     }
 
     // The same, where the database holds it.
@@ -114,35 +203,34 @@ impl Reading {
         &self,
         alloc: Global,
         database: &Database,
+        number: u8,
         out: &mut Message,
     ) -> Result<(), AllocError>
-        ensures { OnOk result (out.new ≡ answered (read_number self.now)
-            (read_of self.now database.now)) }
+        ensures { OnOk result (out.new ≡ answered number (read_of self.now database.now)) }
     {
-        let number = self.number();
         match *self {
-            Reading::AppBlock { offset, count } => {
-                put_reply(out, number, app_block(database, offset, count));
+            Reading::AppBlock { offset, length } => {
+                put_reply(out, number, app_block(database, offset, length));
             }
-            Reading::SortBlock { offset, count } => {
-                put_reply(out, number, sort_block(database, offset, count));
+            Reading::SortBlock { offset, length } => {
+                put_reply(out, number, sort_block(database, offset, length));
             }
             Reading::EntryCount => {
                 let count = entry_count(database);
                 write_reply(&Reply::ReadOpenDbInfo { count }, out);
             }
-            Reading::RecordOfId { id, offset, count } => {
-                put_reply(out, number, record_of_id(database, id, offset, count));
+            Reading::RecordOfId { id, offset, length } => {
+                put_reply(out, number, record_of_id(database, id, offset, length));
             }
             Reading::RecordAt {
                 index,
                 offset,
-                count,
+                length,
             } => {
                 put_reply(
                     out,
                     number,
-                    record_part(database, index as usize, offset, count),
+                    record_part(database, index as usize, offset, length),
                 );
             }
             Reading::RecordIds { start, maximum } => {
@@ -154,23 +242,23 @@ impl Reading {
                 kind,
                 id,
                 offset,
-                count,
+                length,
             } => {
                 put_reply(
                     out,
                     number,
-                    resource_of_type(database, kind, id, offset, count),
+                    resource_of_type(database, kind, id, offset, length),
                 );
             }
             Reading::ResourceAt {
                 index,
                 offset,
-                count,
+                length,
             } => {
                 put_reply(
                     out,
                     number,
-                    resource_part(database, index as usize, offset, count),
+                    resource_part(database, index as usize, offset, length),
                 );
             }
         }

@@ -1,5 +1,6 @@
 // Records, as requests read and write them.
 ghost use Rattle.std.specs.Prelude.{◌≡◌, ◌<◌, ◌≤◌, IfOk, OnOk, drop, length, take, true};
+ghost use Rattle.pdb_values.specs.Bounds.{most_entries};
 ghost use Rattle.dlp_replies.specs.Views.{reply_value};
 ghost use Rattle.dlp_replies.specs.Writables.{IsWritable};
 ghost use Rattle.palm_device.specs.Records as records;
@@ -85,7 +86,7 @@ fn whole(item: &Record, place: u16) -> Reply<'_>
 pub fn next_record(database: &Database, next: u16) -> Result<(u16, Reply<'_>), Refusal>
     ensures found { Finds (λ found. (found.0, reply_value found.1)) result
         (next_in next database.now) }
-    ensures within { IfOk result (λ found. found.0 < 65535) }
+    ensures within { IfOk result (λ found. found.0 < most_entries) }
     ensures writable { IfOk result (λ found. IsWritable (reply_value found.1)) }
 {
     if !Holds::Records.fits(database) {
@@ -117,7 +118,7 @@ pub(crate) fn may_write(
     ensures allowed { Finds (λ _. tt) result (writings.may_write id category database.now.records) }
     ensures asked { IfOk result (λ asked. asked ≡ (id, category)) }
     ensures room { OnOk result (records.is_new id database.now.records ≡ true
-        → length database.now.records < 65535) }
+        → length database.now.records < most_entries) }
 {
     let Some(asked) = RecordId::new(id) else {
         return Err(Refusal::Parameter);
@@ -125,7 +126,7 @@ pub(crate) fn may_write(
     let Some(sorted) = Category::new(category) else {
         return Err(Refusal::Parameter);
     };
-    if is_new(database, id) && database.records().len() >= 65_535 {
+    if is_new(database, id) && database.records().len() >= Database::GREATEST_COUNT {
         return Err(Refusal::Limit);
     }
     Ok((asked, sorted))

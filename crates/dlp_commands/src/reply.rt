@@ -8,6 +8,7 @@ ghost use Rattle.dlp_replies.specs.Writables.{IsWritable};
 ghost use Rattle.dlp_commands.specs.Answers.{answer_text};
 ghost use Rattle.dlp_commands.specs.DeviceSteps as steps;
 ghost use Rattle.dlp_commands.specs.Errors as errors;
+ghost use Rattle.dlp_commands.specs.Readings.{most_ids};
 
 use crate::refusal::Refusal;
 use crate::resource::code_len;
@@ -52,7 +53,7 @@ pub fn put_done(out: &mut Message, number: u8, done: Reply<'_>, answer: Result<(
 /// Replies at most 16,000 ids.
 #[tactic(auto, using(crate::proofs::Fits::ids_fit))]
 pub fn put_ids(out: &mut Message, ids: &[RecordId])
-    requires { length ids.now ≤ 16000 }
+    requires { length ids.now ≤ most_ids }
     ensures { out.new ≡ reply_text (value.ReadRecordIdList ids.now) }
 {
     write_reply(&Reply::ReadRecordIdList { ids: Ids::of(ids) }, out);
@@ -102,8 +103,8 @@ fn fault_code(fault: RequestFault) -> ErrorCode
     })
 }
 
-// The first byte of a message, or 0 of one that has none.
-fn first_byte(bytes: &[u8]) -> u8
+/// The first byte of a message, which names its function, or 0 of one that has none.
+pub fn first_byte(bytes: &[u8]) -> u8
     ensures { result ≡ steps.first_byte bytes.now }
 {
     match bytes {

@@ -53,5 +53,5 @@ pub(crate) fn has_room(database: &Database, kind: FourCc, id: u16) -> bool
     ensures { result ≡ resources.has_room kind.0 id database.now.resources }
 {
     place_of_resource(database.resources(), kind, id).is_some()
-        || database.resources().len() < 65_535
+        || database.resources().len() < Database::GREATEST_COUNT
 }

@@ -1,11 +1,16 @@
 // The functions that write into the database of a handle.
-ghost use Rattle.std.specs.Prelude.{◌≡◌, ◌==◌, ◌≤◌, IfOk, false, length, true};
+ghost use Rattle.std.specs.Prelude.{◌≡◌, ◌==◌, ◌≤◌, IfOk, IfSome, false, is_some, length, true};
+ghost use Rattle.pdb_values.specs.Bounds.{most_bytes};
 ghost use Rattle.pdb_values.specs.Heads.{holds_resources};
+ghost use Rattle.dlp_requests.specs.Views.{request_value};
 ghost use Rattle.dlp_replies.specs.Frames.{reply_text};
 ghost use Rattle.palm_device.specs.Edits.{IsFor, gives_free};
+ghost use Rattle.dlp_commands.specs.Asked.{AsksToWrite};
+ghost use Rattle.dlp_commands.specs.Changes.{is_among, record_writing_forms, writing_forms};
+ghost use Rattle.dlp_commands.specs.DeviceSteps.{function_number};
 ghost use Rattle.dlp_commands.specs.Holding.{fits};
 ghost use Rattle.dlp_commands.specs.Writings as value;
-ghost use Rattle.dlp_commands.specs.Writings.{IsShortWriting, Plans, PlansHeld, asks_free, write_number, write_reply as reply_to, writing_value, written_on};
+ghost use Rattle.dlp_commands.specs.Writings.{IsShortWriting, Plans, PlansHeld, asks_free, write_reply as reply_to, writing_value, written_on};
 
 use crate::holds::Holds;
 use crate::record::may_write;
@@ -13,6 +18,7 @@ use crate::refusal::Refusal;
 use crate::resource::has_room;
 use dlp_args::Message;
 use dlp_replies::{Reply, write_reply};
+use dlp_requests::Request;
 use palm_device::{Edit, Kept, has_bit, place_of_id, place_of_resource};
 use pdb_values::{Category, Database, FourCc, RecordId};
 
@@ -59,20 +65,67 @@ pub enum Writing<'a> {
 }
 
 impl<'a> Writing<'a> {
-    /// The function's byte.
-    pub fn number(&self) -> u8
-        ensures { result ≡ write_number (writing_value self.now) }
+    /// What a request writes into the database of its handle, with that handle; `None` where it writes into none.
+    pub fn of(request: &Request<'a>) -> Option<(u8, Writing<'a>)>
+        ensures asks { IfSome result (λ found.
+            AsksToWrite (request_value request.now) found.0 (writing_value found.1)) }
+        ensures some { is_some result
+            ≡ is_among writing_forms (function_number (request_value request.now)) }
     {
-        match self {
-            Writing::AppBlock { .. } => 0x1C,
-            Writing::SortBlock { .. } => 0x1E,
-            Writing::Record { .. } => 0x21,
-            Writing::DeleteRecord { .. } => 0x22,
-            Writing::CleanUp => 0x26,
-            Writing::ResetFlags => 0x27,
-            Writing::MoveCategory { .. } => 0x2C,
-            Writing::Resource { .. } => 0x24,
-            Writing::DeleteResource { .. } => 0x25,
+        match *request {
+            Request::WriteAppBlock { handle, bytes } => Some((handle, Writing::AppBlock { bytes })),
+            Request::WriteSortBlock { handle, bytes } => {
+                Some((handle, Writing::SortBlock { bytes }))
+            }
+            Request::CleanUpDatabase { handle } => Some((handle, Writing::CleanUp)),
+            Request::WriteResource {
+                handle,
+                kind,
+                id,
+                bytes,
+            } => Some((handle, Writing::Resource { kind, id, bytes })),
+            Request::DeleteResource {
+                handle,
+                flags,
+                kind,
+                id,
+            } => Some((handle, Writing::DeleteResource { flags, kind, id })),
+            _ => Writing::of_records(request),
+        }
+    }
+
+    // The same of a request that writes records alone.
+    fn of_records(request: &Request<'a>) -> Option<(u8, Writing<'a>)>
+        ensures asks { IfSome result (λ found.
+            AsksToWrite (request_value request.now) found.0 (writing_value found.1)) }
+        ensures some { is_some result
+            ≡ is_among record_writing_forms (function_number (request_value request.now)) }
+    {
+        match *request {
+            Request::WriteRecord {
+                handle,
+                id,
+                attributes,
+                category,
+                bytes,
+                ..
+            } => Some((
+                handle,
+                Writing::Record {
+                    id,
+                    attributes,
+                    category,
+                    bytes,
+                },
+            )),
+            Request::DeleteRecord { handle, flags, id } => {
+                Some((handle, Writing::DeleteRecord { flags, id }))
+            }
+            Request::ResetSyncFlags { handle } => Some((handle, Writing::ResetFlags)),
+            Request::MoveCategory { handle, from, to } => {
+                Some((handle, Writing::MoveCategory { from, to }))
+            }
+            _ => None,
         }
     }
 
@@ -163,7 +216,7 @@ fn written_record<'a>(
     bytes: &'a [u8],
 ) -> Result<Edit<'a>, Refusal>
     requires records { holds_resources database.now.head.attributes ≡ false }
-    requires short { length bytes.now ≤ 65500 }
+    requires short { length bytes.now ≤ most_bytes }
     ensures plan { PlansHeld (value.WriteRecord id attributes category bytes.now) database.now
         result }
     ensures possible { IfOk result (IsFor database.now) }
@@ -223,7 +276,7 @@ fn written_resource<'a>(
     bytes: &'a [u8],
 ) -> Result<Edit<'a>, Refusal>
     requires resources { holds_resources database.now.head.attributes ≡ true }
-    requires short { length bytes.now ≤ 65500 }
+    requires short { length bytes.now ≤ most_bytes }
     ensures plan { PlansHeld (value.WriteResource kind.0 id bytes.now) database.now result }
     ensures possible { IfOk result (IsFor database.now) }
     ensures free { IfOk result (λ edit. gives_free edit ≡ false) }

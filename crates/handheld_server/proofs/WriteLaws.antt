@@ -18,18 +18,15 @@ use Rattle.palm_device.specs.declared.edit.Edit.{Edit}
 use Rattle.palm_device.specs.declared.edit.Edit.TheVariants as edit
 use Rattle.palm_device.specs.declared.opened.Opened.{Opened}
 use Rattle.dlp_commands.proofs.ReachedLaws.{base_at-closed, base_at-nowhere, base_at-there, writes_done, writes_locked, writes_none, writes_refused}
-use Rattle.dlp_commands.specs.Commands.{Acts, MayGiveFor}
+use Rattle.dlp_commands.specs.Asked.{MayGiveFor}
 use Rattle.dlp_commands.specs.DeviceSteps.{outcome}
 use Rattle.dlp_commands.specs.Errors.{none_open, read_only, ◌>>=◌, check}
 use Rattle.dlp_commands.specs.Reached.{writes}
 use Rattle.dlp_commands.specs.Writings as value
-use Rattle.dlp_commands.specs.Writings.{WritingValue, asks_free, write_number, write_reply, writing_value, written_in}
-use Rattle.dlp_commands.specs.declared.command.Change.TheVariants as change
-use Rattle.dlp_commands.specs.declared.command.Command.{Command}
-use Rattle.dlp_commands.specs.declared.command.Command.TheVariants as command
-use Rattle.dlp_commands.specs.declared.writing.Writing.{Writing}
+use Rattle.dlp_commands.specs.Writings.{WritingValue, asks_free, write_reply, written_in}
 use Rattle.handheld_files.proofs.SettledLaws.{least_free}
 use Rattle.handheld_store.proofs.IdLaws.{place_among}
+use Rattle.handheld_server.specs.Acts.{ActsAt}
 use Rattle.handheld_server.specs.Writing.{Refuses, Wrote, written_by}
 
 -- ---- some id is free
@@ -73,58 +70,58 @@ may_give_none old handle given other none = tt
 
 -- ---- what is refused
 
-none_acts : (old : Device) (handle : ℕ) (asked : Writing) → base_at old handle ≡ None
-    → Acts old (command.Change (change.Write handle asked)) (reply_text (Refused (write_number (writing_value asked)) none_open)) old
-none_acts old handle asked none = grind (arith, may_give_none, writes_none)
+none_acts : (old : Device) (number handle : ℕ) (asked : WritingValue) → base_at old handle ≡ None
+    → ActsAt old number handle asked (reply_text (Refused number none_open)) old
+none_acts old number handle asked none = grind (arith, may_give_none, writes_none)
 
 -- nothing is open under the handle
-pub closed_acts : (old : Device) (handle : ℕ) (asked : Writing) → opened_at handle old.handles ≡ None
-    → Acts old (command.Change (change.Write handle asked)) (reply_text (Refused (write_number (writing_value asked)) none_open)) old
-closed_acts old handle asked none = none_acts old handle asked (base_at-closed old handle none)
+pub closed_acts : (old : Device) (number handle : ℕ) (asked : WritingValue) → opened_at handle old.handles ≡ None
+    → ActsAt old number handle asked (reply_text (Refused number none_open)) old
+closed_acts old number handle asked none = none_acts old number handle asked (base_at-closed old handle none)
 
-refused_by : (old : Device) (handle free code : ℕ) (asked : WritingValue) (base : Base) (b : Bool)
+refused_by : (old : Device) (number handle free code : ℕ) (asked : WritingValue) (base : Base) (b : Bool)
     → base_at old handle ≡ Some base → is_writable base ≡ b → (check read_only b >>= λ allowed. written_in free asked base.database) ≡ Err code
-    → outcome old (write_number asked) (writes free old handle asked) ≡ (reply_text (Refused (write_number asked) code), old)
-refused_by old handle free code asked base true some allowed refused = grind (arith, writes_refused)
-refused_by old handle free code asked base false some locked refused = grind (arith, writes_locked)
+    → outcome old number (writes free old handle asked) ≡ (reply_text (Refused number code), old)
+refused_by old number handle free code asked base true some allowed refused = grind (arith, writes_refused)
+refused_by old number handle free code asked base false some locked refused = grind (arith, writes_locked)
 
-refused_led : (old : Device) (handle code : ℕ) (asked : Writing) (opened : Opened) (o : Option DatabaseValue)
-    → opened_at handle old.handles ≡ Some opened → database_of opened.name old.databases ≡ o → Refuses opened.mode (writing_value asked) o code
-    → Acts old (command.Change (change.Write handle asked)) (reply_text (Refused (write_number (writing_value asked)) code)) old
-refused_led old handle code asked opened None is found refuses =
-    let refused : written_by 0 opened.mode (writing_value asked) None ≡ Err code = refuses.refused 0 in
+refused_led : (old : Device) (number handle code : ℕ) (asked : WritingValue) (opened : Opened) (o : Option DatabaseValue)
+    → opened_at handle old.handles ≡ Some opened → database_of opened.name old.databases ≡ o → Refuses opened.mode asked o code
+    → ActsAt old number handle asked (reply_text (Refused number code)) old
+refused_led old number handle code asked opened None is found refuses =
+    let refused : written_by 0 opened.mode asked None ≡ Err code = refuses.refused 0 in
     let same : none_open ≡ code = cc in
-    rw (← same) (none_acts old handle asked (base_at-nowhere old handle opened is found))
-refused_led old handle code asked opened (Some database) is found refuses =
+    rw (← same) (none_acts old number handle asked (base_at-nowhere old handle opened is found))
+refused_led old number handle code asked opened (Some database) is found refuses =
     let free : ℕ = least_id (map (λ (item : Record). item.id) database.records) in
     let base : Base = record { opened = opened; database = database } in
     let there = base_at-there old handle opened database is found in
     record {
       free = free;
-      may = may_give old handle free (writing_value asked) base there (λ asks. some_free database.records refuses.few);
-      is = refused_by old handle free code (writing_value asked) base (is_writable base) there refl (refuses.refused free);
+      may = may_give old handle free asked base there (λ asks. some_free database.records refuses.few);
+      is = refused_by old number handle free code asked base (is_writable base) there refl (refuses.refused free);
     }
 
 -- the table's refusal, where some id is free
-pub refused_acts : (old : Device) (handle code : ℕ) (asked : Writing) (opened : Opened)
-    → opened_at handle old.handles ≡ Some opened → Refuses opened.mode (writing_value asked) (database_of opened.name old.databases) code
-    → Acts old (command.Change (change.Write handle asked)) (reply_text (Refused (write_number (writing_value asked)) code)) old
-refused_acts old handle code asked opened is refuses = refused_led old handle code asked opened (database_of opened.name old.databases) is refl refuses
+pub refused_acts : (old : Device) (number handle code : ℕ) (asked : WritingValue) (opened : Opened)
+    → opened_at handle old.handles ≡ Some opened → Refuses opened.mode asked (database_of opened.name old.databases) code
+    → ActsAt old number handle asked (reply_text (Refused number code)) old
+refused_acts old number handle code asked opened is refuses =
+    refused_led old number handle code asked opened (database_of opened.name old.databases) is refl refuses
 
 -- ---- what is written
 
-pub wrote_acts : (old : Device) (handle given : ℕ) (asked : Writing) (opened : Opened) (databases : List DatabaseValue)
-    → opened_at handle old.handles ≡ Some opened → Wrote opened.mode (writing_value asked) opened.name old.databases given databases
-    → Acts old (command.Change (change.Write handle asked)) (reply_text (write_reply given (writing_value asked))) (record old { databases = databases })
-wrote_acts old handle given asked opened databases is wrote =
+pub wrote_acts : (old : Device) (number handle given : ℕ) (asked : WritingValue) (opened : Opened) (databases : List DatabaseValue)
+    → opened_at handle old.handles ≡ Some opened → Wrote opened.mode asked opened.name old.databases given databases
+    → ActsAt old number handle asked (reply_text (write_reply given asked)) (record old { databases = databases })
+wrote_acts old number handle given asked opened databases is wrote =
     let base : Base = record { opened = opened; database = wrote.database } in
     let there = base_at-there old handle opened wrote.database is wrote.there in
     record {
       free = given;
-      may = may_give old handle given (writing_value asked) base there wrote.free;
-      is = writes_done old (write_number (writing_value asked)) handle given
-          (writing_value asked) base wrote.changed (write_reply given (writing_value asked)) there wrote.allowed wrote.written
-          ∙ ap (λ ds. (reply_text (write_reply given (writing_value asked)), record old { databases = ds })) (sym wrote.is);
+      may = may_give old handle given asked base there wrote.free;
+      is = writes_done old number handle given asked base wrote.changed (write_reply given asked) there wrote.allowed wrote.written
+          ∙ ap (λ ds. (reply_text (write_reply given asked), record old { databases = ds })) (sym wrote.is);
     }
 
 -- ---- an edit
@@ -143,8 +140,9 @@ device_is : (databases databases' : List DatabaseValue) (user user' : UserInfo) 
     → databases ≡ databases' → user ≡ user' → handles ≡ handles' → device_in databases user handles ≡ device_in databases' user' handles'
 device_is databases databases' user user' handles handles' same_databases same_user same_handles = grind arith
 
-pub acts_as : (old : Device)
-    (asked : Command) (reply text : List ℕ) (databases databases' : List DatabaseValue) (user : UserInfo) (handles : List (Option Opened))
-    → Acts old asked text (record old { databases = databases }) → reply ≡ text → databases ≡ databases' → old.user ≡ user → old.handles ≡ handles
-    → Acts old asked reply (record { databases = databases'; user = user; handles = handles })
-acts_as old asked reply text databases databases' user handles acts same_reply same_databases same_user same_handles = grind (arith, device_is)
+pub acts_as : (old : Device) (number handle : ℕ) (asked : WritingValue) (reply text : List ℕ) (databases databases' : List DatabaseValue)
+    (user : UserInfo) (handles : List (Option Opened)) → ActsAt old number handle asked text (record old { databases = databases })
+    → reply ≡ text → databases ≡ databases' → old.user ≡ user → old.handles ≡ handles
+    → ActsAt old number handle asked reply (record { databases = databases'; user = user; handles = handles })
+acts_as old number handle asked reply text databases databases' user handles acts same_reply same_databases same_user same_handles =
+    grind (arith, device_is)

@@ -9,6 +9,8 @@ use Rattle.pdb_values.specs.NamedDatabases.{database_of}
 use Rattle.folder_files.specs.InfoFiles.{device_text}
 use Rattle.folder_files.specs.FileNames.{device_info_file}
 use Rattle.handheld_files.specs.Openings.{Stands}
+use Rattle.dlp_requests.specs.Forms as form
+use Rattle.dlp_requests.specs.Forms.{number_of}
 use Rattle.dlp_replies.specs.Frames.{reply_text}
 use Rattle.dlp_replies.specs.ReplyValues as reply
 use Rattle.dlp_commands.specs.DeviceSteps.{first_byte}
@@ -58,7 +60,11 @@ abbrev pub Touches : {F : Type 0} → (F → Option FileMap) → Bool → StoreV
 Touches contents written old new =
     MatchBool written (TouchesUser contents old new) (TouchesOne contents old new)
 
--- a request is WriteUserInfo, and its reply says that it was done
+-- a function is WriteUserInfo, by its byte, and its reply says that it was done
+abbrev pub wrote_by : ℕ → List ℕ → Bool
+wrote_by number answer =
+    (number == number_of form.WriteUserInfo) && bytes_eq answer (reply_text reply.WriteUserInfo)
+
+-- the same of a request
 abbrev pub wrote_user : List ℕ → List ℕ → Bool
-wrote_user request answer =
-    (first_byte request == 0x11) && bytes_eq answer (reply_text reply.WriteUserInfo)
+wrote_user request answer = wrote_by (first_byte request) answer

@@ -1,3 +1,4 @@
+pub mod Acts
 pub mod Faults
 pub mod Keeping
 pub mod Next

@@ -8,7 +8,7 @@ abbrev pub place_in : Result (ℕ × ReplyValue) ℕ → Option ℕ
 place_in (Ok found) = Some found.0
 place_in (Err code) = None
 
--- the reply of ReadNextModifiedRec
-abbrev pub next_text : Result (ℕ × ReplyValue) ℕ → List ℕ
-next_text (Ok found) = reply_text found.1
-next_text (Err code) = reply_text (Refused 0x1F code)
+-- its reply, under the byte of its function
+abbrev pub next_text : ℕ → Result (ℕ × ReplyValue) ℕ → List ℕ
+next_text number (Ok found) = reply_text found.1
+next_text number (Err code) = reply_text (Refused number code)

@@ -1,11 +1,7 @@
 -- What contracts see of a server.
-use Rattle.std.specs.Prelude.{Bool, true, false, List, Option, is_ok}
+use Rattle.std.specs.Prelude.{Bool, List, Option}
 use Rattle.palm_device.specs.Devices.{Device}
 use Rattle.palm_device.specs.declared.opened.Opened.{Opened}
-use Rattle.dlp_commands.specs.Commands.{marks_tried}
-use Rattle.dlp_commands.specs.declared.command.Change.TheVariants as change
-use Rattle.dlp_commands.specs.declared.command.Command.{Command}
-use Rattle.dlp_commands.specs.declared.command.Command.TheVariants as command
 use Rattle.handheld_store.specs.Stores.{StoreValue}
 
 -- a server is the folder that it keeps, the device that the folder stands for, and whether it is
@@ -31,13 +27,3 @@ device_of store handles = record {
   user = store.user;
   handles = handles;
 }
-
--- a command that changes no database and not the user
-abbrev pub is_quiet : Command → Bool
-is_quiet (command.Quiet asked) = true
-is_quiet (command.Change asked) = false
-
--- a WriteUserInfo that is accepted
-abbrev pub writes_user : Device → Command → Bool
-writes_user device (command.Change (change.WriteUser marks)) = is_ok (marks_tried device marks)
-writes_user device other = false

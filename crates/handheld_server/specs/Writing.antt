@@ -1,5 +1,6 @@
 -- What a command writes into the database of a name.
 use Rattle.std.specs.Prelude.{◌≡◌, ◌≤◌, ℕ, Bool, true, List, length, IfSome, Option, Some, Result, Ok, Err, ◌&&◌, not}
+use Rattle.pdb_values.specs.Bounds.{most_entries}
 use Rattle.pdb_values.specs.Databases.{DatabaseValue}
 use Rattle.pdb_values.specs.NamedDatabases.{database_of, replaced}
 use Rattle.dlp_replies.specs.ReplyValues.{ReplyValue}
@@ -35,7 +36,7 @@ pub record Wrote (mode : ℕ) (asked : WritingValue) (name : List ℕ) (old : Li
 pub record Refuses (mode : ℕ) (asked : WritingValue) (found : Option DatabaseValue)
     (code : ℕ) : Type 0 where
   pub refused : (free : ℕ) → written_by free mode asked found ≡ Err code
-  pub few : IfSome found (λ database. length database.records ≤ 65535)
+  pub few : IfSome found (λ database. length database.records ≤ most_entries)
 
 -- it was written, or the refusal is the table's and nothing changed
 abbrev pub Writes : ℕ → WritingValue → List ℕ → List DatabaseValue → Result ℕ Refusal

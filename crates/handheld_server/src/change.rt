@@ -1,20 +1,21 @@
 // What may change a database or the user.
-ghost use Rattle.std.specs.Prelude.{◌≡◌, IfOk, OnErr, OnOk, is_ok, true};
+ghost use Rattle.std.specs.Prelude.{◌≡◌, IfOk, OnErr, OnOk, true};
+ghost use Rattle.dlp_requests.specs.Forms as form;
+ghost use Rattle.dlp_requests.specs.Forms.{number_of};
 ghost use Rattle.dlp_replies.specs.ReplyValues as reply;
 ghost use Rattle.dlp_commands.specs.Answers.{Does};
-ghost use Rattle.dlp_commands.specs.Commands.{Acts, IsShortChange, marks_tried};
 ghost use Rattle.dlp_commands.specs.DatabaseFunctions as databases;
 ghost use Rattle.dlp_commands.specs.DeviceSteps.{outcome};
 ghost use Rattle.dlp_commands.specs.Writings.{IsShortWriting, writing_value};
-ghost use Rattle.handheld_server.specs.Keeping.{Keeps, Touches, TouchesOne};
-ghost use Rattle.handheld_server.specs.Servers.{store_of, writes_user};
+ghost use Rattle.handheld_server.specs.Acts.{ActsAt, marks_tried};
+ghost use Rattle.handheld_server.specs.Keeping.{Keeps, Touches, TouchesOne, wrote_by};
+ghost use Rattle.handheld_server.specs.Servers.{store_of};
 
 use crate::fault::ServeFault;
 use crate::server::Server;
 use crate::written::write_named;
 use dlp_commands::{
-    Change, Command, Message, Refusal, Reply, UserMarks, Writing, marked, named, put_refusal,
-    write_reply,
+    Message, Refusal, Reply, UserMarks, Writing, marked, named, put_refusal, write_reply,
 };
 use handheld_store::StoreFault;
 use hs_folders::Folder;
@@ -22,50 +23,28 @@ use palm_device::{Opened, new_head};
 use pdb_values::FourCc;
 
 impl<F: Folder> Server<F> {
-    // What such a command does.
-    pub(crate) fn change(&mut self, asked: &Change<'_>, out: &mut Message) -> Result<(), ServeFault>
-        requires sound { self.old.sound ≡ true }
-        requires short { IsShortChange asked.now }
-        ensures acts { OnOk result (
-            Acts self.old.device (Command.Change asked.now) out.new self.new.device) }
-        ensures handles { OnErr result (self.new.device.handles ≡ self.old.device.handles) }
-        ensures keeps { Keeps F.contents F.moments F.paths F.faults
-            (store_of self.old) (store_of self.new) result }
-        ensures files { OnOk result (Touches F.contents
-            (writes_user self.old.device (Command.Change asked.now))
-            (store_of self.old) (store_of self.new)) }
-    {
-        match *asked {
-            Change::WriteUser { marks } => self.write_user(&marks, out),
-            Change::Create {
-                creator,
-                kind,
-                card,
-                flags,
-                version,
-                name,
-            } => self.create(creator, kind, card, flags, version, name, out),
-            Change::Delete { card, name } => self.delete(card, name, out),
-            Change::Write { handle, writing } => self.write(handle, &writing, out),
-        }
-    }
-
+    // Sets what is said of the user.
     #[tactic(auto, unfolding(dlp_commands::specs::UserFunctions::write_user_info))]
-    fn write_user(&mut self, marks: &UserMarks<'_>, out: &mut Message) -> Result<(), ServeFault>
-        requires { self.old.sound ≡ true }
-        ensures done { OnOk result (outcome self.old.device 0x11
+    pub(crate) fn write_user(
+        &mut self,
+        number: u8,
+        marks: &UserMarks<'_>,
+        out: &mut Message,
+    ) -> Result<(), ServeFault>
+        requires sound { self.old.sound ≡ true }
+        requires number { number ≡ number_of form.WriteUserInfo }
+        ensures done { OnOk result (outcome self.old.device number
             (marks_tried self.old.device marks.now) ≡ (out.new, self.new.device)) }
         ensures handles { OnErr result (self.new.device.handles ≡ self.old.device.handles) }
         ensures keeps { Keeps F.contents F.moments F.paths F.faults
             (store_of self.old) (store_of self.new) result }
-        ensures files { OnOk result (Touches F.contents
-            (is_ok (marks_tried self.old.device marks.now)) (store_of self.old)
-            (store_of self.new)) }
+        ensures files { OnOk result (Touches F.contents (wrote_by number out.new)
+            (store_of self.old) (store_of self.new)) }
     {
         let user = match marked(self.store.user(), marks) {
             Ok(user) => user,
             Err(refusal) => {
-                put_refusal(out, 0x11, refusal);
+                put_refusal(out, number, refusal);
                 return Ok(());
             }
         };
@@ -78,8 +57,10 @@ impl<F: Folder> Server<F> {
         }
     }
 
-    fn create(
+    // Makes a database, opens it, and replies its handle or the error.
+    pub(crate) fn create(
         &mut self,
+        number: u8,
         creator: FourCc,
         kind: FourCc,
         card: u8,
@@ -89,7 +70,7 @@ impl<F: Folder> Server<F> {
         out: &mut Message,
     ) -> Result<(), ServeFault>
         requires { self.old.sound ≡ true }
-        ensures done { OnOk result (outcome self.old.device 0x18 (databases.create_db
+        ensures done { OnOk result (outcome self.old.device number (databases.create_db
             self.old.device creator.0 kind.0 card flags version name.now)
             ≡ (out.new, self.new.device)) }
         ensures handles { OnErr result (self.new.device.handles ≡ self.old.device.handles) }
@@ -104,7 +85,7 @@ impl<F: Folder> Server<F> {
                 Ok(())
             }
             Ok(Err(refusal)) => {
-                put_refusal(out, 0x18, refusal);
+                put_refusal(out, number, refusal);
                 Ok(())
             }
             Err(fault) => Err(fault),
@@ -123,7 +104,7 @@ impl<F: Folder> Server<F> {
         name: &[u8],
     ) -> Result<Result<u8, Refusal>, ServeFault>
         requires { self.old.sound ≡ true }
-        ensures done { IfOk result (λ answer. Does 0x18 reply.CreateDb self.old.device
+        ensures done { IfOk result (λ answer. Does reply.CreateDb self.old.device
             self.new.device answer (databases.create_db
             self.old.device creator.0 kind.0 card flags version name.now)) }
         ensures handles { OnErr result (self.new.device.handles ≡ self.old.device.handles) }
@@ -160,9 +141,16 @@ impl<F: Folder> Server<F> {
         }
     }
 
-    fn delete(&mut self, card: u8, name: &[u8], out: &mut Message) -> Result<(), ServeFault>
+    // Takes a database away, and replies that, or the error.
+    pub(crate) fn delete(
+        &mut self,
+        number: u8,
+        card: u8,
+        name: &[u8],
+        out: &mut Message,
+    ) -> Result<(), ServeFault>
         requires { self.old.sound ≡ true }
-        ensures done { OnOk result (outcome self.old.device 0x1A
+        ensures done { OnOk result (outcome self.old.device number
             (databases.delete_db self.old.device card name.now) ≡ (out.new, self.new.device)) }
         ensures handles { OnErr result (self.new.device.handles ≡ self.old.device.handles) }
         ensures keeps { Keeps F.contents F.moments F.paths F.faults
@@ -176,7 +164,7 @@ impl<F: Folder> Server<F> {
                 Ok(())
             }
             Ok(Err(refusal)) => {
-                put_refusal(out, 0x1A, refusal);
+                put_refusal(out, number, refusal);
                 Ok(())
             }
             Err(fault) => Err(fault),
@@ -187,7 +175,7 @@ impl<F: Folder> Server<F> {
     #[tactic(auto, unfolding(dlp_commands::specs::DatabaseFunctions::delete_db))]
     fn deleted(&mut self, card: u8, name: &[u8]) -> Result<Result<(), Refusal>, ServeFault>
         requires { self.old.sound ≡ true }
-        ensures done { IfOk result (λ answer. Does 0x1A (λ _. reply.DeleteDb) self.old.device
+        ensures done { IfOk result (λ answer. Does (λ _. reply.DeleteDb) self.old.device
             self.new.device answer (databases.delete_db self.old.device card name.now)) }
         ensures handles { OnErr result (self.new.device.handles ≡ self.old.device.handles) }
         ensures keeps { Keeps F.contents F.moments F.paths F.faults
@@ -213,23 +201,23 @@ impl<F: Folder> Server<F> {
 
     // What a function writes into the database of a handle.
     #[tactic(auto, using(crate::proofs::WriteLaws::closed_acts))]
-    fn write(
+    pub(crate) fn write(
         &mut self,
+        number: u8,
         handle: u8,
         writing: &Writing<'_>,
         out: &mut Message,
     ) -> Result<(), ServeFault>
         requires sound { self.old.sound ≡ true }
         requires short { IsShortWriting (writing_value writing.now) }
-        ensures acts { OnOk result (Acts self.old.device
-            (Command.Change (Change.Write handle writing.now)) out.new self.new.device) }
+        ensures acts { OnOk result (ActsAt self.old.device number handle
+            (writing_value writing.now) out.new self.new.device) }
         ensures handles { OnErr result (self.new.device.handles ≡ self.old.device.handles) }
         ensures keeps { Keeps F.contents F.moments F.paths F.faults
             (store_of self.old) (store_of self.new) result }
         ensures files { OnOk result (TouchesOne F.contents (store_of self.old)
             (store_of self.new)) }
     {
-        let number = writing.number();
         let Some(opened) = self.handles.opened_at(handle) else {
             put_refusal(out, number, Refusal::NoneOpen);
             return Ok(());

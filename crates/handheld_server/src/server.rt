@@ -1,16 +1,17 @@
 // The server.
 ghost use Rattle.std.specs.Prelude.{◌≡◌, OnErr, OnOk, IsErrOf, false, true};
 ghost use Rattle.hs_folders.specs.Moments.{OneChange};
+ghost use Rattle.dlp_requests.specs.Views.{request_value};
 ghost use Rattle.palm_device.specs.Handles.{no_handles};
 ghost use Rattle.handheld_files.specs.Openings.{Stands};
-ghost use Rattle.dlp_commands.specs.Changes.{changes};
-ghost use Rattle.dlp_commands.specs.Commands.{Acts, IsShortCommand};
-ghost use Rattle.dlp_commands.specs.DeviceSteps.{DeviceStep};
-ghost use Rattle.handheld_server.specs.Keeping.{Keeps, Touches, wrote_user};
-ghost use Rattle.handheld_server.specs.Servers.{is_quiet, store_of, writes_user};
+ghost use Rattle.dlp_commands.specs.Changes.{changes, is_change};
+ghost use Rattle.dlp_commands.specs.DeviceSteps.{DeviceStep, RequestFits, function_number};
+ghost use Rattle.handheld_server.specs.Acts.{Acts};
+ghost use Rattle.handheld_server.specs.Keeping.{Keeps, Touches, wrote_by, wrote_user};
+ghost use Rattle.handheld_server.specs.Servers.{device_of, store_of};
 
 use crate::fault::ServeFault;
-use dlp_commands::{Command, Message, put_fault, read_request};
+use dlp_commands::{Message, Request, UserMarks, Writing, first_byte, put_fault, read_request};
 use handheld_store::Store;
 use hs_folders::Folder;
 use palm_device::Handles;
@@ -52,6 +53,18 @@ impl<F: Folder> Server<F> {
         }
     }
 
+    /// The server over a store, with these handles open. Where the store has no database of the name that is open under one,
+    /// the device answers as if that handle were closed.
+    pub fn with_handles(store: Store<F>, handles: Handles) -> Server<F>
+        ensures { result ≡ record {
+          folder = store.folder;
+          device = device_of store handles;
+          sound = store.sound;
+        } }
+    {
+        Server { store, handles }
+    }
+
     /// Whether the folder stands for the device: no request met the folder's failure or want of memory
     /// while a file was to be changed.
     pub fn is_sound(&self) -> bool
@@ -66,6 +79,15 @@ impl<F: Folder> Server<F> {
     {
         let Server { store, handles: _ } = self;
         store.into_folder()
+    }
+
+    /// Hands the folder back, and the handles that are open.
+    pub fn into_parts(self) -> (F, Handles)
+        ensures folder { result.0 ≡ self.folder }
+        ensures handles { result.1 ≡ self.device.handles }
+    {
+        let Server { store, handles } = self;
+        (store.into_folder(), handles)
     }
 
     /// Does what the bytes of a request ask, and replaces the reply. What changes is kept in the folder
@@ -95,7 +117,7 @@ impl<F: Folder> Server<F> {
         ensures quiet { changes request.now ≡ false → self.new.folder ≡ self.old.folder }
     {
         match read_request(request) {
-            Ok(asked) => self.act(&Command::of(asked), reply),
+            Ok(asked) => self.act(first_byte(request), &asked, reply),
             Err(fault) => {
                 put_fault(reply, request, fault);
                 Ok(())
@@ -103,25 +125,57 @@ impl<F: Folder> Server<F> {
         }
     }
 
-    // Does a command.
-    #[tactic(auto, using(crate::proofs::KeepLaws::keeps_same, crate::proofs::KeepLaws::keeps_done, crate::proofs::KeepLaws::touches_none))]
-    fn act(&mut self, command: &Command<'_>, out: &mut Message) -> Result<(), ServeFault>
+    // Does what a request asks; the number is the byte of its function.
+    fn act(&mut self, number: u8, asked: &Request<'_>, out: &mut Message) -> Result<(), ServeFault>
         requires sound { self.old.sound ≡ true }
-        requires short { IsShortCommand command.now }
-        ensures acts { OnOk result (Acts self.old.device command.now out.new self.new.device) }
+        requires number { number ≡ function_number (request_value asked.now) }
+        requires fits { RequestFits (request_value asked.now) }
+        ensures acts { OnOk result (Acts self.old.device number (request_value asked.now) out.new
+            self.new.device) }
         ensures handles { OnErr result (self.new.device.handles ≡ self.old.device.handles) }
         ensures keeps { Keeps F.contents F.moments F.paths F.faults
             (store_of self.old) (store_of self.new) result }
-        ensures files { OnOk result (Touches F.contents (writes_user self.old.device command.now)
+        ensures files { OnOk result (Touches F.contents (wrote_by number out.new)
             (store_of self.old) (store_of self.new)) }
-        ensures quiet { is_quiet command.now ≡ true → self.new.folder ≡ self.old.folder }
+        ensures quiet { is_change number ≡ false → self.new.folder ≡ self.old.folder }
     {
-        match command {
-            Command::Quiet(asked) => match self.quiet(asked, out) {
+        if let Some((handle, writing)) = Writing::of(asked) {
+            return self.write(number, handle, &writing, out);
+        }
+        match *asked {
+            Request::WriteUserInfo {
+                user,
+                viewer,
+                pc,
+                date,
+                bits,
+                name_len,
+                name,
+            } => {
+                let marks = UserMarks {
+                    user,
+                    viewer,
+                    pc,
+                    date,
+                    bits,
+                    name_len,
+                    name,
+                };
+                self.write_user(number, &marks, out)
+            }
+            Request::CreateDb {
+                creator,
+                kind,
+                card,
+                flags,
+                version,
+                name,
+            } => self.create(number, creator, kind, card, flags, version, name, out),
+            Request::DeleteDb { card, name } => self.delete(number, card, name, out),
+            _ => match self.quiet(number, asked, out) {
                 Ok(()) => Ok(()),
                 Err(AllocError) => Err(ServeFault::NoMemory),
             },
-            Command::Change(asked) => self.change(asked, out),
         }
     }
 }
