@@ -63,7 +63,7 @@ wrote-then TooLong told later a b first part = written-then told a b first part
 
 -- ---- packets
 
-talks-then : (a : Hand) (ps : List PacketValue) (said : List OutgoingFragment) (b : Hand) (qs : List PacketValue) (later : List OutgoingFragment) (c : Hand)
+pub talks-then : (a : Hand) (ps : List PacketValue) (said : List OutgoingFragment) (b : Hand) (qs : List PacketValue) (later : List OutgoingFragment) (c : Hand)
     → Talks a ps said b → Talks b qs later c → Talks a (ps ++ qs) (said ++ later) c
 talks-then a [] said b qs later c first next =
     subst (λ (h : Hand). Talks h qs (said ++ later) c) first.1 (subst (λ (s : List OutgoingFragment). Talks b qs (s ++ later) c) (sym first.0) next)

@@ -2,3 +2,4 @@ pub mod TakingLaws
 pub mod HandLaws
 pub mod CourseLaws
 pub mod ListenLaws
+pub mod AlikeLaws

@@ -6,3 +6,5 @@ pub mod Laws
 pub mod Ends
 pub mod Courses
 pub mod Runs
+pub mod Alikeness
+pub mod Parts

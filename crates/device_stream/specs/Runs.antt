@@ -3,6 +3,9 @@ use Rattle.std.specs.Prelude.{◌≡◌, ℕ, Bool, List, ◌++◌, length, Opti
 use Rattle.std.specs.Option.{option_map}
 use Rattle.hs_folders.specs.FileMaps.{FileMap}
 use Rattle.hs_folders.specs.Moments.{Moments}
+use Rattle.hs_folders.specs.declared.folder.Folder.{Ghosts as FolderMembers}
+use Rattle.hs_folders.specs.declared.sink.Sink.{Ghosts as SinkMembers}
+use Rattle.hs_folders.specs.declared.source.Source.{Ghosts as SourceMembers}
 use Rattle.dlp_commands.specs.DeviceRuns.{exchanged}
 use Rattle.handheld_server.specs.Servers.{ServerValue}
 use Rattle.line_world.specs.Folders.{ServedSince}
@@ -80,3 +83,16 @@ KeptFor contents moments paths faults server folder hand =
     × ServedSince contents moments paths faults server
     (record { folder = folder; device = hand.device; sound = sound })
     (exchanged hand.performed hand.replies)
+
+-- What a run leaves that ended so: the packets are the first of what was read, and the report and
+-- the folder are what the talk made of them. The source and the sink are told by their members
+-- before it and after it.
+abbrev pub LeavesRun : {F S T : Type 0} → FolderMembers F → SourceMembers S → SinkMembers T
+    → ServerValue F → S → S → T → T → DeviceEnd → DeviceReport → F → Type 0
+LeavesRun folders sources sinks server source read sink written end report folder =
+    (course : Course)
+    × IsDeviceRun server.device (sources.left source) (sources.left read) (sinks.taken sink)
+    (sinks.taken written) end course
+    × IsReportOf course.hand report
+    × KeptFor folders.contents folders.moments folders.paths folders.faults server folder
+    course.hand

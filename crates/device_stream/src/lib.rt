@@ -22,6 +22,10 @@
 //! let (report, folder) = talk.into_parts();
 //! ```
 //!
+//! Between two packets a talk can be taken apart and kept elsewhere: `into_hand` gives its folder and
+//! plain parts, and `of_parts` makes a talk of these again, over the store that the folder stands for.
+//! It has no text of what was performed before; what it says is the same (`specs/Alikeness.antt`).
+//!
 //! `run_device` reads a source to its end, finds the packets in it, hands them to a talk, and writes
 //! what is said to a sink.
 #![tactic(auto)]
@@ -30,6 +34,7 @@ mod device_end;
 mod greeting;
 mod hearing;
 mod laws;
+mod parts;
 mod performing;
 mod report;
 mod stream;
@@ -37,8 +42,12 @@ mod talk;
 mod talk_end;
 
 pub use device_end::DeviceEnd;
-pub use laws::{a_repeat_does_nothing, a_step_performs_once, a_talk_is_a_run};
-pub use padp_end::MAX_SAID;
+pub use laws::{
+    a_repeat_does_nothing, a_step_performs_once, a_talk_is_a_run, a_talk_made_again_goes_on,
+    alike_hands_talk_alike, alikeness_is_an_equivalence, parts_of_a_talk_are_one,
+};
+pub use padp_end::{EndParts, MAX_SAID, PartsFault, ReceiverParts, SenderParts};
+pub use parts::TalkParts;
 pub use report::DeviceReport;
 pub use stream::run_device;
 pub use talk::Talk;

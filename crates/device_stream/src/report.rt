@@ -1,9 +1,9 @@
 //! What a talk performed.
-ghost use Rattle.std.specs.Prelude.{◌≡◌, ◌++◌, ◌∷◌, [], OnOk};
+ghost use Rattle.std.specs.Prelude.{◌≡◌, ◌++◌, ◌∷◌, [], IfOk, OnOk, replicate};
 ghost use Rattle.line_world.specs.Logs.{texts};
 ghost use Rattle.device_stream.specs.Reports.{HasRoom};
 
-use dlp_commands::MessageText;
+use dlp_commands::{Message, MessageText};
 use std::alloc::{AllocError, Global};
 
 /// What a talk performed: its requests, each once and in order, and the reply to each.
@@ -23,6 +23,24 @@ impl DeviceReport {
             performed: Vec::new(alloc),
             replies: Vec::new(alloc),
         }
+    }
+
+    /// So many requests were performed, of which no text is kept.
+    pub(crate) fn of_number(alloc: Global, number: u8) -> Result<DeviceReport, AllocError>
+        ensures performed { IfOk result (λ report. texts report.performed.items
+            ≡ replicate number []) }
+        ensures replies { IfOk result (λ report. texts report.replies.items
+            ≡ replicate number []) }
+    {
+        let nothing = Message::new(alloc)?;
+        let mut report = DeviceReport::new(alloc);
+        for _ in 0..number {
+            report.make_room()?;
+            let request = MessageText::of(alloc, &nothing)?;
+            let reply = MessageText::of(alloc, &nothing)?;
+            report.keep(request, reply);
+        }
+        Ok(report)
     }
 
     /// Takes the memory for one more request and its reply.

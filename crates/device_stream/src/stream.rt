@@ -3,7 +3,7 @@ ghost use Rattle.std.specs.Prelude.{◌≡◌, ◌≤◌, ◌<◌, ◌↔◌, �
 ghost use Rattle.std.specs.Option.{option_map};
 ghost use Rattle.hs_folders.specs.Causes.{HasCause};
 ghost use Rattle.device_stream.specs.Courses.{IsReady, PerformsAny};
-ghost use Rattle.device_stream.specs.Runs.{Course, IsDeviceRun, IsReportOf, KeptFor, Listens};
+ghost use Rattle.device_stream.specs.Runs.{LeavesRun, Listens};
 
 use crate::device_end::DeviceEnd;
 use crate::hearing::{take_piece, write};
@@ -32,10 +32,8 @@ pub fn run_device<F: Folder, S: Source, T: Sink>(
 ) -> (DeviceEnd, DeviceReport, F)
     requires { server.sound ≡ true }
     // The packets are the first of what was read, the report and the folder are what the talk made of them.
-    ensures run { (course : Course)
-        × IsDeviceRun server.device (S.left source.old) (S.left source.new)
-        (T.taken sink.old) (T.taken sink.new) result.0 course × IsReportOf course.hand result.1
-        × KeptFor F.contents F.moments F.paths F.faults server result.2 course.hand }
+    ensures run { LeavesRun F.Folder S.Source T.Sink server source.old source.new
+        sink.old sink.new result.0 result.1 result.2 }
 
     // Who is to blame.
     ensures keeper { HasCause (F.faults server.folder) (F.faults result.2)

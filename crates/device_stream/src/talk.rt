@@ -1,26 +1,31 @@
 //! A talk.
-ghost use Rattle.std.specs.Prelude.{◌≡◌, ◌↔◌, ◌≤◌, None, true, length, IfErr, IfOk, IsErr, IsErrOf, OnErr, OnOk};
+ghost use Rattle.std.specs.Prelude.{◌≡◌, ◌↔◌, ◌≤◌, None, false, true, length, IfErr, IfOk, IsErr, IsErrOf, OnErr, OnOk};
 ghost use Rattle.arrayvec.specs.ArrayVec.{array_vec_len};
 ghost use Rattle.hs_folders.specs.Causes.{HasCause};
 ghost use Rattle.slp_frames.specs.PacketValues.{lent_value};
 ghost use Rattle.padp_end.specs.Ends.{end_takes, is_spent};
 ghost use Rattle.padp_end.specs.Outgoings.{said_text};
+ghost use Rattle.handheld_server.specs.Servers.{device_of};
 ghost use Rattle.line_world.specs.Logs.{texts};
+ghost use Rattle.device_stream.specs.Alikeness.{Alike};
 ghost use Rattle.device_stream.specs.Hands.{with_delivery, greeted_by, message_of, wake_said, waited_by, with_end, woken};
+ghost use Rattle.device_stream.specs.Parts.{are_talk_parts, hand_of};
 ghost use Rattle.device_stream.specs.Takings.{HasTaken, Performs, PerformsNothing, Serves};
 
 use crate::greeting::{is_farewell, is_init, session_id, wake};
+use crate::parts::{TRANSACTIONS, TalkParts};
 use crate::performing::{perform, reply_to, take_whole};
 use crate::report::DeviceReport;
 use crate::talk_end::TalkEnd;
 use arrayvec::ArrayVec;
 use dlp_commands::Message;
 use handheld_server::{ServeFault, Server};
+use handheld_store::Store;
 use hs_folders::Folder;
 use padp_end::{End, Heard, MAX_SAID};
-use padp_link::TriesSpent;
+use padp_link::{PartsFault, TriesSpent};
 use slp_frames::PacketLent;
-use std::alloc::Global;
+use std::alloc::{AllocError, Global};
 use std::marker::Model;
 
 /// The handheld's end over a server: it is handed packets and says what goes back.
@@ -216,5 +221,61 @@ impl<F: Folder> Talk<F> {
         let number = self.report.performed.len();
         reply_to(&mut self.end, number, &self.reply, out);
         Ok(())
+    }
+}
+
+impl<F: Folder + Drop> Talk<F> {
+    /// A talk over a store, of these parts. Of what was performed its report has no text: it holds so
+    /// many requests and replies of no bytes. `Form` is answered exactly where there is no such talk:
+    /// where the end is none, or the number of requests is a round of transactions or more.
+    pub fn of_parts(alloc: Global, store: Store<F>, parts: TalkParts) -> Result<Talk<F>, PartsFault>
+        ensures made { IfOk result (λ talk. talk ≡ record {
+          folder = store.folder;
+          hand = hand_of (device_of store parts.handles) parts;
+          sound = store.sound;
+        }) }
+        ensures form { IsErrOf result PartsFault.Form ↔ (are_talk_parts parts ≡ false) }
+    {
+        if parts.number >= TRANSACTIONS {
+            return Err(PartsFault::Form);
+        }
+        let end = End::of_parts(alloc, &parts.end)?;
+        Ok(Talk {
+            alloc,
+            server: Server::with_handles(store, parts.handles),
+            end,
+            request: Message::new(alloc)?,
+            reply: Message::new(alloc)?,
+            report: DeviceReport::of_number(alloc, parts.number)?,
+            greeted: parts.greeted,
+            over: parts.over,
+        })
+    }
+
+    /// The folder, and what the talk holds beside it. A talk that is made of these again over the same
+    /// store is alike this one: it says the same to all that comes.
+    pub fn into_hand(self, alloc: Global) -> Result<(F, TalkParts), AllocError>
+        ensures alike { IfOk result (λ apart. Alike self.hand
+            (hand_of self.hand.device apart.1)) }
+        ensures parts { IfOk result (λ apart. are_talk_parts apart.1 ≡ true) }
+        ensures folder { IfOk result (λ apart. apart.0 ≡ self.folder) }
+    {
+        let end = self.end.parts(alloc)?;
+        let number = self.report.performed.len() % usize::from(TRANSACTIONS);
+        let Talk {
+            server,
+            greeted,
+            over,
+            ..
+        } = self;
+        let (folder, handles) = server.into_parts();
+        let parts = TalkParts {
+            end,
+            handles,
+            number: number as u8,
+            greeted,
+            over,
+        };
+        Ok((folder, parts))
     }
 }

@@ -3,3 +3,4 @@ pub mod Outgoings
 pub mod Ends
 pub mod Holding
 pub mod Laws
+pub mod Parts

@@ -1,5 +1,5 @@
 //! An end.
-ghost use Rattle.std.specs.Prelude.{◌≡◌, ◌↔◌, ◌≤◌, ◌++◌, ℕ, List, IfOk, IfSome, IsErr, IsTrue, OnOk, OnErr, true, false, is_some, length};
+ghost use Rattle.std.specs.Prelude.{◌≡◌, ◌↔◌, ◌≤◌, ◌++◌, ℕ, List, IfOk, IfSome, IsErr, IsErrOf, IsTrue, OnOk, OnErr, true, false, is_some, length};
 ghost use Rattle.std.specs.Option.{option_map};
 ghost use Rattle.arrayvec.specs.ArrayVec.{array_vec_len};
 ghost use Rattle.slp_frames.specs.PacketValues.{lent_value};
@@ -12,13 +12,15 @@ ghost use Rattle.padp_link.specs.Senders.{waiting};
 ghost use Rattle.padp_end.specs.Arrivals.{IsDataArrival, arrival_of, arrival_value};
 ghost use Rattle.padp_end.specs.Ends.{ack_taken, data_taken, end_begins, end_expects, end_takes, end_waits, first_end, is_key, is_ready as may_be_taken, is_spent, new_taken};
 ghost use Rattle.padp_end.specs.Outgoings.{pieces_said, said_text};
+ghost use Rattle.padp_end.specs.Parts.{are_end_parts, end_of};
 
 use crate::heard::Heard;
+use crate::parts::EndParts;
 use crate::saying::{MAX_SAID, say_ack, say_piece};
 use crate::waiting::{is_ready, stop_waiting};
 use arrayvec::ArrayVec;
 use dlp_args::Message;
-use padp_link::{Arrived, Fragment, Key, Receiver, Sender, Taken, TriesSpent, arrived};
+use padp_link::{Arrived, Fragment, Key, PartsFault, Receiver, Sender, Taken, TriesSpent, arrived};
 use slp_frames::PacketLent;
 use std::alloc::{AllocError, Global};
 use std::marker::Model;
@@ -59,6 +61,41 @@ impl End {
             last: None,
             sender: Sender::new(),
             message: Message::new(alloc)?,
+        })
+    }
+
+    /// What it holds.
+    pub fn parts(&self, alloc: Global) -> Result<EndParts, AllocError>
+        ensures end { IfOk result (λ parts. end_of parts ≡ self.now) }
+        ensures parts { IfOk result (λ parts. are_end_parts parts ≡ true) }
+    {
+        Ok(EndParts {
+            receiver: self.receiver.parts(alloc)?,
+            sender: self.sender.parts(),
+            message: Vec::from_slice(alloc, self.message.bytes())?,
+        })
+    }
+
+    /// The end of these parts. `Form` is answered exactly where there is none: where a half is none, or where the message has
+    /// not the length that the sender has.
+    pub fn of_parts(alloc: Global, parts: &EndParts) -> Result<End, PartsFault>
+        ensures made { IfOk result (λ end. end ≡ end_of parts.now) }
+        ensures form { IsErrOf result PartsFault.Form ↔ (are_end_parts parts.now ≡ false) }
+    {
+        let Some(sender) = Sender::of_parts(parts.sender) else {
+            return Err(PartsFault::Form);
+        };
+        if parts.message.len() != usize::from(parts.sender.length) {
+            return Err(PartsFault::Form);
+        }
+        let receiver = Receiver::of_parts(alloc, &parts.receiver)?;
+        let mut message = Message::new(alloc)?;
+        let _fits = message.push(&parts.message);
+        Ok(End {
+            receiver,
+            last: parts.receiver.last,
+            sender,
+            message,
         })
     }
 

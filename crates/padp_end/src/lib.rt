@@ -8,12 +8,16 @@
 //! `wait` for the piece that has to go once more. What an end says to a packet is `end_takes` of
 //! `specs/Ends.antt`.
 //!
-//! Only `End::new` takes memory.
+//! What an end holds can be kept elsewhere, as plain parts: `parts` tells them, and `of_parts` makes the same end of them
+//! (`specs/Parts.antt`).
+//!
+//! Only `End::new` and these two take memory.
 #![tactic(auto)]
 
 mod end;
 mod heard;
 mod laws;
+mod parts;
 mod saying;
 mod waiting;
 
@@ -21,5 +25,8 @@ pub use end::End;
 pub use heard::Heard;
 pub use laws::{
     a_message_is_whole, a_packet_is_answered_by_one_at_most, a_repeat_is_acknowledged_and_no_more,
+    parts_of_an_end_are_one,
 };
+pub use padp_link::{PartsFault, ReceiverParts, SenderParts};
+pub use parts::EndParts;
 pub use saying::MAX_SAID;

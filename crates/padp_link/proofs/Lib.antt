@@ -5,3 +5,4 @@ pub mod SenderLaws
 pub mod NeighbourLaws
 pub mod ReceiverLaws
 pub mod WaitingLaws
+pub mod PartLaws

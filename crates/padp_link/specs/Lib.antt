@@ -8,3 +8,4 @@ pub mod Neighbours
 pub mod Senders
 pub mod Receivers
 pub mod Collecting
+pub mod Parts

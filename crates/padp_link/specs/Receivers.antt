@@ -8,7 +8,7 @@ use Rattle.padp_link.specs.declared.piece.Key.{Key}
 use Rattle.padp_link.specs.declared.receiver.Taken.{Taken}
 use Rattle.padp_link.specs.declared.receiver.Taken.TheVariants.{Accepted, Whole, Repeated, Dropped}
 use Rattle.padp_link.specs.FragmentText.{FragmentValue, has_flag}
-use Rattle.padp_link.specs.Pieces.{key_of}
+use Rattle.padp_link.specs.Pieces.{fragments, key_of, piece_count, piece_of}
 
 -- the transaction whose message it waits for, the pieces of it that it took, and the key of the
 -- last piece that it ever took
@@ -99,3 +99,18 @@ AnswersAll receiver id (fragment ∷ fragments) (answer ∷ answers) end =
 -- the answers to so many pieces of a message: the last one makes it whole
 abbrev pub answers_to_all : ℕ → List Taken
 answers_to_all count = replicate (count - 1) Accepted ++ Whole ∷ []
+
+-- where the receiver gave these answers to all pieces of a message and ended so, it took each,
+-- has them, and has the message
+abbrev pub GetsMessage : ReceiverValue → ℕ → List ℕ → List Taken → ReceiverValue → Type 0
+GetsMessage receiver id message answers end =
+    AnswersAll receiver id (fragments id message) answers end
+    → (answers ≡ answers_to_all (piece_count (length message)))
+    × (end.pieces ≡ fragments id message) × (whole_of end.pieces ≡ Some message)
+
+-- this follows where the receiver awaits the message and took no piece of it, nor one with the key
+-- of its first piece before
+abbrev pub WhereAwaited : ReceiverValue → ℕ → List ℕ → Type 0 → Type 0
+WhereAwaited receiver id message Fact =
+    receiver.awaited ≡ Some id → receiver.pieces ≡ []
+    → ¬ (receiver.last ≡ Some ((piece_of id (length message) 0).key)) → Fact

@@ -4,8 +4,8 @@ ghost use Rattle.std.specs.Prelude.{◌≡◌, ◌+◌, ◌<◌, ◌≤◌, List
 ghost use Rattle.padp_link.specs.FragmentText.{FragmentValue, FragmentText, IsFragment};
 ghost use Rattle.padp_link.specs.Neighbours.{Outgoing, Neighbours, HaveDifferentIds, HaveDifferentKeys, all_pieces, session_from};
 ghost use Rattle.std.specs.List.{AllByRecursion};
-ghost use Rattle.padp_link.specs.Pieces.{fragment_of, fragments, piece_of, piece_count};
-ghost use Rattle.padp_link.specs.Receivers.{ReceiverValue, AnswersAll, answers_to_all, whole_of};
+ghost use Rattle.padp_link.specs.Pieces.{fragment_of, fragments, piece_of};
+ghost use Rattle.padp_link.specs.Receivers.{ReceiverValue, GetsMessage, WhereAwaited};
 ghost use Rattle.padp_link.specs.Senders.{SenderValue, waiting};
 ghost use Rattle.padp_link.specs.declared.fragment.PadpKind.TheVariants.{Ack, Data};
 ghost use Rattle.padp_link.specs.declared.piece.Piece.{Piece};
@@ -38,19 +38,18 @@ pub fn pieces_are_fragments()
 
 /// A receiver that waits for a message takes its pieces, one after the other, and then has the message.
 pub fn pieces_give_the_message()
-    ensures { (id : ℕ) (message : List ℕ) (receiver end : ReceiverValue) (answers : List Taken) →
-        receiver.awaited ≡ Some id → receiver.pieces ≡ []
-        → ¬ (receiver.last ≡ Some ((piece_of id (length message) 0).key)) →
-        AnswersAll receiver id (fragments id message) answers end →
-        (answers ≡ answers_to_all (piece_count (length message)))
-        × (end.pieces ≡ fragments id message) × (whole_of end.pieces ≡ Some message) }
+    ensures { (id : ℕ) (message : List ℕ) (receiver end : ReceiverValue) (answers : List Taken)
+        → WhereAwaited receiver id message (GetsMessage receiver id message answers end) }
 {}
 
 /// The piece of a message that waits ends inside the message, and its fragment is one of the protocol.
 pub fn waiting_piece_is_a_fragment()
-    ensures { (sender : SenderValue) (message : List ℕ) (piece : Piece)
-        → length message ≡ sender.length → waiting sender ≡ Some piece →
-        (piece.place + piece.length ≤ sender.length) × IsFragment (fragment_of message piece) }
+    ensures inside { (sender : SenderValue) (message : List ℕ) (piece : Piece)
+        → length message ≡ sender.length → waiting sender ≡ Some piece
+        → piece.place + piece.length ≤ sender.length }
+    ensures fragment { (sender : SenderValue) (message : List ℕ) (piece : Piece)
+        → length message ≡ sender.length → waiting sender ≡ Some piece
+        → IsFragment (fragment_of message piece) }
 {}
 
 /// The acknowledgement of a data fragment bears its flags and its size, and is a fragment of the protocol.

@@ -21,13 +21,17 @@
 //! match receiver.whole() {
 //! ```
 //!
-//! Only `Receiver::new` takes memory.
+//! What a receiver and a sender hold can be kept elsewhere, as plain parts: `parts` tells them, and `of_parts` makes the same
+//! receiver or sender of them (`specs/Parts.antt`).
+//!
+//! Only a `Receiver` takes memory, where it is made or told in parts.
 #![tactic(auto)]
 
 mod arrival;
 mod fragment;
 mod judge;
 mod laws;
+mod parts;
 mod piece;
 mod receiver;
 mod sender;
@@ -43,6 +47,7 @@ pub use laws::{
     pieces_are_fragments, pieces_by_number_have_different_keys, pieces_give_the_message,
     text_determines_fragment, waiting_piece_is_a_fragment,
 };
+pub use parts::{PartsFault, ReceiverParts, SenderParts};
 pub use piece::{Key, Piece};
 pub use receiver::{Receiver, Taken};
 pub use sender::{MAX_TRIES, Sender, TriesSpent};

@@ -1,14 +1,16 @@
 //! The end that puts a message together from its pieces.
-ghost use Rattle.std.specs.Prelude.{◌≡◌, ℕ, [], IfOk, IfSome, Some, None, true};
+ghost use Rattle.std.specs.Prelude.{◌≡◌, ◌↔◌, ℕ, [], IsErrOf, IfOk, IfSome, Some, None, false, true};
 ghost use Rattle.std.specs.Option.{option_map};
 ghost use Rattle.padp_link.specs.declared.fragment.PadpKind.TheVariants.{Data};
 ghost use Rattle.padp_link.specs.FragmentText.{IsFragment};
 ghost use Rattle.padp_link.specs.FragmentValues.{fragment_value};
 ghost use Rattle.padp_link.specs.Pieces.{fragments};
 ghost use Rattle.padp_link.specs.Collecting.{data_fragment};
+ghost use Rattle.padp_link.specs.Parts.{are_receiver_parts as are_parts, receiver_of};
 ghost use Rattle.padp_link.specs.Receivers.{ReceiverValue, Answers, after_answer, is_awaited, is_next_piece, is_next, with_piece, is_complete, whole_of};
 
 use crate::fragment::Fragment;
+use crate::parts::{PartsFault, ReceiverParts, are_receiver_parts};
 use crate::piece::Key;
 use std::alloc::{AllocError, Global};
 use std::marker::Model;
@@ -68,6 +70,40 @@ impl Receiver {
             taken: 0,
             message: Vec::with_capacity(alloc, Self::LIMIT)?,
             last: None,
+        })
+    }
+
+    /// What it holds.
+    pub fn parts(&self, alloc: Global) -> Result<ReceiverParts, AllocError>
+        ensures receiver { IfOk result (λ parts. receiver_of parts ≡ self.now) }
+        ensures parts { IfOk result (λ parts. are_parts parts ≡ true) }
+    {
+        Ok(ReceiverParts {
+            awaited: self.awaited,
+            length: if self.taken == 0 { 0 } else { self.length },
+            taken: self.taken,
+            received: Vec::from_slice(alloc, &self.message)?,
+            last: self.last,
+        })
+    }
+
+    /// The receiver of these parts. `Form` is answered exactly where there is none: where more pieces were taken than the
+    /// message has, where their bytes are more or less than these, or where no piece was and a length is said.
+    pub fn of_parts(alloc: Global, parts: &ReceiverParts) -> Result<Receiver, PartsFault>
+        ensures made { IfOk result (λ receiver. receiver ≡ receiver_of parts.now) }
+        ensures form { IsErrOf result PartsFault.Form ↔ (are_parts parts.now ≡ false) }
+    {
+        if !are_receiver_parts(parts) {
+            return Err(PartsFault::Form);
+        }
+        let mut message = Vec::with_capacity(alloc, Self::LIMIT)?;
+        message.extend_from_slice(&parts.received)?;
+        Ok(Receiver {
+            awaited: parts.awaited,
+            length: parts.length,
+            taken: parts.taken,
+            message,
+            last: parts.last,
         })
     }
 

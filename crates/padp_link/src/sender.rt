@@ -1,8 +1,10 @@
 //! The end that sends the pieces of a message.
-ghost use Rattle.std.specs.Prelude.{◌≡◌, ◌↔◌, ◌+◌, ◌<◌, ◌≤◌, IsTrue, IsErr, OnOk, OnErr, IsSome, Some, true, false};
+ghost use Rattle.std.specs.Prelude.{◌≡◌, ◌↔◌, ◌+◌, ◌<◌, ◌≤◌, IfSome, IsTrue, IsErr, OnOk, OnErr, IsSome, Some, is_some, true, false};
+ghost use Rattle.padp_link.specs.Parts.{are_sender_parts as are_parts, sender_of};
 ghost use Rattle.padp_link.specs.Pieces.{piece_count};
 ghost use Rattle.padp_link.specs.Senders.{SenderValue, waiting, waiting_key, Waits, WaitsOnLast};
 
+use crate::parts::{SenderParts, are_sender_parts};
 use crate::piece::{Key, Piece, piece_at, piece_count};
 use std::marker::Model;
 
@@ -52,6 +54,36 @@ impl Sender {
             acknowledged: 1,
             tries: 0,
         }
+    }
+
+    /// What it holds.
+    pub fn parts(&self) -> SenderParts
+        ensures sender { sender_of result ≡ self.now }
+        ensures parts { are_parts result ≡ true }
+    {
+        SenderParts {
+            id: self.id,
+            length: self.length,
+            acknowledged: self.acknowledged,
+            tries: self.tries,
+        }
+    }
+
+    /// The sender of these parts. There is one exactly where no more pieces are acknowledged than the message has, and the
+    /// next one had at most ten tries.
+    pub fn of_parts(parts: SenderParts) -> Option<Sender>
+        ensures made { IfSome result (λ sender. sender ≡ sender_of parts) }
+        ensures form { is_some result ≡ are_parts parts }
+    {
+        if !are_sender_parts(parts) {
+            return None;
+        }
+        Some(Sender {
+            id: parts.id,
+            length: parts.length,
+            acknowledged: parts.acknowledged,
+            tries: parts.tries,
+        })
     }
 
     /// Begins a message of so many bytes. Its first piece waits, and is sent once.
