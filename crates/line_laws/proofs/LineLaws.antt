@@ -2,7 +2,7 @@
 use Rattle.line_laws.proofs.Names.{rules, ◌≡◌, ℕ, ◌+◌, ◌<◌, ◌≤◌, Bool, true, false, ◌&&◌, List, [], ◌∷◌, length, Some, refl, sym, ap, ◌∙◌, arith, both_ways}
 use Rattle.line_laws.proofs.Names.{and_parts, and_from, Taken, piece_count, data_fragment, ReceiverValue, after_answer, next_key_differs, comes, FrameCourse, PastFrame}
 use Rattle.line_laws.proofs.Names.{is_end, first, said, acked, at, IsDataOf, IsAckOf, is_data_of, End, EndTime, Apart, Follows, Side, Waiting, key_now, part_now}
-use Rattle.line_laws.proofs.Names.{Core, data_frame, ack_frame, AckPends, Progress}
+use Rattle.line_laws.proofs.Names.{CoreAt, data_frame, ack_frame, AckPends, Progress}
 use Rattle.line_laws.proofs.PastLaws.{said_data, add_new, said_ack, add_first, acked_ack, first_acked, ends_all}
 use Rattle.line_laws.proofs.CountLaws.{IsCopy, acked_ends}
 use Rattle.line_laws.proofs.StepLaws.{passes, repeats}
@@ -18,10 +18,10 @@ both_kinds X same is_data is_ack = search rules
 module _ {X Y : End} {past : List PastFrame} {cx cy released : ℕ} {x y : Side} {rx ry : ReceiverValue} {fx fy : Bool} {tx ty : ℕ}
     {course : FrameCourse} {frame : PastFrame} where
   -- a copy is taken and acknowledged once more
-  pub line_copy : Apart X Y → Core X Y past cx cy x y rx ry fx fy → EndTime X Y past cx cy released x tx → EndTime Y X past cy cx released y ty
+  pub line_copy : Apart X Y → CoreAt X Y past cx cy x y rx ry fx fy → EndTime X Y past cx cy released x tx → EndTime Y X past cy cx released y ty
       → released ≤ length past
       → cx < length past → at (cx + 1) past ≡ frame ∷ at cx past → IsDataOf X frame → comes frame.course ≡ true → IsCopy X Y frame (cx + 1) past
-      → Core X Y (ack_frame Y (frame.key) course ∷ past) (cx + 1) cy x y rx ry fx fy
+      → CoreAt X Y (ack_frame Y (frame.key) course ∷ past) (cx + 1) cy x y rx ry fx fy
       × EndTime X Y (ack_frame Y (frame.key) course ∷ past) (cx + 1) cy released x tx
       × EndTime Y X (ack_frame Y (frame.key) course ∷ past) cy (cx + 1) released y ty
   line_copy apart core x_time y_time inside x_in here is comes_here copy =
@@ -43,11 +43,11 @@ module _ {X Y : End} {past : List PastFrame} {cx cy released : ℕ} {x y : Side}
 
   -- the newest fragment is taken and acknowledged, and the other end waits no more
   pub line_newest : {k : ℕ} {answer : Taken} {whole : Bool}
-      → Apart X Y → Core X Y past cx cy x y rx ry fx fy → EndTime X Y past cx cy released x tx → EndTime Y X past cy cx released y ty
+      → Apart X Y → CoreAt X Y past cx cy x y rx ry fx fy → EndTime X Y past cx cy released x tx → EndTime Y X past cy cx released y ty
       → released ≤ length past
       → cx < length past → at (cx + 1) past ≡ frame ∷ at cx past → IsDataOf X frame → comes frame.course ≡ true
       → Accepting X Y past cy (cx + 1) x y rx ry (frame.key) (frame.bytes) answer whole → piece_count (length y.message) ≤ k
-      → Core X Y (ack_frame Y (frame.key) course ∷ past) (cx + 1) cy x (record y { acknowledged = k }) rx
+      → CoreAt X Y (ack_frame Y (frame.key) course ∷ past) (cx + 1) cy x (record y { acknowledged = k }) rx
       (after_answer ry (frame.key.id) (data_fragment (frame.key) (frame.bytes)) answer) false false
       × EndTime X Y (ack_frame Y (frame.key) course ∷ past) (cx + 1) cy released x tx
       × EndTime Y X (ack_frame Y (frame.key) course ∷ past) cy (cx + 1) released (record y { acknowledged = k }) ty
@@ -74,9 +74,9 @@ other_ack {X} {Y} {past} {cx} x y fy {frame} follows here other pends same =
 module _ {X Y : End} {past : List PastFrame} {cx cy released : ℕ} {x : Side} {tx : ℕ} where
   -- it changes nothing
   pub line_other_ack : {y : Side} {rx ry : ReceiverValue} {fx fy : Bool} {ty : ℕ} {frame : PastFrame}
-      → Core X Y past cx cy x y rx ry fx fy → EndTime X Y past cx cy released x tx → EndTime Y X past cy cx released y ty
+      → CoreAt X Y past cx cy x y rx ry fx fy → EndTime X Y past cx cy released x tx → EndTime Y X past cy cx released y ty
       → cx < length past → at (cx + 1) past ≡ frame ∷ at cx past → IsAckOf X frame → (Waiting y → key_now y ≡ frame.key → ⊥)
-      → Core X Y past (cx + 1) cy x y rx ry fx fy × EndTime X Y past (cx + 1) cy released x tx × EndTime Y X past cy (cx + 1) released y ty
+      → CoreAt X Y past (cx + 1) cy x y rx ry fx fy × EndTime X Y past (cx + 1) cy released x tx × EndTime Y X past cy (cx + 1) released y ty
   line_other_ack {y} {fy} {frame} core x_time y_time x_in here is other =
       let time = time_passes x_time y_time x_in
       (λ w pends same. both_kinds X (sym pends.here ∙ ap (λ n. at n past) same ∙ here) pends.is is)
@@ -86,9 +86,9 @@ module _ {X Y : End} {past : List PastFrame} {cx cy released : ℕ} {x : Side} {
 
   -- a frame that doesn't come, or is of the other end, changes nothing
   pub line_skips : {y : Side} {rx ry : ReceiverValue} {fx fy : Bool} {ty : ℕ} {frame : PastFrame}
-      → Core X Y past cx cy x y rx ry fx fy → EndTime X Y past cx cy released x tx → EndTime Y X past cy cx released y ty
+      → CoreAt X Y past cx cy x y rx ry fx fy → EndTime X Y past cx cy released x tx → EndTime Y X past cy cx released y ty
       → cx < length past → at (cx + 1) past ≡ frame ∷ at cx past → (is_end X frame.from && comes frame.course) ≡ false
-      → Core X Y past (cx + 1) cy x y rx ry fx fy × EndTime X Y past (cx + 1) cy released x tx × EndTime Y X past cy (cx + 1) released y ty
+      → CoreAt X Y past (cx + 1) cy x y rx ry fx fy × EndTime X Y past (cx + 1) cy released x tx × EndTime Y X past cy (cx + 1) released y ty
   line_skips {frame} core x_time y_time x_in here gone =
       let time = time_passes x_time y_time x_in
       (λ w pends same. never pends.frame pends.older (sym pends.here ∙ ap (λ n. at n past) same ∙ here)
@@ -110,21 +110,21 @@ module _ {X Y : End} {past : List PastFrame} {cx cy released : ℕ} {x y : Side}
   moves_idle x_time y_time x_in here is idle = search rules
 
   pub line_last_ack : {rx ry : ReceiverValue} {fx fy : Bool} {frame : PastFrame}
-      → Core X Y past cx cy x y rx ry fx fy → EndTime X Y past cx cy released x tx → EndTime Y X past cy cx released y ty
+      → CoreAt X Y past cx cy x y rx ry fx fy → EndTime X Y past cx cy released x tx → EndTime Y X past cy cx released y ty
       → cx < length past → at (cx + 1) past ≡ frame ∷ at cx past → IsAckOf X frame → Waiting y → key_now y ≡ frame.key
       → y.acknowledged + 1 ≡ piece_count (length y.message)
-      → Core X Y past (cx + 1) cy x (acknowledged y) rx ry fx false × EndTime X Y past (cx + 1) cy released x tx
+      → CoreAt X Y past (cx + 1) cy x (acknowledged y) rx ry fx false × EndTime X Y past (cx + 1) cy released x tx
       × EndTime Y X past cy (cx + 1) released (acknowledged y) ty
   line_last_ack core x_time y_time x_in here is waits key last =
       let time = moves_idle x_time y_time x_in here is (omega arith) in
       (take_last_ack core (omega arith) (omega (arith, x_in)) here is waits key last, time.0, time.1)
 
   pub line_next_piece : {rx ry : ReceiverValue} {fx fy : Bool} {frame : PastFrame} {course : FrameCourse}
-      → Apart X Y → Core X Y past cx cy x y rx ry fx fy → EndTime X Y past cx cy released x tx → EndTime Y X past cy cx released y ty
+      → Apart X Y → CoreAt X Y past cx cy x y rx ry fx fy → EndTime X Y past cx cy released x tx → EndTime Y X past cy cx released y ty
       → released ≤ length past
       → cx < length past → at (cx + 1) past ≡ frame ∷ at cx past → IsAckOf X frame → Waiting y → key_now y ≡ frame.key
       → y.acknowledged + 1 < piece_count (length y.message)
-      → Core X Y (data_frame Y (key_now (acknowledged y)) ((part_now (acknowledged y)).bytes) course ∷ past) (cx + 1) cy x (acknowledged y) rx ry false true
+      → CoreAt X Y (data_frame Y (key_now (acknowledged y)) ((part_now (acknowledged y)).bytes) course ∷ past) (cx + 1) cy x (acknowledged y) rx ry false true
       × EndTime X Y (data_frame Y (key_now (acknowledged y)) ((part_now (acknowledged y)).bytes) course ∷ past) (cx + 1) cy released x tx
       × EndTime Y X (data_frame Y (key_now (acknowledged y)) ((part_now (acknowledged y)).bytes) course ∷ past) cy (cx + 1) released (acknowledged y) 1
   line_next_piece {course} apart core x_time y_time inside x_in here is waits key more =
@@ -143,11 +143,11 @@ module _ {X Y : End} {past : List PastFrame} {cx cy released : ℕ} {x y : Side}
   -- ---- a message begins
 
   pub line_starts : {rx ry : ReceiverValue} {id : ℕ} {message : List ℕ} {course : FrameCourse}
-      → Apart X Y → Core X Y past cx cy x y rx ry false false → EndTime X Y past cx cy released x tx → EndTime Y X past cy cx released y ty
+      → Apart X Y → CoreAt X Y past cx cy x y rx ry false false → EndTime X Y past cx cy released x tx → EndTime Y X past cy cx released y ty
       → released ≤ length past
       → length (said X past) ≤ length (acked Y (at cy past)) → (id ≡ x.id → ⊥) → ry.awaited ≡ Some id → ry.pieces ≡ []
       → (Waiting y → y.acknowledged + 1 ≡ piece_count (length y.message))
-      → Core X Y (data_frame X (key_now (beginning id message)) ((part_now (beginning id message)).bytes) course ∷ past) cx cy
+      → CoreAt X Y (data_frame X (key_now (beginning id message)) ((part_now (beginning id message)).bytes) course ∷ past) cx cy
       (beginning id message) y rx ry true false
       × EndTime X Y (data_frame X (key_now (beginning id message)) ((part_now (beginning id message)).bytes) course ∷ past) cx cy
       released (beginning id message) 1

@@ -1,17 +1,18 @@
 -- The names that the proofs of this crate cite, passed on from one place. Declares nothing.
 pub use Rattle.line_laws.specs.Budget.{FirstTry, HeldBudget, HeldUp, RepeatBudget, EndTime, TryBudget, data_pending, load}
 pub use Rattle.line_laws.specs.Came.{AcksMatch, came_by, data_taken, is_taken}
-pub use Rattle.line_laws.specs.Core.{AllBear, AllFit, Answering, Apart, Awaits, Core, Counts, Fits, Follows, Hears, Side, Speaks, Waiting, ack_frame}
+pub use Rattle.line_laws.specs.Core.{AllBear, AllFit, Answering, Apart, Awaits, Counts, Fits, Follows, Hears, Side, Speaks, Waiting, ack_frame}
 pub use Rattle.line_laws.specs.Core.{data_frame, key_now, part_now, taken_count}
 pub use Rattle.line_laws.specs.Framing.{CameByCursor, FrameFacts, IsNoAbort, PassesFrame, RunsOn}
 pub use Rattle.line_laws.specs.Hearing.{heard}
-pub use Rattle.line_laws.specs.Line.{Knows, Line}
+pub use Rattle.line_laws.specs.Line.{Knows}
 pub use Rattle.line_laws.specs.Measure.{measure, rest_tries, work}
 pub use Rattle.line_laws.specs.Progress.{AckPends, IsBlocked, DataPends, IsHeld, Progress}
 pub use Rattle.line_laws.specs.Promises.{HasProperTrace, HasTenFaults}
 pub use Rattle.line_laws.specs.Reaching.{BeginsReached}
-pub use Rattle.line_laws.specs.Talking.{Moves, Speech, Talking, TookNewest, count_messages, left, part_at, say, unsaid}
+pub use Rattle.line_laws.specs.Talking.{Moves, Speech, TookNewest, count_messages, left, part_at, say, unsaid}
 pub use Rattle.line_laws.specs.Trace.{IsAcknowledged, AcksBehind, AcksFollow, NoAck, Release, TraceFacts, ack_keys, came_keys, cons_if}
+pub use Rattle.line_laws.proofs.Places.{CoreAt, LineAt, TalkingAt}
 pub use Rattle.padp_link.proofs.NeighbourLaws.{next_key_differs}
 pub use Rattle.padp_link.proofs.ReceiverLaws.{IsBefore, takes_piece}
 pub use Rattle.padp_link.specs.Collecting.{data_fragment}

@@ -2,7 +2,7 @@
 use Rattle.line_laws.proofs.Names.{rules, ◌≡◌, ℕ, suc, ◌+◌, ◌<◌, ◌≤◌, Bool, true, false, not, ◌&&◌, List, [], ◌∷◌, length, Some, refl, sym, ap, ◌∙◌, arith, inl}
 use Rattle.line_laws.proofs.Names.{inr, cases_lt, both_ways, and_parts, and_from, Taken, piece_count, data_fragment, ReceiverValue, after_answer}
 use Rattle.line_laws.proofs.Names.{next_key_differs, comes, is_late, late_of, data_comes, FrameCourse, Came, Gone, Late, PastFrame, is_end, first, data_of, ack_of, said}
-use Rattle.line_laws.proofs.Names.{acked, at, IsDataOf, IsAckOf, is_data_of, End, Apart, Side, Waiting, key_now, part_now, data_frame, ack_frame, Knows, Line}
+use Rattle.line_laws.proofs.Names.{acked, at, IsDataOf, IsAckOf, is_data_of, End, Apart, Side, Waiting, key_now, part_now, data_frame, ack_frame, Knows, LineAt}
 use Rattle.line_laws.proofs.Names.{IsBlocked, IsAcknowledged}
 use Rattle.line_laws.proofs.PastLaws.{said_ack, said_data, said_data-other, add_new, add_first, keys_below}
 use Rattle.line_laws.proofs.CountLaws.{IsCopy, follows-length}
@@ -55,9 +55,9 @@ data_no_ack X frame is_data is_ack = search rules
 
 module _ {X Y : End} {past : List PastFrame} {cx cy released : ℕ} {x y : Side} {rx ry : ReceiverValue} {fx fy : Bool} {tx ty : ℕ} {frame : PastFrame} where
   -- a frame that doesn't come, or the other end's, is passed
-  pub running_skips : Line X Y past cx cy released x y rx ry fx fy tx ty
+  pub running_skips : LineAt X Y past cx cy released x y rx ry fx fy tx ty
       → cx < length past → at (cx + 1) past ≡ frame ∷ at cx past → (is_end X frame.from && comes frame.course) ≡ false
-      → Line X Y past (cx + 1) cy released x y rx ry fx fy tx ty
+      → LineAt X Y past (cx + 1) cy released x y rx ry fx fy tx ty
   running_skips line x_in here gone =
       let step = line_skips line.core line.x_time line.y_time x_in here gone in
       record {
@@ -73,9 +73,9 @@ module _ {X Y : End} {past : List PastFrame} {cx cy released : ℕ} {x y : Side}
       }
 
   -- another acknowledgement than the waiting one
-  pub running_other_ack : Line X Y past cx cy released x y rx ry fx fy tx ty
+  pub running_other_ack : LineAt X Y past cx cy released x y rx ry fx fy tx ty
       → cx < length past → at (cx + 1) past ≡ frame ∷ at cx past → (late_of X frame ≡ true → cx + 1 ≤ released) → IsAckOf X frame
-      → (Waiting y → key_now y ≡ frame.key → ⊥) → Line X Y past (cx + 1) cy released x y rx ry fx fy tx ty
+      → (Waiting y → key_now y ≡ frame.key → ⊥) → LineAt X Y past (cx + 1) cy released x y rx ry fx fy tx ty
   running_other_ack line x_in here free is other =
       let step = line_other_ack line.core line.x_time line.y_time x_in here is other in
       record {
@@ -90,10 +90,10 @@ module _ {X Y : End} {past : List PastFrame} {cx cy released : ℕ} {x y : Side}
 
   -- data, a copy: acknowledged again
   pub running_copy : {course : FrameCourse}
-      → Apart X Y → Line X Y past cx cy released x y rx ry fx fy tx ty
+      → Apart X Y → LineAt X Y past cx cy released x y rx ry fx fy tx ty
       → cx < length past → at (cx + 1) past ≡ frame ∷ at cx past → (late_of X frame ≡ true → cx + 1 ≤ released) → IsDataOf X frame
       → comes frame.course ≡ true → IsCopy X Y frame (cx + 1) past
-      → Line X Y (ack_frame Y (frame.key) course ∷ past) (cx + 1) cy released x y rx ry fx fy tx ty
+      → LineAt X Y (ack_frame Y (frame.key) course ∷ past) (cx + 1) cy released x y rx ry fx fy tx ty
   running_copy {course} apart line x_in here free is comes_here copy =
       let step = line_copy apart line.core line.x_time line.y_time line.inside x_in here is comes_here copy in
       let after = step.0 in
@@ -111,10 +111,10 @@ module _ {X Y : End} {past : List PastFrame} {cx cy released : ℕ} {x y : Side}
 
   -- the newest fragment: taken, the other end's wait ends, and it is acknowledged
   pub running_newest : {k : ℕ} {course : FrameCourse} {answer : Taken} {whole : Bool}
-      → Apart X Y → Line X Y past cx cy released x y rx ry fx fy tx ty
+      → Apart X Y → LineAt X Y past cx cy released x y rx ry fx fy tx ty
       → cx < length past → at (cx + 1) past ≡ frame ∷ at cx past → (late_of X frame ≡ true → cx + 1 ≤ released) → IsDataOf X frame
       → comes frame.course ≡ true → Accepting X Y past cy (cx + 1) x y rx ry (frame.key) (frame.bytes) answer whole → piece_count (length y.message) ≤ k
-      → Line X Y (ack_frame Y (frame.key) course ∷ past) (cx + 1) cy released x (record y { acknowledged = k }) rx
+      → LineAt X Y (ack_frame Y (frame.key) course ∷ past) (cx + 1) cy released x (record y { acknowledged = k }) rx
       (after_answer ry (frame.key.id) (data_fragment (frame.key) (frame.bytes)) answer) false false tx ty
   running_newest {course} apart line x_in here free is comes_here accepting idle =
       let step = line_newest apart line.core line.x_time line.y_time line.inside x_in here is comes_here accepting idle in
@@ -142,10 +142,10 @@ module _ {X Y : End} {past : List PastFrame} {cx cy released : ℕ} {x y : Side}
         ]
 
   -- the acknowledgement of the last piece
-  pub running_last_ack : Line X Y past cx cy released x y rx ry fx fy tx ty
+  pub running_last_ack : LineAt X Y past cx cy released x y rx ry fx fy tx ty
       → cx < length past → at (cx + 1) past ≡ frame ∷ at cx past → (late_of X frame ≡ true → cx + 1 ≤ released) → IsAckOf X frame
       → comes frame.course ≡ true → Waiting y → key_now y ≡ frame.key → y.acknowledged + 1 ≡ piece_count (length y.message)
-      → Line X Y past (cx + 1) cy released x (acknowledged y) rx ry fx false tx ty
+      → LineAt X Y past (cx + 1) cy released x (acknowledged y) rx ry fx false tx ty
   running_last_ack line x_in here free is came waits key last =
       let step = line_last_ack line.core line.x_time line.y_time x_in here is waits key last in
       let m = matched line.core (omega arith) (omega (arith, x_in)) here is waits key in
@@ -190,10 +190,10 @@ module _ {X Y : End} {key : _} {bytes : List ℕ} {course : FrameCourse} {past :
 -- the acknowledgement of another piece: the next one goes
 module _ {X Y : End} {past : List PastFrame} {cx cy released : ℕ} {x y : Side} {rx ry : ReceiverValue} {tx ty : ℕ} where
   pub running_next_piece : {fx fy : Bool} {frame : PastFrame} {course : FrameCourse}
-      → Apart X Y → Line X Y past cx cy released x y rx ry fx fy tx ty
+      → Apart X Y → LineAt X Y past cx cy released x y rx ry fx fy tx ty
       → cx < length past → at (cx + 1) past ≡ frame ∷ at cx past → (late_of X frame ≡ true → cx + 1 ≤ released) → IsAckOf X frame → Waiting y
       → key_now y ≡ frame.key → y.acknowledged + 1 < piece_count (length y.message)
-      → Line X Y (data_frame Y (key_now (acknowledged y)) ((part_now (acknowledged y)).bytes) course ∷ past) (cx + 1) cy released x
+      → LineAt X Y (data_frame Y (key_now (acknowledged y)) ((part_now (acknowledged y)).bytes) course ∷ past) (cx + 1) cy released x
       (acknowledged y) rx ry false true tx 1
   running_next_piece {frame} apart line x_in here free is waits key more =
       let step = line_next_piece apart line.core line.x_time line.y_time line.inside x_in here is waits key more in
@@ -219,10 +219,10 @@ module _ {X Y : End} {past : List PastFrame} {cx cy released : ℕ} {x y : Side}
 
   -- a new message
   pub running_starts : {id : ℕ} {message : List ℕ} (course : FrameCourse)
-      → Apart X Y → Line X Y past cx cy released x y rx ry false false tx ty
+      → Apart X Y → LineAt X Y past cx cy released x y rx ry false false tx ty
       → length (said X past) ≤ length (acked Y (at cy past)) → (id ≡ x.id → ⊥) → ry.awaited ≡ Some id → ry.pieces ≡ []
       → (Waiting y → y.acknowledged + 1 ≡ piece_count (length y.message))
-      → Line X Y (data_frame X (key_now (beginning id message)) ((part_now (beginning id message)).bytes) course ∷ past) cx cy released
+      → LineAt X Y (data_frame X (key_now (beginning id message)) ((part_now (beginning id message)).bytes) course ∷ past) cx cy released
       (beginning id message) y rx ry true false 1 ty
   running_starts {id} {message} course apart line caught other awaited none last =
       let step = line_starts apart line.core line.x_time line.y_time line.inside caught other awaited none last in
@@ -242,9 +242,9 @@ module _ {X Y : End} {past : List PastFrame} {cx cy released : ℕ} {x y : Side}
 
   -- the tick where X alone waits
   pub running_tick_one : {fx fy : Bool} {course : FrameCourse}
-      → Apart X Y → Line X Y past cx cy released x y rx ry fx fy tx ty
+      → Apart X Y → LineAt X Y past cx cy released x y rx ry fx fy tx ty
       → IsBlocked X past cx released → IsBlocked Y past cy released → Waiting x → (Waiting y → ⊥)
-      → Line X Y (data_frame X (key_now x) ((part_now x).bytes) course ∷ past) cx cy (length past) x y rx ry fx fy (suc tx) ty
+      → LineAt X Y (data_frame X (key_now x) ((part_now x).bytes) course ∷ past) cx cy (length past) x y rx ry fx fy (suc tx) ty
   running_tick_one {fx} {fy} apart line bx by waits idle =
       let step = tick_one apart line.core line.x_time line.y_time line.inside bx by waits idle in
       let after = step.0 in
@@ -262,9 +262,9 @@ module _ {X Y : End} {past : List PastFrame} {cx cy released : ℕ} {x y : Side}
 
   -- and where both wait: X sends, then Y
   pub running_tick_two : {fx fy : Bool} {course : FrameCourse} (other : FrameCourse)
-      → Apart X Y → Line X Y past cx cy released x y rx ry fx fy tx ty
+      → Apart X Y → LineAt X Y past cx cy released x y rx ry fx fy tx ty
       → IsBlocked X past cx released → IsBlocked Y past cy released → Waiting x → Waiting y
-      → Line X Y (data_frame Y (key_now y) ((part_now y).bytes) other ∷ data_frame X (key_now x) ((part_now x).bytes) course ∷ past) cx cy (length past) x
+      → LineAt X Y (data_frame Y (key_now y) ((part_now y).bytes) other ∷ data_frame X (key_now x) ((part_now x).bytes) course ∷ past) cx cy (length past) x
       y rx ry fx fy (suc tx) (suc ty)
   running_tick_two {fx} {fy} {course} other apart line bx by wx wy =
       let mid = data_frame X (key_now x) ((part_now x).bytes) course ∷ past in

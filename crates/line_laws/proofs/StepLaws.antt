@@ -1,19 +1,19 @@
 -- The core over the steps of the line.
 use Rattle.line_laws.proofs.Names.{rules, ◌≡◌, ℕ, ◌+◌, ◌<◌, ◌≤◌, Bool, true, false, List, ◌∷◌, length, Some, refl, sym, ap, ◌∙◌, arith, inl, Key, piece_count}
 use Rattle.line_laws.proofs.Names.{ReceiverValue, FrameCourse, PastFrame, first, data_of, said, acked, at, End, Apart, Counts, Side, Waiting, key_now, part_now, Speaks}
-use Rattle.line_laws.proofs.Names.{Awaits, Hears, Core, data_frame, ack_frame}
+use Rattle.line_laws.proofs.Names.{Awaits, Hears, CoreAt, data_frame, ack_frame}
 use Rattle.line_laws.proofs.PastLaws.{add_first, add_new, keys_apart, said_data, said_data-other, acked_data, acked_ack, acked_ack-other, said_ack}
 use Rattle.line_laws.proofs.CountLaws.{counts_push, counts_later, counts_accept, counts_begin, counts_begun}
 use Rattle.line_laws.proofs.SpeakLaws.{speaks_push, hears_push, all_bear-new, ack_no_data, data_no_other}
 
 module _ {X Y : End} {past : List PastFrame} {cx cy : ℕ} {x y : Side} {rx ry : ReceiverValue} where
-  pub turned : {fx fy : Bool} → Core X Y past cx cy x y rx ry fx fy → Core Y X past cy cx y x ry rx fy fx
+  pub turned : {fx fy : Bool} → CoreAt X Y past cx cy x y rx ry fx fy → CoreAt Y X past cy cx y x ry rx fy fx
   turned core = search rules
 
   -- the timer of X: the waiting piece goes once more
   pub again : {fx fy : Bool} (course : FrameCourse) → Apart X Y
-      → Core X Y past cx cy x y rx ry fx fy → Waiting x
-      → Core X Y (data_frame X (key_now x) ((part_now x).bytes) course ∷ past) cx cy x y rx ry fx fy
+      → CoreAt X Y past cx cy x y rx ry fx fy → Waiting x
+      → CoreAt X Y (data_frame X (key_now x) ((part_now x).bytes) course ∷ past) cx cy x y rx ry fx fy
   again course apart core waits =
       let key = key_now x in
       let bytes = (part_now x).bytes in
@@ -35,13 +35,13 @@ module _ {X Y : End} {past : List PastFrame} {cx cy : ℕ} {x y : Side} {rx ry :
 
   -- a frame of X is taken off the line and changes nothing: one that was lost or damaged, or another acknowledgement than the waiting one
   pub passes : {fx fy : Bool} {n : ℕ}
-      → Core X Y past cx cy x y rx ry fx fy → cx ≤ n → n ≤ length past → Core X Y past n cy x y rx ry fx fy
+      → CoreAt X Y past cx cy x y rx ry fx fy → cx ≤ n → n ≤ length past → CoreAt X Y past n cy x y rx ry fx fy
   passes core from inside = search rules
 
   -- Y takes a copy of the last fragment that it took, and acknowledges it again
   pub repeats : {fx fy : Bool} {n : ℕ} {key : Key} {course : FrameCourse}
-      → Apart X Y → Core X Y past cx cy x y rx ry fx fy → cx ≤ n → n ≤ length past → first (acked Y past) ≡ Some key
-      → Core X Y (ack_frame Y key course ∷ past) n cy x y rx ry fx fy
+      → Apart X Y → CoreAt X Y past cx cy x y rx ry fx fy → cx ≤ n → n ≤ length past → first (acked Y past) ≡ Some key
+      → CoreAt X Y (ack_frame Y key course ∷ past) n cy x y rx ry fx fy
   repeats {key} {course} apart core from inside copy =
       let frame = ack_frame Y key course in
       let sx = said_ack Y X key course past in
@@ -64,7 +64,7 @@ module _ {X Y : End} {past : List PastFrame} {cx cy : ℕ} {x y : Side} {rx ry :
       → Counts X Y past false cx → Counts Y X past false cy → length (said X past) ≤ length (acked Y (at cy past))
       → Speaks Y past false y → ry.last ≡ first (acked Y past) → Awaits x.id x.acknowledged x.message ry → Hears X past false y rx
       → Waiting x → (first (said X past) ≡ Some (key_now x) → ⊥) → (Waiting y → (x.acknowledged ≡ 0) × (y.acknowledged + 1 ≡ piece_count (length y.message)))
-      → Core X Y (data_frame X (key_now x) ((part_now x).bytes) course ∷ past) cx cy x y rx ry true false
+      → CoreAt X Y (data_frame X (key_now x) ((part_now x).bytes) course ∷ past) cx cy x y rx ry true false
   begins {course} apart there back caught y_speaks last awaits x_hears waits new both =
       let key = key_now x in
       let bytes = (part_now x).bytes in
@@ -91,16 +91,16 @@ module _ {X Y : End} {past : List PastFrame} {cx cy : ℕ} {x y : Side} {rx ry :
       }
 
   -- where the newest fragment wasn't taken and the other end waits too, it is a first piece, and the other end waits on its last
-  pub answers_last : {fy : Bool} → Core X Y past cx cy x y rx ry true fy
+  pub answers_last : {fy : Bool} → CoreAt X Y past cx cy x y rx ry true fy
       → Waiting y → (x.acknowledged ≡ 0) × (y.acknowledged + 1 ≡ piece_count (length y.message))
   answers_last core waits = search rules
 
   -- Y takes the newest fragment, which is acknowledged; what Y waited for is acknowledged by it too
   pub accepts : {ry' : ReceiverValue} {n k : ℕ} {key : Key} {course : FrameCourse} → Apart X Y
-      → Core X Y past cx cy x y rx ry true false → cx ≤ n → n ≤ length past
+      → CoreAt X Y past cx cy x y rx ry true false → cx ≤ n → n ≤ length past
       → first (said X past) ≡ Some key → length (acked Y past) < length (said X (at n past)) → piece_count (length y.message) ≤ k
       → ry'.last ≡ Some key → (x.acknowledged + 1 < piece_count (length x.message) → Awaits x.id (x.acknowledged + 1) x.message ry')
-      → Core X Y (ack_frame Y key course ∷ past) n cy x (record y { acknowledged = k }) rx ry' false false
+      → CoreAt X Y (ack_frame Y key course ∷ past) n cy x (record y { acknowledged = k }) rx ry' false false
   accepts {key} {course} apart core from inside newest fresh idle last awaits =
       let frame = ack_frame Y key course in
       let sx = said_ack Y X key course past in
@@ -130,6 +130,6 @@ module _ {X Y : End} {past : List PastFrame} {cx cy : ℕ} {x y : Side} {rx ry :
 
   -- X takes the acknowledgement of its last piece
   pub ends : {fx : Bool} {n k : ℕ}
-      → Core X Y past cx cy x y rx ry fx false → cx ≤ n → n ≤ length past → piece_count (length y.message) ≤ k
-      → Core X Y past n cy x (record y { acknowledged = k }) rx ry fx false
+      → CoreAt X Y past cx cy x y rx ry fx false → cx ≤ n → n ≤ length past → piece_count (length y.message) ≤ k
+      → CoreAt X Y past n cy x (record y { acknowledged = k }) rx ry fx false
   ends core from inside idle = search rules

@@ -3,7 +3,7 @@ use Rattle.line_laws.proofs.Names.{rules, ◌≡◌, ◌⊎◌, ℕ, ◌+◌, �
 use Rattle.line_laws.proofs.Names.{arith, inl, inr, both_ways, cond-true, cond-false, Key, Taken, Accepted, Whole, Repeated, Dropped, piece_count}
 use Rattle.line_laws.proofs.Names.{data_fragment, ReceiverValue, Answers, after_answer, IsBefore, takes_piece, next_key_differs, FrameCourse, PastFrame, first, data_of}
 use Rattle.line_laws.proofs.Names.{ack_of, said, acked, at, IsDataOf, IsAckOf, End, Apart, Follows, Counts, Side, Waiting, key_now, part_now, Awaits, Answering}
-use Rattle.line_laws.proofs.Names.{Core, data_frame, ack_frame}
+use Rattle.line_laws.proofs.Names.{CoreAt, data_frame, ack_frame}
 use Rattle.line_laws.proofs.PastLaws.{keys_apart, keys_below}
 use Rattle.line_laws.proofs.CountLaws.{counts_later, IsNewest, pending_data, pending_ack}
 use Rattle.line_laws.proofs.StepLaws.{turned, repeats, begins, answers_last, accepts, ends}
@@ -42,12 +42,12 @@ pub record Accepting (X Y : End) (past : List PastFrame) (cy n : ℕ) (x y : Sid
   pub answers : Waiting y → (x.acknowledged ≡ 0) × (y.acknowledged + 1 ≡ piece_count (length y.message))
   pub knows : length (said Y past) ≤ length (acked X (at n past))
   pub core : (k : ℕ) (course : FrameCourse) → piece_count (length y.message) ≤ k
-      → Core X Y (ack_frame Y key course ∷ past) n cy x (record y { acknowledged = k }) rx
+      → CoreAt X Y (ack_frame Y key course ∷ past) n cy x (record y { acknowledged = k }) rx
       (after_answer ry (key.id) (data_fragment key bytes) answer) false false
 
 abbrev pub AfterData : (X Y : End) (past : List PastFrame) (cy n : ℕ) (x y : Side) (rx ry : ReceiverValue) (fx fy : Bool) (key : Key) (bytes : List ℕ) → Taken
     → Type 0
-AfterData X Y past cy n x y rx ry fx fy key bytes Repeated = (course : FrameCourse) → Core X Y (ack_frame Y key course ∷ past) n cy x y rx ry fx fy
+AfterData X Y past cy n x y rx ry fx fy key bytes Repeated = (course : FrameCourse) → CoreAt X Y (ack_frame Y key course ∷ past) n cy x y rx ry fx fy
 AfterData X Y past cy n x y rx ry fx fy key bytes Accepted = (fx ≡ true) × Accepting X Y past cy n x y rx ry key bytes Accepted false
 AfterData X Y past cy n x y rx ry fx fy key bytes Whole = (fx ≡ true) × Accepting X Y past cy n x y rx ry key bytes Whole true
 AfterData X Y past cy n x y rx ry fx fy key bytes Dropped = ⊥
@@ -55,7 +55,7 @@ AfterData X Y past cy n x y rx ry fx fy key bytes Dropped = ⊥
 module _ {X Y : End} {past : List PastFrame} {cx cy : ℕ} {x y : Side} {rx ry : ReceiverValue} where
   -- a copy of the last fragment that was taken
   take_copy : {n : ℕ} {fx fy : Bool} {key : Key} (bytes : List ℕ) (answer : Taken)
-      → Apart X Y → Core X Y past cx cy x y rx ry fx fy → cx ≤ n → n ≤ length past
+      → Apart X Y → CoreAt X Y past cx cy x y rx ry fx fy → cx ≤ n → n ≤ length past
       → first (acked Y past) ≡ Some key → Answers ry (key.id) (data_fragment key bytes) answer → AfterData X Y past cy n x y rx ry fx fy key bytes answer
   take_copy bytes Repeated apart core from inside copy answers = λ course. repeats apart core from inside copy
   take_copy bytes Accepted apart core from inside copy answers = absurd (answers.0 (core.y_hears.last_is ∙ copy))
@@ -64,7 +64,7 @@ module _ {X Y : End} {past : List PastFrame} {cx cy : ℕ} {x y : Side} {rx ry :
 
   -- the newest fragment
   take_newest : {n : ℕ} {answer : Taken} → Apart X Y
-      → Core X Y past cx cy x y rx ry true false → cx ≤ n → n ≤ length past
+      → CoreAt X Y past cx cy x y rx ry true false → cx ≤ n → n ≤ length past
       → length (acked Y past) < length (said X (at n past)) → Answers ry x.id (part_now x) answer → {whole : Bool}
       → nat_eq (x.acknowledged + 1) (piece_count (length x.message)) ≡ whole → Took x ry answer
       → Accepting X Y past cy n x y rx ry (key_now x) ((part_now x).bytes) answer whole
@@ -78,7 +78,7 @@ module _ {X Y : End} {past : List PastFrame} {cx cy : ℕ} {x y : Side} {rx ry :
   }
 
   -- the newest fragment of X wasn't the last key that the other end took
-  newest_is_new : {fy : Bool} → Core X Y past cx cy x y rx ry true fy → ry.last ≡ Some (key_now x) → ⊥
+  newest_is_new : {fy : Bool} → CoreAt X Y past cx cy x y rx ry true fy → ry.last ≡ Some (key_now x) → ⊥
   newest_is_new core same =
       let was = core.there.follows in
       let newest = core.x_speaks.newest (core.x_speaks.waits refl) in
@@ -86,7 +86,7 @@ module _ {X Y : End} {past : List PastFrame} {cx cy : ℕ} {x y : Side} {rx ry :
       keys_apart (data_of X) past was.1 (sym core.y_hears.last_is ∙ same ∙ ap Some (sym it))
 
   after_newest : {n : ℕ} (answer : Taken) → Apart X Y
-      → Core X Y past cx cy x y rx ry true false → cx ≤ n → n ≤ length past
+      → CoreAt X Y past cx cy x y rx ry true false → cx ≤ n → n ≤ length past
       → length (acked Y past) < length (said X (at n past)) → Answers ry x.id (part_now x) answer
       → AfterData X Y past cy n x y rx ry true false (key_now x) ((part_now x).bytes) answer
   after_newest {n} answer apart core from inside behind answers =
@@ -110,14 +110,14 @@ module _ {X Y : End} {past : List PastFrame} {cx cy : ℕ} {x y : Side} {rx ry :
 
   -- A data frame of X comes, whatever its answer: it is never dropped.
   pub take_data : {n : ℕ} {fx fy : Bool} {frame : PastFrame} {older : List PastFrame} (answer : Taken)
-      → Apart X Y → Core X Y past cx cy x y rx ry fx fy → cx ≤ n → n ≤ length past
+      → Apart X Y → CoreAt X Y past cx cy x y rx ry fx fy → cx ≤ n → n ≤ length past
       → at n past ≡ frame ∷ older → IsDataOf X frame → Answers ry (frame.key.id) (data_fragment (frame.key) (frame.bytes)) answer
       → AfterData X Y past cy n x y rx ry fx fy (frame.key) (frame.bytes) answer
   take_data {n} {fx} {fy} {frame} {older} answer apart core from inside here is answers = elim (pending_data fx core.there from inside here is) [
     | inl copy ↦ take_copy frame.bytes answer apart core from inside copy.key answers
     | inr newest ↦ go fx fy core newest
   ] where
-    go : (fx fy : Bool) → Core X Y past cx cy x y rx ry fx fy → IsNewest X Y frame n past fx
+    go : (fx fy : Bool) → CoreAt X Y past cx cy x y rx ry fx fy → IsNewest X Y frame n past fx
         → AfterData X Y past cy n x y rx ry fx fy frame.key frame.bytes answer
     go false fy core newest = absurd (let e = newest.is_fresh in cc)
     go true true core newest = absurd (let e = core.one refl in cc)
@@ -146,7 +146,7 @@ pub record Matched (X Y : End) (past : List PastFrame) (n : ℕ) (fx fy : Bool) 
 module _ {X Y : End} {past : List PastFrame} {cx cy n : ℕ} {x y : Side} {rx ry : ReceiverValue} {frame : PastFrame} {older : List PastFrame} where
   -- it bears the key of the waiting piece of Y: its newest fragment was taken, and where more pieces follow X waits for nothing
   pub matched : {fx fy : Bool}
-      → Core X Y past cx cy x y rx ry fx fy → cx ≤ n → n ≤ length past
+      → CoreAt X Y past cx cy x y rx ry fx fy → cx ≤ n → n ≤ length past
       → at n past ≡ frame ∷ older → IsAckOf X frame → Waiting y → key_now y ≡ frame.key → Matched X Y past n fx fy x y
   matched {fx} {fy} core from inside here is waits key =
       let newest : first (said Y past) ≡ Some frame.key = core.y_speaks.newest waits ∙ ap Some key in
@@ -177,24 +177,24 @@ module _ {X Y : End} {past : List PastFrame} {cx cy n : ℕ} {x y : Side} {rx ry
 
   -- it acknowledges the last piece: nothing waits
   pub take_last_ack : {fx fy : Bool}
-      → Core X Y past cx cy x y rx ry fx fy → cx ≤ n → n ≤ length past
+      → CoreAt X Y past cx cy x y rx ry fx fy → cx ≤ n → n ≤ length past
       → at n past ≡ frame ∷ older → IsAckOf X frame → Waiting y → key_now y ≡ frame.key → y.acknowledged + 1 ≡ piece_count (length y.message)
-      → Core X Y past n cy x (acknowledged y) rx ry fx false
+      → CoreAt X Y past n cy x (acknowledged y) rx ry fx false
   take_last_ack {fx} core from inside here is waits key last =
       let m = matched core from inside here is waits key in
-      ends (subst (λ f. Core X Y past cx cy x y rx ry fx f) m.none_fresh core) from inside (omega arith)
+      ends (subst (λ f. CoreAt X Y past cx cy x y rx ry fx f) m.none_fresh core) from inside (omega arith)
 
   -- it acknowledges another piece: the next one goes
   pub take_ack : {fx fy : Bool} (course : FrameCourse)
-      → Apart X Y → Core X Y past cx cy x y rx ry fx fy → cx ≤ n → n ≤ length past
+      → Apart X Y → CoreAt X Y past cx cy x y rx ry fx fy → cx ≤ n → n ≤ length past
       → at n past ≡ frame ∷ older → IsAckOf X frame → Waiting y → key_now y ≡ frame.key → y.acknowledged + 1 < piece_count (length y.message)
-      → Core X Y (data_frame Y (key_now (acknowledged y)) ((part_now (acknowledged y)).bytes) course ∷ past) n cy x (acknowledged y) rx ry false true
+      → CoreAt X Y (data_frame Y (key_now (acknowledged y)) ((part_now (acknowledged y)).bytes) course ∷ past) n cy x (acknowledged y) rx ry false true
   take_ack {fx} {fy} course apart core from inside here is waits key more =
       let m = matched core from inside here is waits key in
       let alone = m.alone more in
       go fx fy alone.0 m.none_fresh core where
-        go : (fx fy : Bool) → fx ≡ false → fy ≡ false → Core X Y past cx cy x y rx ry fx fy
-            → Core X Y (data_frame Y (key_now (acknowledged y)) ((part_now (acknowledged y)).bytes) course ∷ past) n cy x (acknowledged y) rx ry false true
+        go : (fx fy : Bool) → fx ≡ false → fy ≡ false → CoreAt X Y past cx cy x y rx ry fx fy
+            → CoreAt X Y (data_frame Y (key_now (acknowledged y)) ((part_now (acknowledged y)).bytes) course ∷ past) n cy x (acknowledged y) rx ry false true
         go true fy e d core = absurd cc
         go false true e d core = absurd cc
         go false false e d core =
@@ -216,10 +216,10 @@ beginning id message = record { id = id; message = message; acknowledged = 0 }
 module _ {X Y : End} {past : List PastFrame} {cx cy : ℕ} {x y : Side} {rx ry : ReceiverValue} {id : ℕ} where
   -- X, which waits for nothing and knows all that was said, begins a message that Y awaits
   pub starts : {message : List ℕ} {course : FrameCourse} → Apart X Y
-      → Core X Y past cx cy x y rx ry false false
+      → CoreAt X Y past cx cy x y rx ry false false
       → length (said X past) ≤ length (acked Y (at cy past)) → (id ≡ x.id → ⊥) → ry.awaited ≡ Some id → ry.pieces ≡ []
       → (Waiting y → y.acknowledged + 1 ≡ piece_count (length y.message))
-      → Core X Y (data_frame X (key_now (beginning id message)) ((part_now (beginning id message)).bytes) course ∷ past) cx cy
+      → CoreAt X Y (data_frame X (key_now (beginning id message)) ((part_now (beginning id message)).bytes) course ∷ past) cx cy
       (beginning id message) y rx ry true false
   starts apart core caught other awaited none last =
       begins apart core.there core.back caught core.y_speaks core.y_hears.last_is
@@ -227,8 +227,8 @@ module _ {X Y : End} {past : List PastFrame} {cx cy : ℕ} {x y : Side} {rx ry :
 
   -- Y, which took the whole message of X, awaits the next one
   pub expects : {fy : Bool}
-      → Core X Y past cx cy x y rx ry false fy → piece_count (length x.message) ≤ x.acknowledged + 1
-      → Core X Y past cx cy x y rx (record { awaited = Some id; pieces = []; last = ry.last }) false fy
+      → CoreAt X Y past cx cy x y rx ry false fy → piece_count (length x.message) ≤ x.acknowledged + 1
+      → CoreAt X Y past cx cy x y rx (record { awaited = Some id; pieces = []; last = ry.last }) false fy
   expects core whole = search rules
 
 -- ---- the beginning

@@ -4,8 +4,8 @@ use Rattle.line_laws.proofs.Names.{arith, inl, inr, cases_lt, both_ways, and_par
 use Rattle.line_laws.proofs.Names.{next_key_differs, comes, late_of, data_comes, IsHeldIn, FrameCourse, PastFrame, is_end, first, data_of, ack_of, said, acked, at}
 use Rattle.line_laws.proofs.Names.{is_data_of, run, IsDataOf, IsAckOf, Reaches, AcksAreFor, IsKnown, EndReached, IfAnswers, is_ack_of, SpeaksProperly, Talk}
 use Rattle.line_laws.proofs.Names.{messages_of, pieces_before, answered_by, answer_to, End, Handheld, Desktop, came_by, data_taken, Apart, Follows, Counts}
-use Rattle.line_laws.proofs.Names.{Side, Waiting, key_now, part_now, data_frame, ack_frame, Line, left, unsaid, count_messages, say, TookNewest, Speech}
-use Rattle.line_laws.proofs.Names.{Talking, Moves}
+use Rattle.line_laws.proofs.Names.{Side, Waiting, key_now, part_now, data_frame, ack_frame, LineAt, left, unsaid, count_messages, say, TookNewest, Speech}
+use Rattle.line_laws.proofs.Names.{TalkingAt, Moves}
 use Rattle.line_laws.proofs.PastLaws.{at_push, said_ack, said_data, said_data-other, acked_data, acked_ack, acked_ack-other, add_first, first_is, keys_apart}
 use Rattle.line_laws.proofs.PastLaws.{keys_below}
 use Rattle.line_laws.proofs.CountLaws.{IsCopy, pending_data, follows-length}
@@ -73,7 +73,7 @@ module _ {Y : End} {talk : Talk} {cursor : End → ℕ} {past : List PastFrame} 
   -- a frame of X is passed that is no data which comes
   pub talking_passes : {X : End} {later : End → ℕ} {cx : ℕ} {x y : Side} {fx fy : Bool} {frame : PastFrame}
       → Apart X Y → cursor X ≡ cx → Moves X Y cursor later → at (cx + 1) past ≡ frame ∷ at cx past → data_comes X frame ≡ false
-      → Talking X Y talk cursor past x y fx fy → Talking X Y talk later past x y fx fy
+      → TalkingAt X Y talk cursor past x y fx fy → TalkingAt X Y talk later past x y fx fy
   talking_passes {X} {later} {cx} apart is_cx moves here other was =
       let more = moves-more apart.there moves in
       let moved : later X ≡ cx + 1 = omega (arith, moves.moved, is_cx) in
@@ -99,11 +99,11 @@ module _ {Y : End} {talk : Talk} {cursor : End → ℕ} {past : List PastFrame} 
   -- a copy
   pub talking_copy : {X : End} {later : End → ℕ} {cx cy released : ℕ} {x y : Side} {rx ry : ReceiverValue} {fx fy : Bool} {tx ty : ℕ}
       {course : FrameCourse} {frame : PastFrame}
-      → Apart X Y → Line X Y past cx cy released x y rx ry fx fy tx ty
+      → Apart X Y → LineAt X Y past cx cy released x y rx ry fx fy tx ty
       → cx < length past → at (cx + 1) past ≡ frame ∷ at cx past → (late_of X frame ≡ true → cx + 1 ≤ released) → IsDataOf X frame
       → comes frame.course ≡ true → IsCopy X Y frame (cx + 1) past
-      → cursor X ≡ cx → cursor Y ≡ cy → Moves X Y cursor later → Talking X Y talk cursor past x y fx fy
-      → Talking X Y talk later (ack_frame Y (frame.key) course ∷ past) x y fx fy
+      → cursor X ≡ cx → cursor Y ≡ cy → Moves X Y cursor later → TalkingAt X Y talk cursor past x y fx fy
+      → TalkingAt X Y talk later (ack_frame Y (frame.key) course ∷ past) x y fx fy
   talking_copy {X} {later} {cx} {course} {frame} apart line x_in here free is comes_here copy is_cx is_cy moves was =
       let ack = ack_frame Y frame.key course in
       let more = moves-more apart.there moves in
@@ -169,11 +169,11 @@ module _ {X Y : End} {came : ℕ → Bool} {past : List PastFrame} {n : ℕ} {fr
 -- the newest fragment: where Y waits, this frame tells it that its message was taken
 pub talking_newest : {X Y : End} {talk : Talk} {cursor later : End → ℕ} {past : List PastFrame} {cx cy released : ℕ} {x y : Side} {rx ry : ReceiverValue}
     {fx fy : Bool} {tx ty k : ℕ} {course : FrameCourse} {frame : PastFrame} {answer : Taken} {whole : Bool}
-    → Apart X Y → Line X Y past cx cy released x y rx ry fx fy tx ty
+    → Apart X Y → LineAt X Y past cx cy released x y rx ry fx fy tx ty
     → cx < length past → at (cx + 1) past ≡ frame ∷ at cx past → (late_of X frame ≡ true → cx + 1 ≤ released) → IsDataOf X frame
     → comes frame.course ≡ true → Accepting X Y past cy (cx + 1) x y rx ry (frame.key) (frame.bytes) answer whole → piece_count (length y.message) ≤ k
-    → cursor X ≡ cx → cursor Y ≡ cy → Moves X Y cursor later → Talking X Y talk cursor past x y fx fy
-    → Talking X Y talk later (ack_frame Y (frame.key) course ∷ past) x (record y { acknowledged = k }) false false
+    → cursor X ≡ cx → cursor Y ≡ cy → Moves X Y cursor later → TalkingAt X Y talk cursor past x y fx fy
+    → TalkingAt X Y talk later (ack_frame Y (frame.key) course ∷ past) x (record y { acknowledged = k }) false false
 talking_newest {X} {Y} {talk} {later} {past} {cx} {y} {fx} {k} {course} {frame} apart line x_in here free is comes_here accepting idle is_cx is_cy moves was =
     let more = moves-more apart.there moves in
     let moved : later X ≡ cx + 1 = omega (arith, moves.moved, is_cx) in
@@ -244,7 +244,7 @@ ack_no_data X frame is = go (is_end X frame.from) frame.is_data (comes frame.cou
 module _ {X Y : End} {talk : Talk} {past : List PastFrame} {cx cy released : ℕ} {x y : Side} {rx ry : ReceiverValue} {tx ty : ℕ} where
   -- the acknowledgement of the waiting piece of Y tells it that this was taken
   known_now : (later : End → ℕ) {fx fy : Bool} {frame : PastFrame}
-      → Line X Y past cx cy released x y rx ry fx fy tx ty
+      → LineAt X Y past cx cy released x y rx ry fx fy tx ty
       → cx < length past → at (cx + 1) past ≡ frame ∷ at cx past → (late_of X frame ≡ true → cx + 1 ≤ released) → IsAckOf X frame
       → comes frame.course ≡ true → Waiting y → key_now y ≡ frame.key → later X ≡ cx + 1 → IsKnown Y X talk (came_by later past) past
   unfolding taken-reaches
@@ -259,10 +259,10 @@ module _ {X Y : End} {talk : Talk} {past : List PastFrame} {cx cy released : ℕ
 
   -- of its last piece
   pub talking_last_ack : {cursor later : End → ℕ} {fx fy : Bool} {frame : PastFrame}
-      → Apart X Y → Line X Y past cx cy released x y rx ry fx fy tx ty
+      → Apart X Y → LineAt X Y past cx cy released x y rx ry fx fy tx ty
       → cx < length past → at (cx + 1) past ≡ frame ∷ at cx past → (late_of X frame ≡ true → cx + 1 ≤ released) → IsAckOf X frame
       → comes frame.course ≡ true → Waiting y → key_now y ≡ frame.key → y.acknowledged + 1 ≡ piece_count (length y.message)
-      → cursor X ≡ cx → Moves X Y cursor later → Talking X Y talk cursor past x y fx fy → Talking X Y talk later past x (acknowledged y) fx false
+      → cursor X ≡ cx → Moves X Y cursor later → TalkingAt X Y talk cursor past x y fx fy → TalkingAt X Y talk later past x (acknowledged y) fx false
   talking_last_ack {later} {frame} apart line x_in here free is comes_here waits key last is_cx moves was =
       let passed = talking_passes apart is_cx moves here (ack_no_data X frame is) was in
       let known = known_now later line x_in here free is comes_here waits key (omega (arith, moves.moved, is_cx)) in
@@ -275,11 +275,11 @@ module _ {X Y : End} {talk : Talk} {past : List PastFrame} {cx cy released : ℕ
 
   -- of another piece: the next one goes
   pub talking_next_piece : {cursor later : End → ℕ} {fx fy : Bool} {frame : PastFrame} {course : FrameCourse}
-      → Apart X Y → Line X Y past cx cy released x y rx ry fx fy tx ty
+      → Apart X Y → LineAt X Y past cx cy released x y rx ry fx fy tx ty
       → cx < length past → at (cx + 1) past ≡ frame ∷ at cx past → (late_of X frame ≡ true → cx + 1 ≤ released) → IsAckOf X frame
       → comes frame.course ≡ true → Waiting y → key_now y ≡ frame.key → y.acknowledged + 1 < piece_count (length y.message)
-      → cursor X ≡ cx → cursor Y ≡ cy → Moves X Y cursor later → Talking X Y talk cursor past x y fx fy
-      → Talking X Y talk later (data_frame Y (key_now (acknowledged y)) ((part_now (acknowledged y)).bytes) course ∷ past) x (acknowledged y) false true
+      → cursor X ≡ cx → cursor Y ≡ cy → Moves X Y cursor later → TalkingAt X Y talk cursor past x y fx fy
+      → TalkingAt X Y talk later (data_frame Y (key_now (acknowledged y)) ((part_now (acknowledged y)).bytes) course ∷ past) x (acknowledged y) false true
   talking_next_piece {later} {frame} {course} apart line x_in here free is comes_here waits key more is_cx is_cy moves was =
       let next = key_now (acknowledged y) in
       let bytes = (part_now (acknowledged y)).bytes in
@@ -304,12 +304,12 @@ module _ {X Y : End} {talk : Talk} {past : List PastFrame} {cx cy released : ℕ
   -- ---- a new message
 
   pub talking_starts : {cursor : End → ℕ} {id : ℕ} {message : List ℕ} {course : FrameCourse}
-      → Apart X Y → Line X Y past cx cy released x y rx ry false false tx ty → (Waiting x → ⊥) → (id ≡ x.id → ⊥)
+      → Apart X Y → LineAt X Y past cx cy released x y rx ry false false tx ty → (Waiting x → ⊥) → (id ≡ x.id → ⊥)
       → id ≡ session_id (count_messages X talk)
       → IfAnswers (answered_by X (count_messages X talk)) talk (came_by cursor past) past
       → (Waiting y → (0 < count_messages Y talk) × (answer_to Y (count_messages Y talk - 1) ≡ Some (count_messages X talk)))
-      → cursor X ≡ cx → cursor Y ≡ cy → Talking X Y talk cursor past x y false false
-      → Talking X Y (say X message talk) cursor (data_frame X (key_now (beginning id message)) ((part_now (beginning id message)).bytes) course ∷ past)
+      → cursor X ≡ cx → cursor Y ≡ cy → TalkingAt X Y talk cursor past x y false false
+      → TalkingAt X Y (say X message talk) cursor (data_frame X (key_now (beginning id message)) ((part_now (beginning id message)).bytes) course ∷ past)
       (beginning id message) y true false
   talking_starts {cursor} {id} {message} {course} apart line idle other id_is answers turn is_cx is_cy was =
       let key = key_now (beginning id message) in
@@ -362,7 +362,7 @@ module _ {X Y : End} {talk : Talk} {cursor : End → ℕ} {past : List PastFrame
 
   talking_again : {y : Side} {fx fy : Bool} {key : Key} {bytes : List ℕ} {course : FrameCourse}
       → Apart X Y → first (said X past) ≡ Some key → run X past < 10 → cursor X ≤ length past → cursor Y ≤ length past
-      → Talking X Y talk cursor past x y fx fy → Talking X Y talk cursor (data_frame X key bytes course ∷ past) x y fx fy
+      → TalkingAt X Y talk cursor past x y fx fy → TalkingAt X Y talk cursor (data_frame X key bytes course ∷ past) x y fx fy
   talking_again {key} {bytes} {course} apart newest_is few x_in y_in was =
       let no_data = data-frame-other X Y key bytes course apart.back in
       record {
@@ -376,23 +376,23 @@ module _ {X Y : End} {talk : Talk} {cursor : End → ℕ} {past : List PastFrame
       }
 
   pub talking_turned : {y : Side} {fx fy : Bool}
-      → Talking X Y talk cursor past x y fx fy → Talking Y X talk cursor past y x fy fx
+      → TalkingAt X Y talk cursor past x y fx fy → TalkingAt Y X talk cursor past y x fy fx
   talking_turned was = search rules
 
 -- where X alone waits
 module _ {X Y : End} {talk : Talk} {cursor : End → ℕ} {past : List PastFrame} {cx cy released : ℕ} {x y : Side} {rx ry : ReceiverValue} {fx fy : Bool}
     {tx ty : ℕ} {course : FrameCourse} where
-  pub talking_tick_one : Apart X Y → Line X Y past cx cy released x y rx ry fx fy tx ty → Waiting x → tx < 10 → cursor X ≡ cx → cursor Y ≡ cy
-      → Talking X Y talk cursor past x y fx fy → Talking X Y talk cursor (data_frame X (key_now x) ((part_now x).bytes) course ∷ past) x y fx fy
+  pub talking_tick_one : Apart X Y → LineAt X Y past cx cy released x y rx ry fx fy tx ty → Waiting x → tx < 10 → cursor X ≡ cx → cursor Y ≡ cy
+      → TalkingAt X Y talk cursor past x y fx fy → TalkingAt X Y talk cursor (data_frame X (key_now x) ((part_now x).bytes) course ∷ past) x y fx fy
   talking_tick_one apart line waits few is_cx is_cy was =
       talking_again apart (line.core.x_speaks.newest waits) (omega (arith, line.x_knows.run_is waits, few)) (omega (arith, is_cx, line.core.there.cur_in))
       (omega (arith, is_cy, line.core.back.cur_in)) was
 
   -- where both wait: X sends, then Y
   pub talking_tick_two : {other : FrameCourse}
-      → Apart X Y → Line X Y past cx cy released x y rx ry fx fy tx ty → Waiting x → Waiting y → tx < 10 → ty < 10 → cursor X ≡ cx → cursor Y ≡ cy
-      → Talking X Y talk cursor past x y fx fy
-      → Talking X Y talk cursor (data_frame Y (key_now y) ((part_now y).bytes) other ∷ data_frame X (key_now x) ((part_now x).bytes) course ∷ past) x y fx fy
+      → Apart X Y → LineAt X Y past cx cy released x y rx ry fx fy tx ty → Waiting x → Waiting y → tx < 10 → ty < 10 → cursor X ≡ cx → cursor Y ≡ cy
+      → TalkingAt X Y talk cursor past x y fx fy
+      → TalkingAt X Y talk cursor (data_frame Y (key_now y) ((part_now y).bytes) other ∷ data_frame X (key_now x) ((part_now x).bytes) course ∷ past) x y fx fy
   talking_tick_two apart line wx wy few_x few_y is_cx is_cy was =
       let mid = data_frame X (key_now x) ((part_now x).bytes) course ∷ past in
       let one = talking_tick_one apart line wx few_x is_cx is_cy was in

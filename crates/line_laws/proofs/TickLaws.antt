@@ -1,7 +1,7 @@
 -- The tick: both timers run where their ends wait.
 use Rattle.line_laws.proofs.Names.{common_steps, rules, ◌≡◌, ℕ, zero, suc, ◌+◌, ◌*◌, ◌-◌, ◌<◌, ◌≤◌, Bool, true, false, List, ◌∷◌, length, ap, subst, arith, inl}
 use Rattle.line_laws.proofs.Names.{inr, Key, ReceiverValue, faulted, late_of, data_comes, count, FrameCourse, PastFrame, is_end, said, acked, at, is_data_of, End, load}
-use Rattle.line_laws.proofs.Names.{RepeatBudget, HeldBudget, HeldUp, TryBudget, EndTime, Apart, Counts, Side, Waiting, key_now, part_now, Core, data_frame, Progress}
+use Rattle.line_laws.proofs.Names.{RepeatBudget, HeldBudget, HeldUp, TryBudget, EndTime, Apart, Counts, Side, Waiting, key_now, part_now, CoreAt, data_frame, Progress}
 use Rattle.line_laws.proofs.Names.{IsBlocked}
 use Rattle.line_laws.proofs.PastLaws.{at_all, at_push}
 use Rattle.line_laws.proofs.CountLaws.{follows-length}
@@ -118,7 +118,7 @@ module _ {X Y : End} {frame : PastFrame} {past : List PastFrame} {tick : ℕ} wh
 -- ---- the whole tick
 
 pub repeats_of : {X Y : End} {past : List PastFrame} {cx cy : ℕ} {x y : Side} {rx ry : ReceiverValue} {fx fy : Bool} {course : FrameCourse} → Apart X Y
-    → Core X Y past cx cy x y rx ry fx fy → Waiting x → Repeats X Y (data_frame X (key_now x) ((part_now x).bytes) course) past
+    → CoreAt X Y past cx cy x y rx ry fx fy → Waiting x → Repeats X Y (data_frame X (key_now x) ((part_now x).bytes) course) past
 repeats_of apart core waits = grind (arith, common_steps)
 
 pub len : {s t : List Key} → s ≡ t → length s ≡ length t
@@ -154,10 +154,10 @@ sent_load {X} {Y} {frame} {past} repeat x_in y_in = load_sent X Y frame past x_i
 
 -- only X waits
 pub tick_one : {X Y : End} {past : List PastFrame} {cx cy released : ℕ} {x y : Side} {rx ry : ReceiverValue} {fx fy : Bool} {tx ty : ℕ} {course : FrameCourse}
-    → Apart X Y → Core X Y past cx cy x y rx ry fx fy → EndTime X Y past cx cy released x tx → EndTime Y X past cy cx released y ty
+    → Apart X Y → CoreAt X Y past cx cy x y rx ry fx fy → EndTime X Y past cx cy released x tx → EndTime Y X past cy cx released y ty
     → released ≤ length past
     → IsBlocked X past cx released → IsBlocked Y past cy released → Waiting x → (Waiting y → ⊥)
-    → Core X Y (data_frame X (key_now x) ((part_now x).bytes) course ∷ past) cx cy x y rx ry fx fy
+    → CoreAt X Y (data_frame X (key_now x) ((part_now x).bytes) course ∷ past) cx cy x y rx ry fx fy
     × EndTime X Y (data_frame X (key_now x) ((part_now x).bytes) course ∷ past) cx cy (length past) x (suc tx)
     × EndTime Y X (data_frame X (key_now x) ((part_now x).bytes) course ∷ past) cy cx (length past) y ty
 tick_one {X} {Y} {past} {cx} {cy} {released} {x} {tx} {course} apart core x_time y_time inside bx by waits idle =
@@ -197,10 +197,10 @@ tick_one {X} {Y} {past} {cx} {cy} {released} {x} {tx} {course} apart core x_time
 
 -- both wait: X sends, then Y
 pub tick_two : {X Y : End} {past : List PastFrame} {cx cy released : ℕ} {x y : Side} {rx ry : ReceiverValue} {fx fy : Bool} {tx ty : ℕ} {course other : FrameCourse}
-    → Apart X Y → Core X Y past cx cy x y rx ry fx fy → EndTime X Y past cx cy released x tx → EndTime Y X past cy cx released y ty
+    → Apart X Y → CoreAt X Y past cx cy x y rx ry fx fy → EndTime X Y past cx cy released x tx → EndTime Y X past cy cx released y ty
     → released ≤ length past
     → IsBlocked X past cx released → IsBlocked Y past cy released → Waiting x → Waiting y
-    → Core Y X (data_frame Y (key_now y) ((part_now y).bytes) other ∷ data_frame X (key_now x) ((part_now x).bytes) course ∷ past) cy cx y x ry rx fy fx
+    → CoreAt Y X (data_frame Y (key_now y) ((part_now y).bytes) other ∷ data_frame X (key_now x) ((part_now x).bytes) course ∷ past) cy cx y x ry rx fy fx
     × EndTime X Y (data_frame Y (key_now y) ((part_now y).bytes) other ∷ data_frame X (key_now x) ((part_now x).bytes) course ∷
     past) cx cy (length past) x (suc tx)
     × EndTime Y X (data_frame Y (key_now y) ((part_now y).bytes) other ∷ data_frame X (key_now x) ((part_now x).bytes) course ∷

@@ -1,6 +1,6 @@
 -- Whose turn it is, the first state, the last try, and the acknowledgements that were taken.
 use Rattle.line_laws.proofs.Names.{rules, ◌≡◌, ℕ, ◌+◌, ◌-◌, ◌<◌, ◌≤◌, Bool, true, false, List, ◌∷◌, length, sym, ap, ◌∙◌, arith, inl, inr, Key, piece_count}
-use Rattle.line_laws.proofs.Names.{ReceiverValue, faulted, count, PastFrame, first, data_of, said, acked, at, End, EndTime, Side, Waiting, taken_count, Core, IsBlocked}
+use Rattle.line_laws.proofs.Names.{ReceiverValue, faulted, count, PastFrame, first, data_of, said, acked, at, End, EndTime, Side, Waiting, taken_count, CoreAt, IsBlocked}
 use Rattle.line_laws.proofs.Names.{NoAck, IsAcknowledged}
 use Rattle.line_laws.proofs.PastLaws.{at_push, keys_below}
 use Rattle.line_laws.proofs.BudgetLaws.{ten_faults}
@@ -28,7 +28,7 @@ active_goes_on false active none = active.due
 -- ---- the first state and the last try
 
 pub tenth_try : {X Y : End} {past : List PastFrame} {cx cy released : ℕ} {x y : Side} {rx ry : ReceiverValue} {fx fy : Bool}
-    → Core X Y past cx cy x y rx ry fx fy → EndTime X Y past cx cy released x 10 → Waiting x → IsBlocked X past cx released → IsBlocked Y past cy released
+    → CoreAt X Y past cx cy x y rx ry fx fy → EndTime X Y past cx cy released x 10 → Waiting x → IsBlocked X past cx released → IsBlocked Y past cy released
     → (f : ℕ) × (0 < f) × (length past < f + 53) × (10 + count faulted (at (f - 1) past) ≤ count faulted past)
 tenth_try core time waits bx by = ten_faults core.back (time.progress waits) bx by (time.tried waits)
 

@@ -90,20 +90,37 @@ pub record Answering (fresh : Bool) (x y : Side) : Type 0 where
   pub begins : x.acknowledged ≡ 0
   pub ends : y.acknowledged + 1 ≡ piece_count (length y.message)
 
--- Both ends: the frames so far, up to which frame those of each end were taken off the line, what
--- both send and receive, and whether their newest
--- fragment wasn't
--- taken yet.
-pub record Core (X Y : End) (past : List PastFrame) (cx cy : ℕ) (x y : Side) (rx ry : ReceiverValue)
-    (fx fy : Bool) : Type 0 where
-  pub there : Counts X Y past fx cx
-  pub back : Counts Y X past fy cy
-  pub x_speaks : Speaks X past fx x
-  pub y_speaks : Speaks Y past fy y
-  pub y_hears : Hears Y past fx x ry
-  pub x_hears : Hears X past fy y rx
-  pub one : fx ≡ true → fy ≡ false
-  pub both : Waiting x → Waiting y → Answering fx x y ⊎ Answering fy y x
+-- what an end sends, and whether its newest fragment wasn't taken yet
+pub record Speaker : Type 0 where
+  pub side : Side
+  pub fresh : Bool
+
+abbrev pub speaker : Side → Bool → Speaker
+speaker side fresh = record { side = side; fresh = fresh }
+
+-- an end on the line: what it sends, up to which frame its own were taken off the line, and what it
+-- receives
+pub record Station : Type 0 where
+  pub speaker : Speaker
+  pub taken : ℕ
+  pub receiver : ReceiverValue
+
+abbrev pub station : Speaker → ℕ → ReceiverValue → Station
+station sends taken receiver =
+    record { speaker = sends; taken = taken; receiver = receiver }
+
+-- both ends, and the frames so far
+pub record Core (X Y : End) (past : List PastFrame) (x y : Station) : Type 0 where
+  pub there : Counts X Y past x.speaker.fresh x.taken
+  pub back : Counts Y X past y.speaker.fresh y.taken
+  pub x_speaks : Speaks X past x.speaker.fresh x.speaker.side
+  pub y_speaks : Speaks Y past y.speaker.fresh y.speaker.side
+  pub y_hears : Hears Y past x.speaker.fresh x.speaker.side y.receiver
+  pub x_hears : Hears X past y.speaker.fresh y.speaker.side x.receiver
+  pub one : x.speaker.fresh ≡ true → y.speaker.fresh ≡ false
+  pub both : Waiting x.speaker.side → Waiting y.speaker.side
+      → Answering x.speaker.fresh x.speaker.side y.speaker.side
+      ⊎ Answering y.speaker.fresh y.speaker.side x.speaker.side
 
 -- the frames that are pushed
 abbrev pub data_frame : End → Key → List ℕ → FrameCourse → PastFrame

@@ -10,7 +10,7 @@ use Rattle.trace_text.specs.Talks.{Talk, messages_of, pieces_before, answer_to}
 use Rattle.trace_text.specs.declared.frame.End.{End}
 use Rattle.trace_text.specs.declared.frame.End.TheVariants.{Handheld, Desktop}
 use Rattle.line_laws.specs.Came.{came_by, AcksMatch}
-use Rattle.line_laws.specs.Core.{Side, Waiting}
+use Rattle.line_laws.specs.Core.{Side, Speaker, Waiting}
 
 -- how many pieces of its message an end hasn't begun yet
 abbrev pub left : Side → ℕ
@@ -73,12 +73,13 @@ AnswersIt X Y talk fresh x y =
     → (0 < count_messages X talk) × (0 < count_messages Y talk)
     × (answer_to Y (count_messages Y talk - 1) ≡ Some (count_messages X talk - 1))
 
-pub record Talking (X Y : End) (talk : Talk) (cursor : End → ℕ) (past : List PastFrame) (x y : Side)
-    (fx fy : Bool) : Type 0 where
-  pub x_speech : Speech X Y talk cursor past x
-  pub y_speech : Speech Y X talk cursor past y
-  pub x_answers : AnswersIt X Y talk fx x y
-  pub y_answers : AnswersIt Y X talk fy y x
+-- what both ends sent of the messages of a talk
+pub record Talking (X Y : End) (talk : Talk) (cursor : End → ℕ) (past : List PastFrame)
+    (x y : Speaker) : Type 0 where
+  pub x_speech : Speech X Y talk cursor past x.side
+  pub y_speech : Speech Y X talk cursor past y.side
+  pub x_answers : AnswersIt X Y talk x.fresh x.side y.side
+  pub y_answers : AnswersIt Y X talk y.fresh y.side x.side
 
 -- the cursor of X moves past one frame, and that of Y doesn't
 pub record Moves (X Y : End) (cursor later : End → ℕ) : Type 0 where

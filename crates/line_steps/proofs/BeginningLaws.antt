@@ -2,7 +2,7 @@
 use Rattle.line_steps.proofs.Names.{rules, ◌≡◌, ℕ, zero, suc, ◌-◌, ◌<◌, ◌≤◌, true, false, List, [], ◌∷◌, length, Some, None, refl, sym, ap, subst, ◌∙◌}
 use Rattle.line_steps.proofs.Names.{arith, inl, inr, ◌&&◌, Key, piece_count, Waits, End, Handheld, Desktop, FateValue, course_of, PastFrame, first, said}
 use Rattle.line_steps.proofs.Names.{acked, EndReached, IfAnswers, Talk, messages_of, pieces_before, answered_by, answer_to, came_by, Apart, Side, Waiting}
-use Rattle.line_steps.proofs.Names.{key_now, part_now, data_frame, left, count_messages, say, Speech, Talking, first_is, running_starts, turned, beginning}
+use Rattle.line_steps.proofs.Names.{key_now, part_now, data_frame, left, count_messages, say, Speech, TalkingAt, first_is, running_starts, turned, beginning}
 use Rattle.line_steps.proofs.Names.{end_taken, talking_starts, talking_tick_one, talking_tick_two, Half, Wire, past_now, side_of, Holds, Sends, cursor_of}
 use Rattle.line_steps.proofs.Names.{TellsTalk, Talks, IsInTurn, IsNextTo, SendsAgain, Turn, HeardOf}
 use Rattle.line_laws.proofs.StepLaws.{again as once_more}
@@ -89,7 +89,7 @@ starts-told {talk} {wire} {x} {y} {id} message given turn different awaited none
   side : Side
   side = beginning id message
 
-  talking : Talking x.end y.end talk (cursor_of x y) (past_now wire.frames.items) (side_of x) (side_of y) false false
+  talking : TalkingAt x.end y.end talk (cursor_of x y) (past_now wire.frames.items) (side_of x) (side_of y) false false
   talking = talking_as turn.settled.line.core.there.follows turn.settled.line.core.back.follows talks
 
   x_before : HeardOf x.end (past_now wire.frames.items) x.taken false (side_of x)

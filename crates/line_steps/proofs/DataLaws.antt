@@ -3,7 +3,7 @@ use Rattle.line_steps.proofs.Names.{rules, ◌≡◌, ◌⊎◌, ℕ, ◌+◌, �
 use Rattle.line_steps.proofs.Names.{inl, inr, both_ways, and_parts, eqb-true, PadpKind, Data, Tickle, Abort, Key, Taken, Accepted, Whole, Repeated, Dropped}
 use Rattle.line_steps.proofs.Names.{data_fragment, IsFragment, piece_count, ReceiverValue, Answers, after_answer, SenderValue, Waits, WaitsOnLast}
 use Rattle.line_steps.proofs.Names.{ack-IsFragment, End, FateValue, is_data_kind, fragment_in, course_of, PastFrame, is_end, first, said, acked, at, data_of}
-use Rattle.line_steps.proofs.Names.{frame_value, Side, Follows, Core, ack_frame, Line, keys_apart, at_push, said_ack, IsCopy, IsNewest, pending_data, AfterData}
+use Rattle.line_steps.proofs.Names.{frame_value, Side, Follows, CoreAt, ack_frame, LineAt, keys_apart, at_push, said_ack, IsCopy, IsNewest, pending_data, AfterData}
 use Rattle.line_steps.proofs.Names.{Accepting, take_data, running_copy, running_newest, Half, Wire, sent_of, past_now, side_of, Holds, Sends, ack_fragment}
 use Rattle.line_steps.proofs.Names.{DataHeard, IsAllTaken, Turn}
 use Rattle.padp_link.specs.declared.fragment.PadpKind.TheVariants.{Ack}
@@ -22,7 +22,7 @@ newest_was_new {X} {past} true {frame} follows newest copy =
     keys_apart (data_of X) past follows.1 (copy ∙ sym e)
 
 pub copy_is : {X Y : End} {past : List PastFrame} {cx cy : ℕ} {x y : Side} {rx ry : ReceiverValue} {fx fy : Bool} {n : ℕ} {frame : PastFrame} {older : List PastFrame}
-    → Core X Y past cx cy x y rx ry fx fy → cx ≤ n → n ≤ length past → at n past ≡ frame ∷ older → (is_end X frame.from && frame.is_data) ≡ true
+    → CoreAt X Y past cx cy x y rx ry fx fy → cx ≤ n → n ≤ length past → at n past ≡ frame ∷ older → (is_end X frame.from && frame.is_data) ≡ true
     → ry.last ≡ Some frame.key → IsCopy X Y frame n past
 copy_is {fx} core from inside here is last = elim (pending_data fx core.there from inside here is) [
   | inl copy ↦ copy
@@ -103,7 +103,7 @@ copied {wire} {new} {x} {y} {key} {given} heard sends released =
     let last : heard.before.last ≡ Some sent.key = heard.answers ∙ ap Some (sym heard.key_is) in
     let copy = copy_is holds.line.core (omega arith) (omega (arith, at_head.inside)) at_head.here heard.is last in
     let line = running_copy holds.apart holds.line at_head.inside at_head.here at_head.late heard.is heard.next.comes_here copy in
-    let keyed = subst (λ k. Line x.end y.end (ack_frame y.end k (course_of given) ∷ past) (x.taken + 1) y.taken wire.released (side_of x) (side_of y) x.receiver
+    let keyed = subst (λ k. LineAt x.end y.end (ack_frame y.end k (course_of given) ∷ past) (x.taken + 1) y.taken wire.released (side_of x) (side_of y) x.receiver
     heard.before holds.fx holds.fy x.sender.tries y.sender.tries) heard.key_is line in
     subst (λ r. Holds new (moved x) (record y { receiver = r })) (sym heard.after) (record {
       apart = holds.apart;
@@ -131,7 +131,7 @@ module _ {wire new : Wire} {x y : Half} {key : Key} {sender : SenderValue} where
       let k = sender.acknowledged in
       let over : piece_count (length y.message) ≤ k = subst (λ n. piece_count n ≤ k) (ap (λ s. s.length) rest ∙ holds.y_half.length_is) idle in
       let line = running_newest holds.apart holds.line at_head.inside at_head.here at_head.late heard.is heard.next.comes_here accepting over in
-      let keyed = subst (λ key. Line x.end y.end (ack_frame y.end key (course_of given) ∷ past) (x.taken + 1) y.taken wire.released (side_of x)
+      let keyed = subst (λ key. LineAt x.end y.end (ack_frame y.end key (course_of given) ∷ past) (x.taken + 1) y.taken wire.released (side_of x)
       (record (side_of y) { acknowledged = k }) x.receiver (after_answer heard.before key.id (data_fragment key sent.bytes) taken) false false x.sender.tries
       y.sender.tries) heard.key_is line in
       subst (λ s. IsAllTaken new (moved x) (record y { sender = s })) (sym rest)

@@ -2,7 +2,7 @@
 use Rattle.line_steps.proofs.Names.{common_steps, ◌≡◌, ℕ, ◌+◌, ◌-◌, ◌≤◌, Bool, true, false, ◌&&◌, List, ◌∷◌, length, map, Some, None, sym, ap, subst, ◌∙◌}
 use Rattle.line_steps.proofs.Names.{arith, inl, inr, eqb-true, eq-eqb, Key, Taken, Accepted, Whole, Repeated, Dropped, data_fragment, taken_pieces, piece_count}
 use Rattle.line_steps.proofs.Names.{piece_of, ReceiverValue, Answers, after_answer, whole_of, SenderValue, is_complete-pieces, whole_of-held, End, Frame}
-use Rattle.line_steps.proofs.Names.{FateValue, frame_value, PastFrame, is_end, said, at, Side, Waiting, key_now, part_now, Awaits, Core, pending_data, takes, Half}
+use Rattle.line_steps.proofs.Names.{FateValue, frame_value, PastFrame, is_end, said, at, Side, Waiting, key_now, part_now, Awaits, CoreAt, pending_data, takes, Half}
 use Rattle.line_steps.proofs.Names.{Wire, EndsAcknowledging, last_key, sent_of, past_now, side_of, Sends, ack_fragment, DataHeard, TurnAfter}
 use Rattle.line_laws.specs.Core.{Hears}
 use Rattle.line_steps.proofs.HoldsLaws.{moved}
@@ -16,7 +16,7 @@ awaits_of false hears is waits = absurd cc
 
 -- data that wasn't taken before bears the waiting piece
 part_of_new : {X Y : End} {past : List PastFrame} {cx cy : ℕ} {x y : Side} {rx ry : ReceiverValue} {fx fy : Bool} {n : ℕ} {frame : PastFrame} {older : List PastFrame}
-    → Core X Y past cx cy x y rx ry fx fy → cx ≤ n → n ≤ length past → at n past ≡ frame ∷ older → (is_end X frame.from && frame.is_data) ≡ true
+    → CoreAt X Y past cx cy x y rx ry fx fy → cx ≤ n → n ≤ length past → at n past ≡ frame ∷ older → (is_end X frame.from && frame.is_data) ≡ true
     → (ry.last ≡ Some frame.key → ⊥) → Waiting x
     → frame.bytes ≡ (part_now x).bytes
 part_of_new {X} {fx} {n} {frame} {older} core from inside here is new waits = elim (pending_data fx core.there from inside here is) [

@@ -1,7 +1,7 @@
 -- A line is down only behind ten faults.
 use Rattle.line_steps.proofs.Names.{rules, Result, Ok, Err, IfErr, if◌then◌else◌, cases_lt, ◌≡◌, ℕ, ◌+◌, ◌-◌, ◌<◌, ◌≤◌, Bool, true, false, ◌&&◌, List, ◌∷◌}
 use Rattle.line_steps.proofs.Names.{length, Some, refl, ◌∙◌, ap, subst, arith, inl, inr, Waits, End, FateValue, faulted, count, PastFrame, first, said, run, at}
-use Rattle.line_steps.proofs.Names.{is_data_of, Line, IsBlocked, at_push, has_ten_faults, Half, Wire, TenFaults, IsSpent, other_end, past_now, side_of, Holds}
+use Rattle.line_steps.proofs.Names.{is_data_of, LineAt, IsBlocked, at_push, has_ten_faults, Half, Wire, TenFaults, IsSpent, other_end, past_now, side_of, station_of, Holds}
 use Rattle.line_steps.proofs.Names.{Apart, key_now, part_now, NoAck, run_other, said_data-other, no_ack-push, Key, course_of, Handheld, Desktop, cursors}
 use Rattle.line_steps.proofs.Names.{cursor_of}
 use Rattle.std.specs.Prelude.{drop}
@@ -21,9 +21,9 @@ found : {wire : Wire} {x y : Half} → Holds wire x y → IsBlocked x.end (past_
     → IsBlocked y.end (past_now wire.frames.items) y.taken wire.released → Waits x.sender → x.sender.tries ≡ 10 → Found (past_now wire.frames.items)
 found {wire} {x} {y} holds x_blocked y_blocked waits spent =
     let past = past_now wire.frames.items in
-    let line = subst (λ t. Line x.end y.end past x.taken y.taken wire.released (side_of x) (side_of y) x.receiver y.receiver holds.fx holds.fy t
+    let line = subst (λ t. LineAt x.end y.end past x.taken y.taken wire.released (side_of x) (side_of y) x.receiver y.receiver holds.fx holds.fy t
     y.sender.tries) spent holds.line in
-    has_ten_faults x.end y.end past x.taken y.taken wire.released (side_of x) (side_of y) x.receiver y.receiver holds.fx holds.fy y.sender.tries line
+    has_ten_faults x.end y.end past wire.released (station_of x holds.fx) (station_of y holds.fy) y.sender.tries line
     (waits_now holds.x_half waits) x_blocked y_blocked
 
 ten : (past : List PastFrame) → Found past → TenFaults past

@@ -1,6 +1,6 @@
 -- A frame is marked: nothing else of it changes, nor of what is told of the line.
 use Rattle.line_steps.proofs.Names.{◌≡◌, ℕ, zero, suc, ◌⊎◌, ◌+◌, ◌<◌, ◌≤◌, true, List, [], ◌∷◌, length, map, Some, refl, sym, ap, subst, ◌∙◌, slice_get}
-use Rattle.line_steps.proofs.Names.{slice_set, Frame, add_frame, past_behind, piece_count, PastFrame, said, acked, at, Talk, frame_value, Line, measure, Half, Wire}
+use Rattle.line_steps.proofs.Names.{slice_set, Frame, add_frame, past_behind, piece_count, PastFrame, said, acked, at, Talk, frame_value, LineAt, measure, Half, Wire}
 use Rattle.line_steps.proofs.Names.{Heard, marked, Marks, past_now, side_of, AllGo, Holds, AllTaken, Delivers, cursor_of, TellsTalk, Talks, Underway}
 use Rattle.line_steps.proofs.Names.{StillUnderway, work_left}
 
@@ -55,9 +55,9 @@ module _ {n : ℕ} {wire new : Wire} where
     go = subst (AllGo 1) (sym marks.frames_are) (go_marked 1 n wire.frames.items holds.go);
     x_half = holds.x_half;
     y_half = holds.y_half;
-    line = subst (λ r. Line x.end y.end (past_now new.frames.items) x.taken y.taken r (side_of x) (side_of y) x.receiver y.receiver holds.fx holds.fy
+    line = subst (λ r. LineAt x.end y.end (past_now new.frames.items) x.taken y.taken r (side_of x) (side_of y) x.receiver y.receiver holds.fx holds.fy
         x.sender.tries y.sender.tries) (sym marks.released_is)
-        (subst (λ p. Line x.end y.end p x.taken y.taken wire.released (side_of x) (side_of y) x.receiver y.receiver holds.fx holds.fy x.sender.tries
+        (subst (λ p. LineAt x.end y.end p x.taken y.taken wire.released (side_of x) (side_of y) x.receiver y.receiver holds.fx holds.fy x.sender.tries
         y.sender.tries) (sym (past-marks marks)) holds.line);
   }
 

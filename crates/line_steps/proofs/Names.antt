@@ -23,13 +23,13 @@ pub use Rattle.line_laws.proofs.TraceLaws.{faults_push, other_no_repeat}
 pub use Rattle.line_laws.proofs.TurnLaws.{Active, active_begun, active_goes_on, active_taken, no_ack-push}
 pub use Rattle.line_laws.proofs.UnsaidLaws.{parts-from, parts-say, unsaid-none}
 pub use Rattle.line_laws.specs.Came.{came_by, data_taken, is_taken}
-pub use Rattle.line_laws.specs.Core.{Apart, Awaits, Core, Follows, Side, Waiting, ack_frame, data_frame, key_now, part_now}
+pub use Rattle.line_laws.specs.Core.{Apart, Awaits, Follows, Side, Waiting, ack_frame, data_frame, key_now, part_now}
 pub use Rattle.line_laws.specs.Framing.{CameByCursor, IsNoAbort, PassesFrame}
 pub use Rattle.line_laws.specs.Hearing.{heard}
-pub use Rattle.line_laws.specs.Line.{Line}
+pub use Rattle.line_laws.proofs.Places.{CoreAt, LineAt, TalkingAt}
 pub use Rattle.line_laws.specs.Measure.{measure}
 pub use Rattle.line_laws.specs.Progress.{IsBlocked}
-pub use Rattle.line_laws.specs.Talking.{Moves, Speech, Talking, count_messages, left, part_at, say, unsaid}
+pub use Rattle.line_laws.specs.Talking.{Moves, Speech, count_messages, left, part_at, say, unsaid}
 pub use Rattle.line_laws.specs.Trace.{AcksFollow, NoAck}
 pub use Rattle.line_script.specs.Rules.{RuleValue}
 pub use Rattle.line_script.specs.Scripts.{fate_by}
@@ -43,7 +43,7 @@ pub use Rattle.line_steps.specs.Hearing.{Hears, counted, tally_after}
 pub use Rattle.line_steps.specs.Marking.{Marks}
 pub use Rattle.line_steps.specs.Promising.{FairIsNeverDown, HaltedIsProper, HaltedTells, RunningIsProper, TellsOf, TurnTellsAll}
 pub use Rattle.line_steps.specs.Resting.{IsNew}
-pub use Rattle.line_steps.specs.Running.{AllGo, AtHead, ComesNext, Goes, MovesReceiver, Holds, IsHalf, MovesCursor, MovesReader, SamePlace, Stays, past_now, sent_of, side_of}
+pub use Rattle.line_steps.specs.Running.{AllGo, AtHead, ComesNext, Goes, MovesReceiver, Holds, IsHalf, MovesCursor, MovesReader, SamePlace, Stays, past_now, sent_of, side_of, station_of}
 pub use Rattle.line_steps.specs.Sending.{Halts, Sends, StopsBy, ack_fragment, in_place}
 pub use Rattle.line_steps.specs.Settling.{AllTaken}
 pub use Rattle.line_steps.specs.Stories.{HeardOf, TookMessages, part_of_now, told_from}

@@ -1,7 +1,7 @@
 -- What one more frame makes of the past.
 use Rattle.line_steps.proofs.Names.{rules, ◌≡◌, ℕ, ◌+◌, Bool, List, ◌∷◌, length, Option, None, sym, ap, subst, ◌∙◌, arith, packet_at, FragmentValue}
 use Rattle.line_steps.proofs.Names.{FragmentText, fragment_text, key_of, ReceiverValue, End, Frame, FateValue, fate_value, ends_run, BearsFragment, MayBear}
-use Rattle.line_steps.proofs.Names.{is_data_kind, fragment_in, fields_of, padp_packet, course_of, PastFrame, frame_value, Side, Line, Wire, sent_of, past_now, Goes}
+use Rattle.line_steps.proofs.Names.{is_data_kind, fragment_in, fields_of, padp_packet, course_of, PastFrame, frame_value, Side, LineAt, Wire, sent_of, past_now, Goes}
 use Rattle.line_steps.proofs.Names.{AllGo, Sends, in_place, Stop}
 use Rattle.line_steps.proofs.BytesLaws.{packet_of, packet_again, fields_again}
 use Rattle.line_steps.proofs.FrameLaws.{past_push, go_push}
@@ -80,6 +80,6 @@ extends wire new from id fragment given go sends may released =
     }
 
 pub lined : {X Y : End} {wire new : Wire} {sent : PastFrame} {cx cy : ℕ} {x y : Side} {rx ry : ReceiverValue} {fx fy : Bool} {tx ty : ℕ} → Extends wire new sent
-    → Line X Y (sent ∷ past_now wire.frames.items) cx cy wire.released x y rx ry fx fy tx ty
-    → Line X Y (past_now new.frames.items) cx cy new.released x y rx ry fx fy tx ty
+    → LineAt X Y (sent ∷ past_now wire.frames.items) cx cy wire.released x y rx ry fx fy tx ty
+    → LineAt X Y (past_now new.frames.items) cx cy new.released x y rx ry fx fy tx ty
 lined more line = search rules

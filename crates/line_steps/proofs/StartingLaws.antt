@@ -1,7 +1,7 @@
 -- A message begins, and a waiting piece goes again, over the values of the program.
 use Rattle.line_steps.proofs.Names.{rules, ◌≡◌, ◌⊎◌, ℕ, suc, ◌+◌, ◌<◌, ◌≤◌, true, false, List, [], ◌∷◌, length, Some, None, sym, ap, subst, ◌∙◌, arith}
 use Rattle.line_steps.proofs.Names.{inl, inr, slice_get, and_parts, and_from, SenderValue, Waits, End, Frame, FateValue, fate_value, is_late, course_of}
-use Rattle.line_steps.proofs.Names.{is_end, at, Waiting, key_now, part_now, data_frame, Line, IsBlocked, beginning, running_starts, running_tick_one}
+use Rattle.line_steps.proofs.Names.{is_end, at, Waiting, key_now, part_now, data_frame, LineAt, IsBlocked, beginning, running_starts, running_tick_one}
 use Rattle.line_steps.proofs.Names.{running_tick_two, Half, Wire, sent_of, past_now, side_of, IsHalf, AllGo, Holds, ComesNext, AtHead, Sends, Delivers}
 use Rattle.line_steps.proofs.Names.{SendsAgain, Turn, fate_with, refl}
 use Rattle.trace_text.specs.Fates as fates
@@ -111,9 +111,9 @@ module _ {wire new : Wire} {given : FateValue} where
       let line = running_tick_one holds.apart holds.line x_blocked y_blocked (waits_now holds.x_half waits) (λ w. idle (waits_then holds.y_half w)) in
       let sent = data_frame x.end (key_now (side_of x)) ((part_now (side_of x)).bytes) (course_of given) in
       let more : suc x.sender.tries ≡ x.sender.tries + 1 = omega arith in
-      let tried = subst (λ t. Line x.end y.end (sent ∷ past) x.taken y.taken (length past) (side_of x) (side_of y) x.receiver y.receiver holds.fx
+      let tried = subst (λ t. LineAt x.end y.end (sent ∷ past) x.taken y.taken (length past) (side_of x) (side_of y) x.receiver y.receiver holds.fx
       holds.fy t y.sender.tries) more line in
-      let timed = subst (λ r. Line x.end y.end (sent ∷ past) x.taken y.taken r (side_of x) (side_of y) x.receiver y.receiver holds.fx holds.fy
+      let timed = subst (λ r. LineAt x.end y.end (sent ∷ past) x.taken y.taken r (side_of x) (side_of y) x.receiver y.receiver holds.fx holds.fy
       (x.sender.tries + 1) y.sender.tries) (length-past frames holds.go) tried in
       record {
         apart = holds.apart;
@@ -155,13 +155,13 @@ module _ {wire new : Wire} {given : FateValue} where
       running_tick_two (course_of other) holds.apart holds.line x_blocked y_blocked (waits_now holds.x_half x_waits) (waits_now holds.y_half y_waits) in
       let x_more : suc x.sender.tries ≡ x.sender.tries + 1 = omega arith in
       let y_more : suc y.sender.tries ≡ y.sender.tries + 1 = omega arith in
-      let x_tried = subst (λ t. Line x.end y.end (y_sent ∷ x_sent ∷ past) x.taken y.taken (length past) (side_of x) (side_of y) x.receiver y.receiver holds.fx
+      let x_tried = subst (λ t. LineAt x.end y.end (y_sent ∷ x_sent ∷ past) x.taken y.taken (length past) (side_of x) (side_of y) x.receiver y.receiver holds.fx
       holds.fy t (suc y.sender.tries)) x_more line in
-      let y_tried = subst (λ t. Line x.end y.end (y_sent ∷ x_sent ∷ past) x.taken y.taken (length past) (side_of x) (side_of y) x.receiver y.receiver holds.fx
+      let y_tried = subst (λ t. LineAt x.end y.end (y_sent ∷ x_sent ∷ past) x.taken y.taken (length past) (side_of x) (side_of y) x.receiver y.receiver holds.fx
       holds.fy (x.sender.tries + 1) t) y_more x_tried in
-      let timed = subst (λ r. Line x.end y.end (y_sent ∷ x_sent ∷ past) x.taken y.taken r (side_of x) (side_of y) x.receiver y.receiver holds.fx holds.fy
+      let timed = subst (λ r. LineAt x.end y.end (y_sent ∷ x_sent ∷ past) x.taken y.taken r (side_of x) (side_of y) x.receiver y.receiver holds.fx holds.fy
       (x.sender.tries + 1) (y.sender.tries + 1)) (length-past frames holds.go ∙ sym first_released) y_tried in
-      let behind = subst (λ p. Line x.end y.end (y_sent ∷ p) x.taken y.taken first.released (side_of x) (side_of y) x.receiver y.receiver holds.fx holds.fy
+      let behind = subst (λ p. LineAt x.end y.end (y_sent ∷ p) x.taken y.taken first.released (side_of x) (side_of y) x.receiver y.receiver holds.fx holds.fy
       (x.sender.tries + 1) (y.sender.tries + 1)) (sym one.past) timed in
       record {
         apart = holds.apart;

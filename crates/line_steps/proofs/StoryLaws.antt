@@ -2,7 +2,7 @@
 use Rattle.line_steps.proofs.Names.{rules, ◌≡◌, ℕ, ◌+◌, ◌-◌, ◌<◌, ◌≤◌, Bool, true, false, List, [], ◌∷◌, ◌++◌, length, reverse, Some, refl, sym, ap, ◌∙◌, arith}
 use Rattle.line_steps.proofs.Names.{inl, inr, cond-false, and_from, append_assoc, reverse-append, length-map, Key, session_id, ReceiverValue, End, comes}
 use Rattle.line_steps.proofs.Names.{data_comes, key_of_part, part_of, spoken, message_parts, FrameCourse, PastFrame, is_end, first, data_of, said, acked, at, is_data_of}
-use Rattle.line_steps.proofs.Names.{IsDataOf, Talk, messages_of, pieces_before, Side, Waiting, Follows, Core, key_now, part_now, data_frame, heard}
+use Rattle.line_steps.proofs.Names.{IsDataOf, Talk, messages_of, pieces_before, Side, Waiting, Follows, CoreAt, key_now, part_now, data_frame, heard}
 use Rattle.line_steps.proofs.Names.{count_messages, left, say, unsaid, Speech, AcksFollow, pending_data, longer-say, count-say, spoken_keys, spoken_begins}
 use Rattle.line_steps.proofs.Names.{spoken_again, heard_newest, heard_copy, at_push, keys_apart, parts-say, part_of_now, HeardOf, TookMessages}
 
@@ -24,7 +24,7 @@ heard_again X Y past cx true side follow here comes_here copy was =
 
 -- over the newest fragment
 pub heard_new : {X Y : End} {past : List PastFrame} {cx cy : ℕ} {x y : Side} {rx ry : ReceiverValue} {fx fy : Bool} {frame : PastFrame}
-    → Core X Y past cx cy x y rx ry fx fy → AcksFollow X Y past cx → cx < length past → at (cx + 1) past ≡ frame ∷ at cx past → IsDataOf X frame
+    → CoreAt X Y past cx cy x y rx ry fx fy → AcksFollow X Y past cx → cx < length past → at (cx + 1) past ≡ frame ∷ at cx past → IsDataOf X frame
     → comes frame.course ≡ true → fx ≡ true → frame.key ≡ key_now x → Waiting x → HeardOf X past cx fx x → HeardOf X past (cx + 1) false x
 heard_new {X} {Y} {past} {cx} {x} {fx} {frame} core follow inside here is comes_here fresh key waits was = go fx fresh core.there.follows was where
   go : (f : Bool) → f ≡ true → Follows (said X past) (acked Y past) f → HeardOf X past cx f x → heard X (at (cx + 1) past) ≡ spoken X past

@@ -2,7 +2,7 @@
 use Rattle.line_steps.proofs.Names.{rules, ◌≡◌, ℕ, ◌+◌, ◌<◌, ◌≤◌, Bool, true, false, List, ◌∷◌, length, Some, None, sym, ap, subst, ◌∙◌, arith, inl, inr}
 use Rattle.line_steps.proofs.Names.{option_map, is_some, cases_lt, both_ways, and_parts, slice_get_within, Key, piece_count, piece_of, ReceiverValue}
 use Rattle.line_steps.proofs.Names.{SenderValue, waiting, waiting_key, waiting_is, waiting_none, End, FateValue, late_of, PastFrame, is_end, at, Side, Waiting}
-use Rattle.line_steps.proofs.Names.{key_now, part_now, Line, running_other_ack, running_last_ack, running_next_piece, Half, Wire, sent_of, past_now, side_of}
+use Rattle.line_steps.proofs.Names.{key_now, part_now, LineAt, running_other_ack, running_last_ack, running_next_piece, Half, Wire, sent_of, past_now, side_of}
 use Rattle.line_steps.proofs.Names.{IsHalf, AllGo, Holds, Sends, Delivers, AckNext}
 use Rattle.line_steps.proofs.FrameLaws.{past_at, length-past}
 use Rattle.line_steps.proofs.HoldsLaws.{moved}
@@ -58,7 +58,7 @@ advanced y = record y { sender = record y.sender { acknowledged = y.sender.ackno
 
 -- where an end waits for nothing, its tries say nothing
 pub idle_tries : {X Y : End} {past : List PastFrame} {cx cy released : ℕ} {x y : Side} {rx ry : ReceiverValue} {fx fy : Bool} {tx ty other : ℕ} → (Waiting y → ⊥)
-    → Line X Y past cx cy released x y rx ry fx fy tx ty → Line X Y past cx cy released x y rx ry fx fy tx other
+    → LineAt X Y past cx cy released x y rx ry fx fy tx ty → LineAt X Y past cx cy released x y rx ry fx fy tx other
 idle_tries idle line = search rules
 
 pub ack_other : {wire : Wire} {x y : Half} {key : Key} → Holds wire x y → AckNext x.end wire x.taken key → (waiting_key y.sender ≡ Some key → ⊥)

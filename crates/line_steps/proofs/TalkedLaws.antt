@@ -1,6 +1,6 @@
 -- What the frames tell of the messages, over each step.
 use Rattle.line_steps.proofs.Names.{rules, ◌≡◌, ℕ, ◌+◌, Bool, false, List, refl, subst, End, Handheld, Desktop, PastFrame, is_end, said, acked, Talk, Apart, Side}
-use Rattle.line_steps.proofs.Names.{Follows, Talking, Moves, Half, Wire, past_now, side_of, Holds, HeardOf, cursors, cursor_of, TellsTalk, Talks, KeepsTalk}
+use Rattle.line_steps.proofs.Names.{Follows, TalkingAt, Moves, Half, Wire, past_now, side_of, Holds, HeardOf, cursors, cursor_of, TellsTalk, Talks, KeepsTalk}
 
 -- ---- the cursors
 
@@ -32,11 +32,11 @@ cursor_turned X Y own other apart = λ i Z. cursor_same X Y own other apart Z i
 
 pub talking_as : {X Y : End} {talk : Talk} {cursor : End → ℕ} {past : List PastFrame} {x y : Side} {fx fy : Bool} → Follows (said X past) (acked Y past) fx
     → Follows (said Y past) (acked X past) fy
-    → TellsTalk X Y talk cursor past x y → Talking X Y talk cursor past x y fx fy
+    → TellsTalk X Y talk cursor past x y → TalkingAt X Y talk cursor past x y fx fy
 talking_as there back talked = search rules
 
 pub talking_now : {talk : Talk} {wire : Wire} {x y : Half} → (holds : Holds wire x y) → Talks talk wire x y
-    → Talking x.end y.end talk (cursor_of x y) (past_now wire.frames.items) (side_of x) (side_of y) holds.fx holds.fy
+    → TalkingAt x.end y.end talk (cursor_of x y) (past_now wire.frames.items) (side_of x) (side_of y) holds.fx holds.fy
 talking_now holds talked =
     talking_as holds.line.core.there.follows holds.line.core.back.follows talked
 

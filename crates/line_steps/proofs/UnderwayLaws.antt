@@ -1,7 +1,7 @@
 -- A message stays on its way until it is whole.
 use Rattle.line_steps.proofs.Names.{rules, ◌≡◌, ℕ, ◌+◌, ◌<◌, ◌≤◌, Bool, true, false, List, [], ◌∷◌, length, Some, None, refl, sym, ap, subst, ◌∙◌, arith}
 use Rattle.line_steps.proofs.Names.{both_ways, eqb-false, Key, Taken, Accepted, Whole, Repeated, Dropped, piece_count, ReceiverValue, SenderValue}
-use Rattle.line_steps.proofs.Names.{Waits, waiting_key, FateValue, course_of, PastFrame, said, acked, Apart, Waiting, Follows, Core, part_now, ack_frame}
+use Rattle.line_steps.proofs.Names.{Waits, waiting_key, FateValue, course_of, PastFrame, said, acked, Apart, Waiting, Follows, CoreAt, part_now, ack_frame}
 use Rattle.line_steps.proofs.Names.{running_starts, turned, acknowledged, beginning, matched, take_ack, Active, active_begun, active_taken, active_goes_on}
 use Rattle.line_steps.proofs.Names.{Half, Wire, Heard, Nothing, Ack, sent_of, past_now, side_of, IsHalf, AllGo, Holds, MovesReceiver, AllTaken, Sends, ack_fragment}
 use Rattle.line_steps.proofs.Names.{AckNext, DataHeard, KeepsTalk, SendsAgain, Turn, Underway, StillUnderway}
@@ -203,18 +203,18 @@ record Behind (wire : Wire) (x y : Half) (fx fy : Bool) : Type 0 where
   pub apart : Apart x.end y.end
   pub go : AllGo 1 wire.frames.items
   pub half : IsHalf x
-  pub core : Core x.end y.end (past_now wire.frames.items) x.taken y.taken (side_of x) (side_of y) x.receiver y.receiver fx fy
+  pub core : CoreAt x.end y.end (past_now wire.frames.items) x.taken y.taken (side_of x) (side_of y) x.receiver y.receiver fx fy
 
 module _ {wire new : Wire} {x y : Half} where
   again_core : {fx fy : Bool} {given : FateValue} → Behind wire x y fx fy → Waits x.sender → SendsAgain wire x given new (again x)
-      → Core x.end y.end (past_now new.frames.items) x.taken y.taken (side_of x) (side_of y) x.receiver y.receiver fx fy
+      → CoreAt x.end y.end (past_now new.frames.items) x.taken y.taken (side_of x) (side_of y) x.receiver y.receiver fx fy
   again_core {fx} {fy} {given} behind waits sent =
       let longer = extends wire new x.end x.sender.id (part_now (side_of x)) given behind.go sent.sends tt sent.released in
-      subst (λ p. Core x.end y.end p x.taken y.taken (side_of x) (side_of y) x.receiver y.receiver fx fy) (sym longer.past)
+      subst (λ p. CoreAt x.end y.end p x.taken y.taken (side_of x) (side_of y) x.receiver y.receiver fx fy) (sym longer.past)
       (once_more (course_of given) behind.apart behind.core (waits_now behind.half waits))
 
   keeps : (holds : Holds wire x y)
-      → Core x.end y.end (past_now new.frames.items) x.taken y.taken (side_of x) (side_of y) x.receiver y.receiver holds.fx holds.fy
+      → CoreAt x.end y.end (past_now new.frames.items) x.taken y.taken (side_of x) (side_of y) x.receiver y.receiver holds.fx holds.fy
       → KeepsTalk wire x y new x y → StillUnderway Nothing wire x y new x y
   keeps holds core talks = search rules
 

@@ -7,7 +7,7 @@ use Rattle.trace_text.specs.Fates.{fate_value, arrives, ends_run}
 use Rattle.trace_text.specs.Frames.{BearsFragment, sent_in, past_of}
 use Rattle.trace_text.specs.Past.{PastFrame, is_end}
 use Rattle.trace_text.specs.TraceLines.{FrameValue, frame_value}
-use Rattle.line_laws.specs.Core.{Apart, Side}
+use Rattle.line_laws.specs.Core.{Apart, Side, Station, speaker, station}
 use Rattle.line_laws.specs.Line.{Line}
 use Rattle.line_steps.specs.declared.half.Half.{Half}
 use Rattle.line_steps.specs.declared.half.Wire.{Wire}
@@ -37,6 +37,10 @@ side_of half = record {
   acknowledged = half.sender.acknowledged;
 }
 
+-- an end on the line, whose newest fragment wasn't taken yet or was
+abbrev pub station_of : Half → Bool → Station
+station_of half fresh = station (speaker (side_of half) fresh) half.taken half.receiver
+
 -- the sender sends the message, and the reader took a gap last
 pub record IsHalf (half : Half) : Type 0 where
   pub length_is : half.sender.length ≡ length half.message
@@ -50,8 +54,8 @@ pub record Holds (wire : Wire) (x y : Half) : Type 0 where
   pub go : AllGo 1 wire.frames.items
   pub x_half : IsHalf x
   pub y_half : IsHalf y
-  pub line : Line x.end y.end (past_now wire.frames.items) x.taken y.taken wire.released (side_of x)
-      (side_of y) x.receiver y.receiver fx fy x.sender.tries y.sender.tries
+  pub line : Line x.end y.end (past_now wire.frames.items) wire.released (station_of x fx)
+      (station_of y fy) x.sender.tries y.sender.tries
 
 -- the frame behind so many is of this end, and comes
 pub record ComesNext (X : End) (frames : List Frame) (n : ℕ) : Type 0 where

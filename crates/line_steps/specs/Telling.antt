@@ -9,7 +9,7 @@ use Rattle.trace_text.specs.declared.frame.End.TheVariants.{Handheld, Desktop}
 use Rattle.trace_text.specs.Past.{PastFrame, said, acked}
 use Rattle.trace_text.specs.Talks.{Talk}
 use Rattle.trace_text.specs.TraceLines.{frame_value}
-use Rattle.line_laws.specs.Core.{Side, Follows}
+use Rattle.line_laws.specs.Core.{Side, Follows, speaker}
 use Rattle.line_laws.specs.Framing.{CameByCursor}
 use Rattle.line_laws.specs.Talking.{Talking, count_messages}
 use Rattle.line_steps.specs.declared.half.Half.{Half}
@@ -41,7 +41,7 @@ pub record TellsTalk (X Y : End) (talk : Talk) (cursor : End → ℕ) (past : Li
   pub fy : Bool
   pub there : Follows (said X past) (acked Y past) fx
   pub back : Follows (said Y past) (acked X past) fy
-  pub talking : Talking X Y talk cursor past x y fx fy
+  pub talking : Talking X Y talk cursor past (speaker x fx) (speaker y fy)
   pub x_heard : HeardOf X past (cursor X) fx x
   pub y_heard : HeardOf Y past (cursor Y) fy y
 

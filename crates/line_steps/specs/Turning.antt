@@ -13,7 +13,7 @@ use Rattle.line_steps.specs.declared.half.Wire.{Wire}
 use Rattle.line_steps.specs.declared.hearing.Heard.{Heard}
 use Rattle.line_steps.specs.declared.hearing.Heard.TheVariants.{Data}
 use Rattle.line_steps.specs.Acknowledging.{EndsAcknowledging, last_key}
-use Rattle.line_steps.specs.Running.{past_now, AllGo, side_of, IsHalf}
+use Rattle.line_steps.specs.Running.{past_now, AllGo, IsHalf, station_of}
 
 -- what holds of the line where all that was said is taken
 pub record IsAllTaken (wire : Wire) (x y : Half) : Type 0 where
@@ -21,8 +21,8 @@ pub record IsAllTaken (wire : Wire) (x y : Half) : Type 0 where
   pub go : AllGo 1 wire.frames.items
   pub x_half : IsHalf x
   pub y_half : IsHalf y
-  pub line : Line x.end y.end (past_now wire.frames.items) x.taken y.taken wire.released (side_of x)
-      (side_of y) x.receiver y.receiver false false x.sender.tries y.sender.tries
+  pub line : Line x.end y.end (past_now wire.frames.items) wire.released (station_of x false)
+      (station_of y false) x.sender.tries y.sender.tries
 
 -- x may begin its next message: it waits for nothing and knows that all its own was taken, and the
 -- other end's message is whole

@@ -30,7 +30,7 @@ pub use Rattle.line_steps.specs.declared.half.Wire.{Wire}
 pub use Rattle.line_steps.specs.declared.line.Line.{Line}
 pub use Rattle.line_steps.specs.declared.sending.Halt.{Halt}
 pub use Rattle.line_steps.specs.declared.sending.Halt.TheVariants.{Down, NoMemory, Stopped}
-pub use Rattle.line_talk.specs.Halting.{HaltedOver, HaltsWithin, LineEnds, half_of}
+pub use Rattle.line_talk.specs.Halting.{HaltedOver, HaltsWithin, LineEnds, half_of, speaking}
 pub use Rattle.line_talk.specs.Rests.{AreEnds, MayAnswer, MayAsk, MayGreet}
 pub use Rattle.line_talk.specs.Telling.{HasSaid, LineTells, LineTold, bytes_of, greeted, init, wake}
 pub use Rattle.padp_link.specs.Neighbours.{session_id}

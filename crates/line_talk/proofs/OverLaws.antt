@@ -1,6 +1,6 @@
 -- A message goes over: an end waits for it, and it may not be sent at all.
 use Rattle.line_talk.proofs.Names.{rules, Result, Ok, Err, OnOk, IfErr, ◌≡◌, ℕ, List, [], Some, ap, arith, RuleValue, Talk, Half, Wire, took_count, CountsTaken}
-use Rattle.line_talk.proofs.Names.{IsNextTo, RecordsFrames, Talks, Turn, NoMemory, HaltedOver}
+use Rattle.line_talk.proofs.Names.{IsNextTo, RecordsFrames, Talks, Turn, NoMemory, HaltedOver, speaking}
 use Rattle.line_talk.proofs.MoreLaws.{turn-unsent}
 
 -- it waits for a message of this transaction
@@ -18,7 +18,7 @@ pub expects-talks : {talk : Talk} (wire : Wire) (x y : Half) {new : Half} {id : 
 expects-talks wire x y is talks = search rules
 
 -- memory ran out before it was sent
-pub over-unsent : {id : ℕ} {message : List ℕ} {wire : Wire} {x y : Half} → Turn wire x y → HaltedOver NoMemory id message wire x y wire x y
+pub over-unsent : {id : ℕ} {message : List ℕ} {wire : Wire} {x y : Half} → Turn wire x y → HaltedOver NoMemory id message (speaking wire x y) (speaking wire x y)
 over-unsent {message} turn =
     record { by = turn.settled.go; talks = λ talk next talks. turn-unsent message turn talks; other = omega arith; short = λ talk next talks. tt }
 

@@ -13,17 +13,26 @@ use Rattle.line_steps.specs.Halting.{HaltsBy, Spoke, other_end}
 use Rattle.line_steps.specs.Telling.{IsNextTo, Talks, cursor_of}
 use Rattle.line_talk.specs.Rests.{AreEnds}
 
+-- a wire with the end that speaks over it and the other one
+pub record Speaking : Type 0 where
+  pub wire : Wire
+  pub x : Half
+  pub y : Half
+
+abbrev pub speaking : Wire → Half → Half → Speaking
+speaking wire x y = record { wire = wire; x = x; y = y }
+
 -- It halted before the message of x was over: then the frames tell it by the rules, though it may
 -- have stopped within it or before it. What was taken of y stays taken, and where an end has spent
 -- its tries the message wasn't taken whole.
-pub record HaltedOver (halt : Halt) (id : ℕ) (message : List ℕ) (wire : Wire) (x y : Half)
-    (new : Wire) (later_x later_y : Half) : Type 0 where
-  pub by : HaltsBy halt (cursor_of later_x later_y) new.frames.items
-  pub talks : (talk : Talk) → IsNextTo talk x y id → Talks talk wire x y
-      → Spoke (say x.end message talk) new later_x later_y
-  pub other : took_count wire y ≤ took_count new later_y
-  pub short : (talk : Talk) → IsNextTo talk x y id → Talks talk wire x y
-      → FallsShort halt (say x.end message talk) new later_x
+pub record HaltedOver (halt : Halt) (id : ℕ) (message : List ℕ) (old new : Speaking)
+    : Type 0 where
+  pub by : HaltsBy halt (cursor_of new.x new.y) new.wire.frames.items
+  pub talks : (talk : Talk) → IsNextTo talk old.x old.y id → Talks talk old.wire old.x old.y
+      → Spoke (say old.x.end message talk) new.wire new.x new.y
+  pub other : took_count old.wire old.y ≤ took_count new.wire new.y
+  pub short : (talk : Talk) → IsNextTo talk old.x old.y id → Talks talk old.wire old.x old.y
+      → FallsShort halt (say old.x.end message talk) new.wire new.x
 
 -- A line with which it is over, for this reason: its frames tell these messages by the rules,
 -- though the last ones may not have come or been sent.

@@ -11,7 +11,7 @@ ghost use Rattle.line_steps.specs.Counting.{CountsTaken};
 ghost use Rattle.line_steps.specs.Rooms.{WantsRoom};
 ghost use Rattle.line_steps.specs.Telling.{IsNextTo, RecordsFrames, Talks};
 ghost use Rattle.line_steps.specs.Turning.{Turn};
-ghost use Rattle.line_talk.specs.Halting.{HaltedOver};
+ghost use Rattle.line_talk.specs.Halting.{HaltedOver, speaking};
 
 use line_script::Script;
 use line_steps::{Half, Halt, Wire, carry, expect, start};
@@ -45,7 +45,7 @@ pub(crate) fn send_over(
         Talks talk wire.old x.old y.old →
         Talks (say x.old.end message.now talk) wire.new x.new y.new) }
     ensures halted { IfErr result (λ halt. HaltedOver halt id message.now
-        wire.old x.old y.old wire.new x.new y.new) }
+        (speaking wire.old x.old y.old) (speaking wire.new x.new y.new)) }
     ensures room { WantsRoom result wire.old.frames wire.new.frames }
 {
     let fate = script.fate(wire.frames.len() as u64 + 1);

@@ -100,47 +100,48 @@ pub served-once : {F : Type 0} (contents : F → Option FileMap) (moments : F �
     → Touches contents (wrote_user request reply) (store_of old) (store_of new)
     → ServedSince contents moments paths faults old new
     (record { request = request; reply = reply } ∷ [])
-served-once contents moments paths faults old new request reply step stands each same later touches = record {
-  ran = (new.device, step, refl);
-  files = (
-    new.device,
-    contents new.folder,
-    step,
-    touches_told contents
-        (wrote_user request reply) old new touches,
-    (refl, refl),
-  );
-  others =
-      others_touched (wrote_user request reply) (contents old.folder)
-      (contents new.folder) old.device new.device
-      (touches_told contents (wrote_user request reply) old new touches);
-  stands = stands;
-  moments_since =
-      λ held. moments_weaken (IsBeforeOrAfter (contents old.folder) (contents new.folder))
-      (StoodAfterSome old.device (record { request = request; reply = reply } ∷ []))
-      (moments old.folder) (moments new.folder) each (λ told is. elim is [
-        | inl before ↦ record {
-          before = [];
-          after = record { request = request; reply = reply } ∷ [];
-          is = refl;
-          device = old.device;
-          ran = refl;
-          stands = subst (λ (t : Option FileMap). Stands t old.device.databases old.device.user)
-              (sym before) held;
-        }
-        | inr after ↦ record {
-          before = record { request = request; reply = reply } ∷ [];
-          after = [];
-          is = refl;
-          device = new.device;
-          ran = (new.device, step, refl);
-          stands = subst (λ (t : Option FileMap). Stands t new.device.databases new.device.user)
-              (sym after) (stands held);
-        }
-      ]);
-  same_paths = same;
-  later = later;
-}
+served-once contents moments paths faults old new request reply step stands each same later
+    touches = record {
+      ran = (new.device, step, refl);
+      files = (
+        new.device,
+        contents new.folder,
+        step,
+        touches_told contents
+            (wrote_user request reply) old new touches,
+        (refl, refl),
+      );
+      others =
+          others_touched (wrote_user request reply) (contents old.folder)
+          (contents new.folder) old.device new.device
+          (touches_told contents (wrote_user request reply) old new touches);
+      stands = stands;
+      moments_since =
+          λ held. moments_weaken (IsBeforeOrAfter (contents old.folder) (contents new.folder))
+          (StoodAfterSome old.device (record { request = request; reply = reply } ∷ []))
+          (moments old.folder) (moments new.folder) each (λ told is. elim is [
+            | inl before ↦ record {
+              before = [];
+              after = record { request = request; reply = reply } ∷ [];
+              is = refl;
+              device = old.device;
+              ran = refl;
+              stands = subst (λ (t : Option FileMap). Stands t old.device.databases old.device.user)
+                  (sym before) held;
+            }
+            | inr after ↦ record {
+              before = record { request = request; reply = reply } ∷ [];
+              after = [];
+              is = refl;
+              device = new.device;
+              ran = (new.device, step, refl);
+              stands = subst (λ (t : Option FileMap). Stands t new.device.databases new.device.user)
+                  (sym after) (stands held);
+            }
+          ]);
+      same_paths = same;
+      later = later;
+    }
 
 -- it took none, and its folder stayed
 pub served-none : {F : Type 0} (contents : F → Option FileMap) (moments : F → Moments)
@@ -208,10 +209,11 @@ since_more contents moments paths faults a b c first second = record {
       second.issued_is ∙ ap (λ (l : List (List ℕ)). l ++ second.requests) first.issued_is
       ∙ append_assoc a.log.issued first.requests second.requests;
   exchanges = first.exchanges ++ second.exchanges;
-  performed_is = joined (λ (exchange : Exchange). exchange.request) a.log.performed b.log.performed c.log.performed first.exchanges second.exchanges
-      first.performed_is second.performed_is;
-  replies_are = joined (λ (exchange : Exchange). exchange.reply) a.log.replies b.log.replies c.log.replies first.exchanges second.exchanges first.replies_are
-      second.replies_are;
+  performed_is = joined (λ (exchange : Exchange). exchange.request) a.log.performed
+      b.log.performed c.log.performed first.exchanges second.exchanges first.performed_is
+      second.performed_is;
+  replies_are = joined (λ (exchange : Exchange). exchange.reply) a.log.replies b.log.replies
+      c.log.replies first.exchanges second.exchanges first.replies_are second.replies_are;
   given_is =
       second.given_is
       ∙ ap (λ (l : List ℕ). l
@@ -220,9 +222,11 @@ since_more contents moments paths faults a b c first second = record {
       first.given_is
       ∙ append_assoc a.log.given
       (flat_map (λ (exchange : Exchange). given_in exchange.request exchange.reply) first.exchanges)
-      (flat_map (λ (exchange : Exchange). given_in exchange.request exchange.reply) second.exchanges)
+      (flat_map (λ (exchange : Exchange). given_in exchange.request exchange.reply)
+      second.exchanges)
       ∙ ap (λ (l : List ℕ). a.log.given ++ l) (sym (given-append first.exchanges second.exchanges));
-  served = served-more contents moments paths faults a.server b.server c.server first.exchanges second.exchanges first.served second.served;
+  served = served-more contents moments paths faults a.server b.server c.server first.exchanges
+      second.exchanges first.served second.served;
   keeper = λ is. elim (second.keeper is) [
     | inl mid ↦ elim (first.keeper mid) [
       | inl old ↦ inl old
