@@ -17,8 +17,8 @@ hex_escape byte = 92 ∷ 120 ∷ lower_digit (byte / 16) ∷ lower_digit (byte %
 abbrev pub other_byte : ℕ → List ℕ
 other_byte byte = if is_printable byte then byte ∷ [] else hex_escape byte
 
--- what stands for a byte: `\\` for a backslash, `\n`, `\r`, `\t` and `\0` for a line feed, a carriage
--- return, a tabulator and a zero, and any other byte for itself or as `\xHH`
+-- what stands for a byte: `\\` for a backslash, `\n`, `\r`, `\t` and `\0` for a line feed, a
+-- carriage return, a tabulator and a zero, and any other byte for itself or as `\xHH`
 abbrev pub escaped_byte : ℕ → List ℕ
 escaped_byte byte =
     if byte == 92 then codes "\\\\"

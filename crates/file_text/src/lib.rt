@@ -13,5 +13,5 @@ mod head;
 pub mod laws;
 mod listing;
 
-pub use count::check_text;
+pub use count::{check_text, counted_text};
 pub use listing::{full_text, show_text};

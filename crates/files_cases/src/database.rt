@@ -1,7 +1,8 @@
 // A database in memory, and a file that it is read from.
 use crate::file::{ask_file, zeros};
 use case_words::{bytes_at, number_at, short_in, word};
-use pdb_files::{FileFault, entry_count, read_database};
+use file_text::counted_text;
+use pdb_files::{FileFault, count_entries, entry_count, read_database};
 use pdb_values::{
     Bytes, Category, Content, Database, DbHead, DbName, FourCc, PalmDate, PushFault, Record,
     RecordId, Resource, TooLarge,
@@ -39,6 +40,7 @@ impl Loaded {
                 format!(in alloc; "file of {}", self.file.len())
             }
             "parse" => self.parse(),
+            "count" => self.count(),
             _ => match &mut self.database {
                 Some(database) => ask_database(alloc, database, words),
                 None => String::from_str(alloc, "no database"),
@@ -63,6 +65,14 @@ impl Loaded {
     fn parse(&mut self) -> Result<String, AllocError> {
         match read_database(self.alloc, &self.file) {
             Ok(database) => self.load(database),
+            Err(fault) => refusal(self.alloc, fault),
+        }
+    }
+
+    // The line that counts the entries of the file, or the word and the place of its refusal.
+    fn count(&self) -> Result<String, AllocError> {
+        match count_entries(self.alloc, &self.file) {
+            Ok(count) => counted_text(self.alloc, count),
             Err(fault) => refusal(self.alloc, fault),
         }
     }

@@ -19,7 +19,7 @@
 //! - A database: `db new ATTRIBUTES`, `db record ID H`, `db fill N`, `db lend PLACE`, `db take PLACE`,
 //!   `db resource ID LENGTH`, `db set-resource PLACE H`, `db take-resource PLACE`, `db app LENGTH`, `db sort LENGTH`,
 //!   `db no-app`, `db blocks`, `db counts`.
-//! - A file: `db file H`, or `db zeros LENGTH PLACE=BYTE..`, which has the name `A`; then `db parse`, which makes it the
+//! - A file: `db file H`, or `db zeros LENGTH PLACE=BYTE..`, which has the name `A`; then `db count`, or `db parse`, which makes it the
 //!   database, `db head`, `db entries`, `db write`, `db again`, `db check`, `db show`; `db laws`.
 //! - Texts: `export new TYPE CREATOR ATTRIBUTES` (a database), `export app LENGTH` (zeros), `export label CATEGORY H`,
 //!   `export custom NUMBER H` (the label of a custom field), `export record ID live|deleted open|private CATEGORY H`, and

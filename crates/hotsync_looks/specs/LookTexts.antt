@@ -43,12 +43,13 @@ look_text Records database = Ok (full_text database)
 look_text (Exported export) database = form_export export export.form database
 look_text _ database = Err Absent
 
--- a look at a database
-abbrev pub IsDatabaseLook : Look → Type 0
-IsDatabaseLook (Import _) = ⊥
-IsDatabaseLook Verify = ⊥
-IsDatabaseLook Picture = ⊥
-IsDatabaseLook _ = ⊤
+-- a look at the entries of a database, and not at their number alone
+abbrev pub LooksAtEntries : Look → Type 0
+LooksAtEntries Check = ⊥
+LooksAtEntries (Import _) = ⊥
+LooksAtEntries Verify = ⊥
+LooksAtEntries Picture = ⊥
+LooksAtEntries _ = ⊤
 
 -- a look that exports in this form
 abbrev pub HasForm : ExportForm → Look → Type 0

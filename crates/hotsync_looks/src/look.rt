@@ -2,10 +2,11 @@
 ghost use Rattle.std.specs.Prelude.{◌≡◌, ◌≤◌, IfErr, IfOk, IfSome, IsErrOf, Ok as OkValue, OnOk, length, string_bytes};
 ghost use Rattle.hs_folders.specs.Causes.{Rose};
 ghost use Rattle.hotsync_looks.specs.LookTexts as texts;
-ghost use Rattle.hotsync_looks.specs.LookTexts.{IsDatabaseLook, IsDatabaseText, IsTextOf, Refuses, RefusesDatabase, look_text as text_of_look, source_limit};
+ghost use Rattle.hotsync_looks.specs.LookTexts.{IsDatabaseText, IsTextOf, LooksAtEntries, Refuses, RefusesDatabase, look_text as text_of_look, source_limit};
 ghost use Rattle.hotsync_looks.specs.ExportTexts.{form_export};
 ghost use Rattle.hotsync_looks.specs.Looks.{IsLook, IsLookRefusal, IsTextIn, SourceShows};
 ghost use Rattle.hotsync_looks.specs.Opening.{Opens, OpensAtMost};
+ghost use Rattle.hotsync_looks.specs.Told.{sink_told, source_told};
 
 use crate::bad_file::fault_status;
 use crate::exported::exported_text;
@@ -15,9 +16,9 @@ use crate::source::read_source;
 use crate::status::{FileSide, Status};
 use crate::traced::{picture_text, verdict_text};
 use export_choice::ExportFault;
-use file_text::{check_text, full_text, show_text};
+use file_text::{counted_text, full_text, show_text};
 use hs_folders::{Sink, Source};
-use pdb_files::read_database;
+use pdb_files::{count_entries, read_database};
 use pdb_values::{Database, DbName};
 use run_words::{Export, ExportForm, ImportForm, Look, LookWords};
 use std::alloc::Global;
@@ -30,19 +31,8 @@ pub fn look_at<S: Source, O: Sink>(
     out: &mut O,
 ) -> Status
     ensures { IsLook words.entry.look words.entry.file.now
-        (record {
-          left = S.left source.old;
-          paths = S.paths source.old;
-          faults = S.faults source.old;
-        })
-        (record {
-          left = S.left source.new;
-          paths = S.paths source.new;
-          faults = S.faults source.new;
-        })
-        (record { taken = O.taken out.old; paths = O.paths out.old; faults = O.faults out.old })
-        (record { taken = O.taken out.new; paths = O.paths out.new; faults = O.faults out.new })
-        result }
+        (source_told S.Source source.old) (source_told S.Source source.new)
+        (sink_told O.Sink out.old) (sink_told O.Sink out.new) result }
 {
     match look_into(alloc, words.look, words.file, source) {
         Ok(text) => print_text(&text, out),
@@ -84,16 +74,29 @@ fn bytes_text(alloc: Global, look: Look, file: &str, bytes: &[u8]) -> Result<Vec
         Look::Verify => Ok(verdict_text(alloc, bytes)?.into_bytes()),
         Look::Picture => Ok(picture_text(alloc, bytes)?.into_bytes()),
         Look::Import(ImportForm::Text) => imported_file(alloc, bytes),
-        Look::Check | Look::Show | Look::Records | Look::Export(_) => {
+        Look::Check => Ok(count_text(alloc, file, bytes)?.into_bytes()),
+        Look::Show | Look::Records | Look::Export(_) => {
             Ok(read_text(alloc, look, file, bytes)?.into_bytes())
         }
     }
 }
 
-// The text of the database in these bytes of a file.
+// The line that counts the entries of the database in these bytes of a file.
+fn count_text(alloc: Global, file: &str, bytes: &[u8]) -> Result<String, Status>
+    ensures text { IfOk result (λ text. IsDatabaseText Look.Check bytes.now (string_bytes text)) }
+    ensures refused { IfErr result (λ refusal.
+        RefusesDatabase Look.Check file.now bytes.now refusal) }
+{
+    match count_entries(alloc, bytes) {
+        Ok(count) => Ok(counted_text(alloc, count)?),
+        Err(fault) => Err(fault_status(alloc, FileSide::Source, file, fault)),
+    }
+}
+
+// The text of the entries of the database in these bytes of a file.
 fn read_text(alloc: Global, look: Look, file: &str, bytes: &[u8]) -> Result<String, Status>
     requires short { length bytes.now ≤ source_limit }
-    requires look { IsDatabaseLook look }
+    requires look { LooksAtEntries look }
     ensures text { IfOk result (λ text. IsDatabaseText look bytes.now (string_bytes text)) }
     ensures refused { IfErr result (λ refusal.
         RefusesDatabase look file.now bytes.now refusal) }
@@ -105,19 +108,18 @@ fn read_text(alloc: Global, look: Look, file: &str, bytes: &[u8]) -> Result<Stri
     database_text(alloc, look, &database)
 }
 
-// What the look wants of a database.
+// What the look wants of the entries of a database.
 fn database_text(alloc: Global, look: Look, database: &Database) -> Result<String, Status>
-    requires { IsDatabaseLook look }
+    requires { LooksAtEntries look }
     ensures text { IfOk result (λ text. text_of_look look database.now
         ≡ OkValue (string_bytes text)) }
     ensures refused { IfErr result (λ refusal. texts.NoTextSays look database.now refusal) }
 {
     let text = match look {
-        Look::Check => check_text(alloc, database)?,
         Look::Show => show_text(alloc, database)?,
         Look::Records => full_text(alloc, database)?,
         Look::Export(export) => form_text(alloc, export, database)?,
-        Look::Import(_) | Look::Verify | Look::Picture => unreachable!(),
+        Look::Check | Look::Import(_) | Look::Verify | Look::Picture => unreachable!(),
     };
     Ok(text)
 }

@@ -202,6 +202,8 @@ both_none a b e h = rw (e, h) refl
 pub record ReadsFile (database : DatabaseValue) (bytes : List ℕ) : Type 0 where
   pub none : file_fault bytes ≡ None
   pub reads : database_in bytes ≡ database
+  pub sort : of_resources bytes ≡ has_resources database
+  pub count : count_in bytes ≡ entry_count database
 
 pub file-written : (database : DatabaseValue) (bytes : List ℕ) → IsFileText database bytes → ReadsFile database bytes
 unfolding database_in database_of header_in file_text file_fault
@@ -266,6 +268,8 @@ file-written database bytes is =
             records = (ap (records_read b behind_header) data-is ∙ entries.reads_records) i;
             resources = (ap (resources_read b behind_header) data-is ∙ entries.reads_resources) i;
           });
+      sort = sort-is;
+      count = header.reads_count;
     }
 
 -- ---- laws of texts

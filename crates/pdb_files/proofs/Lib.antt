@@ -1,5 +1,6 @@
 pub mod BitLaws
 pub mod BlockLaws
+pub mod CountLaws
 pub mod EntryLaws
 pub mod FileLaws
 pub mod FrontLaws

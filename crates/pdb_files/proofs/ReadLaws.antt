@@ -20,7 +20,7 @@ use Rattle.pdb_files.specs.Reading.{Gives, database_in, database_of, head_in, he
 use Rattle.pdb_files.specs.Entries.{begin_place, begins_in, entry_length}
 use Rattle.pdb_files.specs.Blocks.{AreInOrder, AreShort, begin_list, behind_front, blocks_in, front_block, next_begin}
 use Rattle.pdb_files.specs.Files.{entries_end, IsFileText}
-use Rattle.pdb_files.specs.Faults.{header_fault, too_short, blocks_fault, count_in, first_place, of_resources, block_begins, file_fault}
+use Rattle.pdb_files.specs.Faults.{Refuses, header_fault, too_short, blocks_fault, count_in, first_place, of_resources, block_begins, file_fault}
 use Rattle.pdb_files.proofs.BlockLaws.{blocks_in-cons, in_order_earlier}
 use Rattle.pdb_files.proofs.EntryLaws.{records_read, resources_read}
 use Rattle.pdb_files.proofs.FrontLaws.{begins-behind, blocks-behind, front_there, order-behind, short-behind, short-front}
@@ -29,9 +29,19 @@ use Rattle.pdb_files.proofs.Numbers.{IsBytes, number_at-fits}
 use Rattle.pdb_files.proofs.FileLaws.{file-read, file-written, length-begins_in, sound_from_none}
 
 -- a fault that is the first one is the answer
-pub gives_fault : {A : Type 0} (fault : FileFault) (first : Option FileFault) (expected : A) → first ≡ Some fault → Gives (Err fault) first expected
-gives_fault NoMemory first expected e = tt
-gives_fault other first expected e = e
+pub refuses_fault : (A : Type 0) (fault : FileFault) (first : Option FileFault) → first ≡ Some fault → Refuses {A = A} (Err fault) first
+refuses_fault A NoMemory first e = tt
+refuses_fault A other first e = e
+
+-- and so is one that is the answer to a part
+pub gives_refusal : (A : Type 0) {B : Type 0} (fault : FileFault) (first : Option FileFault) (expected : B) → Refuses {A = A} (Err fault) first
+    → Gives (Err fault) first expected
+gives_refusal A NoMemory first expected e = tt
+gives_refusal A other first expected e = e
+
+pub refuses_alike : (A B : Type 0) (fault : FileFault) (first : Option FileFault) → Refuses {A = A} (Err fault) first → Refuses {A = B} (Err fault) first
+refuses_alike A B NoMemory first e = tt
+refuses_alike A B other first e = e
 
 -- ---- the first fault
 

@@ -1,5 +1,6 @@
 pub mod BadKinds
 pub mod Blocks
+pub mod Counts
 pub mod Entries
 pub mod Faults
 pub mod Fields

@@ -90,6 +90,15 @@ records_in = items_in (entry_length false) (λ entry block. record_of (entry_in 
 abbrev pub resources_in : List ℕ → List (List ℕ) → List Resource
 resources_in = items_in (entry_length true) resource_of
 
+-- a database with these entries and their blocks in place of its own
+abbrev pub with_entries : DatabaseValue → List ℕ → List (List ℕ) → DatabaseValue
+with_entries database entries blocks =
+    record database {
+      records = if holds_resources database.head.attributes then [] else records_in entries blocks;
+      resources = if holds_resources database.head.attributes
+          then resources_in entries blocks else [];
+    }
+
 -- the database of this header, its entries and all of its blocks
 unfoldable pub database_of : Header → List ℕ → List (List ℕ) → DatabaseValue
 database_of header entries blocks =

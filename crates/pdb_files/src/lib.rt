@@ -20,15 +20,18 @@
 
 mod bad_kind;
 mod blocks;
+mod count;
 mod entry;
 mod fault;
 mod field;
+mod front;
 mod header;
 mod laws;
 mod reader;
 mod writer;
 
 pub use bad_kind::BadKind;
+pub use count::{FileCount, count_entries};
 pub use entry::attributes_of;
 pub use fault::FileFault;
 pub use laws::{one_database, round_trip, rules_are_the_grammar};

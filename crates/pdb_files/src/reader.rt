@@ -1,17 +1,18 @@
 //! Reading a database file.
 
-ghost use Rattle.std.specs.Prelude.{◌≡◌, ◌+◌, ◌*◌, ◌≤◌, ◌<◌, ◌++◌, ◌∷◌, [], true, false, None, IfOk, IsOkUnless, MatchResult, OnOk, drop, if◌then◌else◌, length};
+ghost use Rattle.std.specs.Prelude.{◌≡◌, ◌+◌, ◌*◌, ◌≤◌, ◌<◌, ◌++◌, ◌∷◌, [], true, false, None, IfOk, IsOkUnless, MatchResult, OnOk, drop, length};
 ghost use Rattle.pdb_values.specs.Databases.{DatabaseValue};
 ghost use Rattle.pdb_values.specs.Heads.{holds_resources};
 ghost use Rattle.pdb_files.specs.Blocks.{AreInOrder, AreShort, blocks_in};
 ghost use Rattle.pdb_files.specs.Entries.{entry_length};
 ghost use Rattle.pdb_files.specs.Faults.{Refuses, block_begins, file_fault};
 ghost use Rattle.pdb_files.specs.Files.{IsFileText};
-ghost use Rattle.pdb_files.specs.Reading.{Gives, database_in, header_in, records_in, resources_in};
+ghost use Rattle.pdb_files.specs.Reading.{Gives, database_in, header_in, records_in, resources_in, with_entries};
 
-use crate::blocks::{behind_front, block, block_begins, check_blocks, front_block};
+use crate::blocks::{behind_front, block, front_block};
 use crate::entry::{Entry, entry_length, read_resource};
 use crate::fault::FileFault;
+use crate::front::Front;
 use crate::header::{HEADER_LENGTH, Header};
 use pdb_values::{Database, PushFault, Record, Resource};
 use std::alloc::Global;
@@ -33,13 +34,7 @@ pub fn read_database(alloc: Global, bytes: &[u8]) -> Result<Database, FileFault>
 fn read(alloc: Global, bytes: &[u8]) -> Result<Database, FileFault>
     ensures { Gives result (file_fault bytes.now) (database_in bytes.now) }
 {
-    let header = Header::read(bytes)?;
-    let first = header.entries_end();
-    if bytes.len() < first {
-        return Err(FileFault::Short(bytes.len() as u64));
-    }
-    let begins = block_begins(alloc, &header, bytes)?;
-    check_blocks(&begins, first, bytes.len())?;
+    let Front { header, begins } = Front::read(alloc, bytes)?;
     read_blocks(alloc, header, bytes, &begins)
 }
 
@@ -82,12 +77,8 @@ fn read_entries(
     requires no_resources { database.old.resources ≡ [] }
     requires order { AreInOrder 0 (length bytes.now) begins.now }
     requires short { AreShort (blocks_in begins.now bytes.now) }
-    ensures entries { OnOk result (database.new ≡ record database.old {
-      records = if holds_resources database.old.head.attributes then []
-          else records_in (drop 78 bytes.now) (blocks_in begins.now bytes.now);
-      resources = if holds_resources database.old.head.attributes then
-          resources_in (drop 78 bytes.now) (blocks_in begins.now bytes.now) else [];
-    }) }
+    ensures entries { OnOk result (database.new ≡ with_entries database.old
+        (drop 78 bytes.now) (blocks_in begins.now bytes.now)) }
     ensures memory { IsOkUnless result FileFault.NoMemory }
 {
     if database.head().holds_resources() {
