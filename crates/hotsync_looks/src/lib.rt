@@ -6,6 +6,7 @@
 #![tactic(auto)]
 
 mod bad_file;
+mod done_lines;
 mod exported;
 mod help;
 mod help_text;
@@ -16,6 +17,7 @@ mod misuse;
 mod packets;
 mod printed_name;
 mod printing;
+mod refusal_line;
 mod served;
 mod source;
 mod status;
