@@ -5,6 +5,7 @@ use Rattle.std.specs.Result.{IsErrAnd}
 use Rattle.hs_folders.specs.Causes.{HasCause}
 use Rattle.hs_folders.specs.FileMaps.{FileMap}
 use Rattle.hs_folders.specs.Moments.{EachMomentSince, Moments}
+use Rattle.pdb_values.specs.declared.user.UserInfo.{UserInfo}
 use Rattle.desk_journal.specs.Entries.{EntryValue}
 use Rattle.desk_journal.specs.Overlays.{FinishesAs, put_all}
 use Rattle.desk_store.specs.Desks.{IsDesk}
@@ -12,6 +13,8 @@ use Rattle.desk_store.specs.Shelves.{SlotValue}
 use Rattle.desk_store.specs.Views.{DeskValue, folder_in}
 use Rattle.desk_store.specs.declared.fault.CommitFault.{CommitFault}
 use Rattle.desk_store.specs.declared.fault.CommitFault.TheVariants.{DeskFault}
+use Rattle.session_plan.specs.Takes.{taken_entries, taken_slots}
+use Rattle.session_plan.specs.declared.planned.Planned.{Planned}
 
 -- With Ok the desktop has these slots, its folder holds these files over all others, and stands for
 -- the slots. Whatever the answer, the folder stands for what it stood for, or for all of the
@@ -38,3 +41,13 @@ pub record Commits {F : Type 0} (contents : F → Option FileMap) (moments : F �
   pub cause : HasCause (faults desk.folder) (faults (folder_in answer))
       (IsErrAnd answer (λ refusal. refusal.0 ≡ DeskFault))
   pub same_paths : paths (folder_in answer) ≡ paths desk.folder
+
+-- what was planned for these databases was committed so, with the marks that end a session with
+-- this user at this date; their new records got these ids, one list for each
+abbrev pub CommitsPlanned : {F : Type 0} → (F → Option FileMap) → (F → Moments)
+    → (F → Option (List (List ℕ))) → (F → ℕ) → ℕ → UserInfo → List Planned → List (List ℕ)
+    → DeskValue F → Result (DeskValue F) (CommitFault × F) → Type 0
+CommitsPlanned contents moments paths faults date user planned ids desk answer =
+    Commits contents moments paths faults
+    (taken_slots date user planned ids desk.picked desk.slots)
+    (taken_entries date user planned ids desk.picked desk.slots) desk answer

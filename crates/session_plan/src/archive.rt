@@ -40,16 +40,23 @@ fn key_of<'e>(id: RecordId, content: &'e Content) -> EntryKey<'e>
 }
 
 /// A live and clean record of an id and a content.
-pub fn settled(alloc: Global, id: RecordId, content: &Content) -> Result<Record, AllocError>
-    ensures { IfOk result (λ made. made ≡ settled_record (id, content.now)) }
+pub fn settled(id: RecordId, content: Content) -> Record
+    ensures { result ≡ settled_record (id, content) }
 {
-    Ok(Record {
+    Record {
         id,
         deleted: false,
         dirty: false,
         busy: false,
-        content: content.copy(alloc)?,
-    })
+        content,
+    }
+}
+
+// The same, with a copy of the content.
+fn settled_copy(alloc: Global, id: RecordId, content: &Content) -> Result<Record, AllocError>
+    ensures { IfOk result (λ made. made ≡ settled_record (id, content.now)) }
+{
+    Ok(settled(id, content.copy(alloc)?))
 }
 
 // Puts an entry behind the others, unless it is there.
@@ -66,7 +73,7 @@ fn put_entry<'e>(
         ≡ archives.with_entry (id, content.now) archive.old.items) }
 {
     if seen.insert(key_of(id, content))? {
-        archive.push(settled(alloc, id, content)?)?;
+        archive.push(settled_copy(alloc, id, content)?)?;
     }
     Ok(())
 }

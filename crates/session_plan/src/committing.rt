@@ -3,7 +3,7 @@ ghost use Rattle.std.specs.Prelude.{◌≡◌, ◌++◌, IfOk, OnOk, option_to_l
 ghost use Rattle.std.specs.List.{AllByRecursion};
 ghost use Rattle.desk_store.specs.Changes.{IsDbChange, IsDeskChange, MayBear};
 ghost use Rattle.desk_store.specs.Views.{marks_in, shelves_in};
-ghost use Rattle.session_plan.specs.Commits.{Commits};
+ghost use Rattle.session_plan.specs.Commits.{CommitsPlanned};
 ghost use Rattle.session_plan.specs.Fits.{AreTakeable, CanTake};
 ghost use Rattle.session_plan.specs.Takes as takes;
 ghost use Rattle.session_plan.specs.Users as users;
@@ -86,10 +86,8 @@ pub fn commit_all<D: Folder>(
 ) -> Result<Desk<D>, (CommitFault, D)>
     requires { let each = takes.each_of ids.now in
         CanTake date user.now planned.now each desk.picked desk.slots }
-    ensures commits { let each = takes.each_of ids.now in
-        Commits D.contents D.moments D.paths D.faults
-        (takes.taken_slots date user.now planned.now each desk.picked desk.slots)
-        (takes.taken_entries date user.now planned.now each desk.picked desk.slots) desk result }
+    ensures commits { CommitsPlanned D.contents D.moments D.paths D.faults date user.now
+        planned.now (takes.each_of ids.now) desk result }
 {
     match change_all(alloc, &desk, planned, ids, user, date) {
         Ok(change) => desk.commit(change),

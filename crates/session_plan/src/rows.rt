@@ -75,14 +75,14 @@ fn put_added(
     Ok(())
 }
 
-// The entries of a view as live and clean records.
-fn settled_all(alloc: Global, view: &View) -> Result<Vec<Record>, AllocError>
+// The entries of a view as live and clean records, with their contents.
+fn settled_all(alloc: Global, view: View) -> Result<Vec<Record>, AllocError>
     ensures { IfOk result (λ rows. rows.items
-        ≡ map (λ (seen : Entry). settled_record (seen.id, seen.content)) view.now.seen.items) }
+        ≡ map (λ (seen : Entry). settled_record (seen.id, seen.content)) view.seen.items) }
 {
     let mut rows = Vec::new(alloc);
-    for seen in &view.seen {
-        rows.push(settled(alloc, seen.id, &seen.content)?)?;
+    for seen in view.seen {
+        rows.push(settled(seen.id, seen.content))?;
     }
     Ok(rows)
 }
@@ -101,7 +101,7 @@ pub fn planned_rows(
     put_kept(alloc, &mut rows, &plan.kept)?;
     put_added(alloc, &mut rows, given, &plan.adds)?;
     let view = in_order(rows)?;
-    settled_all(alloc, &view)
+    settled_all(alloc, view)
 }
 
 // A base record that has the delete bit.
