@@ -11,6 +11,7 @@ pub mod FileLaws
 pub mod JobLaws
 pub mod LabelLaws
 pub mod LeaveLaws
+pub mod MadeAgain
 pub mod MeetLaws
 pub mod NamedMaps
 pub mod OneLaws

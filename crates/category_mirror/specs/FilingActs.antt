@@ -45,6 +45,12 @@ filed_under rows_app told handle =
     ∷ writes_where handle
     (written_block (app_of told handle) (blocks_merge (app_of told handle) rows_app))
 
+-- what is said of a database of this name, by the block of its rows and what was told before
+abbrev pub files_of : List ℕ → Option (List ℕ) → Option Talk → ℕ → List ℕ → List Act
+files_of name rows_app told =
+    within (opening name)
+    (λ handle given. filed_under rows_app (saying (opening name ∷ []) told) handle)
+
 -- the app block of a slot's rows
 abbrev pub rows_app : ShelvesValue → List ℕ → Option (List ℕ)
 rows_app shelves name =
@@ -58,15 +64,18 @@ unless_skipped None acts = acts
 unfoldable pub files_under : ShelvesValue → Option Talk → FilingJob → ℕ → List ℕ → List Act
 files_under shelves told job handle given =
     unless_skipped job.skip
-    (within (opening job.name)
-    (λ handle given.
-    filed_under (rows_app shelves job.name) (saying (opening job.name ∷ []) told) handle)
-    handle given)
+    (files_of job.name (rows_app shelves job.name) told handle given)
 
 -- a merge is that of these blocks, where a device is told
 abbrev pub IsMergeTold : Option (List ℕ) → Option Talk → ℕ → Option MergeValue → Type 0
 IsMergeTold rows_app told handle merge =
     IfSome told (λ talk. merge ≡ blocks_merge (app_told talk.device handle) rows_app)
+
+-- so of a database of this name, once it was opened
+abbrev pub SaysMerge : List ℕ → Option (List ℕ) → Option Talk → ℕ → List ℕ → Option MergeValue
+    → Type 0
+SaysMerge name rows_app told =
+    λ handle given. IsMergeTold rows_app (saying (opening name ∷ []) told) handle
 
 abbrev pub SaysUnless : Option Skip → Option MergeValue → Type 0 → Type 0
 SaysUnless (Some skip) merge says = merge ≡ None

@@ -22,12 +22,16 @@ abbrev pub or_missing : Option Skip → Bool → Option Skip
 or_missing (Some reason) whole = Some reason
 or_missing None whole = if whole then None else Some skip.Missing
 
+-- both sides have the database, and the desktop its base rows, which are records
+abbrev pub is_whole : Option DbHead → Option DbHead → Option DatabaseValue → Bool
+is_whole handheld rows base = is_some handheld && (is_some rows && holds_records base)
+
 -- the first reason: that of a session that would synchronise it, or the handheld lacks it, or the
 -- desktop lacks its rows or its base rows
 abbrev pub filing_reason : Option DbHead → Option DbHead → Option DatabaseValue → Option Skip
 filing_reason handheld rows base =
     or_missing (reason action.Sync handheld rows (is_some base))
-    (is_some handheld && (is_some rows && holds_records base))
+    (is_whole handheld rows base)
 
 abbrev pub filing_job : List DbHead → ShelvesValue → List ℕ → FilingJob
 filing_job heads shelves name = record {

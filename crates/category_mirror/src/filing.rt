@@ -2,15 +2,13 @@
 ghost use Rattle.std.specs.Prelude.{◌≡◌, ◌∷◌, ◌++◌, [], IfErr, IfOk, OnOk, false};
 ghost use Rattle.std.specs.Option.{option_copied};
 ghost use Rattle.desktop_session.specs.declared.fault.SessionFault.TheVariants as session;
-ghost use Rattle.desktop_session.specs.Requests.{opening};
-ghost use Rattle.desktop_session.specs.Says.{saying};
 ghost use Rattle.desk_store.specs.Views.{shelves_in};
 ghost use Rattle.slow_mirror.specs.Asks.{Asks};
 ghost use Rattle.session_parts.specs.Causes.{IsLater};
-ghost use Rattle.session_parts.specs.Spans.{Spans, within};
+ghost use Rattle.session_parts.specs.Spans.{Spans};
 ghost use Rattle.session_parts.specs.Stretches.{SpansEach};
 ghost use Rattle.category_mirror.specs.FilingActs as acts;
-ghost use Rattle.category_mirror.specs.FilingActs.{IsMergeTold, SaysFiled, filed_under, files_under, writes_where};
+ghost use Rattle.category_mirror.specs.FilingActs.{IsMergeTold, SaysFiled, SaysMerge, filed_under, files_under, files_of, writes_where};
 
 use crate::blocks::{blocks_merge, written_block};
 use crate::job::FilingJob;
@@ -75,11 +73,10 @@ pub fn file_one<L: Link>(
     rows_app: Option<&[u8]>,
 ) -> Result<Option<Merge>, SessionFault>
     requires { linked.old.abandoned ≡ false }
-    ensures spans { let told = saying (opening name.now ∷ []) (L.talk linked.old.link) in
-        Spans L.talk L.since L.fault L.downs (within (opening name.now)
-        (λ handle given. filed_under (option_copied rows_app.entry) told handle))
-        (λ handle given. IsMergeTold (option_copied rows_app.entry) told handle)
-        linked.old linked.new result }
+    ensures spans { let old = L.talk linked.old.link in
+        let app = option_copied rows_app.entry in
+        Spans L.talk L.since L.fault L.downs (files_of name.now app old)
+        (SaysMerge name.now app old) linked.old linked.new result }
 {
     let mut opened = linked.open(name)?;
     let merge = match file_open(alloc, &mut opened, rows_app) {
@@ -111,10 +108,9 @@ fn file_job<L: Link, D: Folder>(
     job: &FilingJob,
 ) -> Result<Option<Merge>, SessionFault>
     requires { linked.old.abandoned ≡ false }
-    ensures spans { Spans L.talk L.since L.fault L.downs
-        (files_under (shelves_in desk.now) (L.talk linked.old.link) job.now)
-        (SaysFiled (shelves_in desk.now) (L.talk linked.old.link) job.now)
-        linked.old linked.new result }
+    ensures spans { let told = L.talk linked.old.link in
+        Spans L.talk L.since L.fault L.downs (files_under (shelves_in desk.now) told job.now)
+        (SaysFiled (shelves_in desk.now) told job.now) linked.old linked.new result }
 {
     match &job.skip {
         Some(_) => Ok(None),

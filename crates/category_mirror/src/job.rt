@@ -56,8 +56,8 @@ fn is_there(head: &Option<DbHead>) -> bool
 fn filing_job<D: Folder>(desk: &Desk<D>, job: &Job) -> FilingJob
     ensures { result ≡ record {
       name = job.now.name;
-      skip = jobs.or_missing job.now.skip (is_some job.now.handheld && (is_some job.now.rows
-          && jobs.holds_records (database_of job.now.name (shelves_in desk.now).bases)));
+      skip = jobs.or_missing job.now.skip (jobs.is_whole job.now.handheld job.now.rows
+          (database_of job.now.name (shelves_in desk.now).bases));
     } }
 {
     let whole = is_there(&job.handheld)

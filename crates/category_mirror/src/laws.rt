@@ -1,20 +1,17 @@
 // What holds of categories that were brought together. Each function here does nothing: its contract is the law.
-ghost use Rattle.std.specs.Prelude.{◌≡◌, ◌<◌, ℕ, IsSome, List, [], None, Option, Some, false, map, true};
-ghost use Rattle.std.specs.List.{AllByRecursion};
+ghost use Rattle.std.specs.Prelude.{◌≡◌, ℕ, IsSome, List, [], None, Option, Some, false, map, true};
 ghost use Rattle.pdb_values.specs.Databases.{DatabaseValue};
-ghost use Rattle.pdb_values.specs.declared.record.Record.{Record};
 ghost use Rattle.palm_device.specs.Devices.{Device};
 ghost use Rattle.desktop_session.specs.Acts.{text};
 ghost use Rattle.desktop_session.specs.Orders.{AreInOrder};
 ghost use Rattle.desktop_session.specs.Tellings.{device_after};
 ghost use Rattle.session_parts.specs.Fronts.{Front};
 ghost use Rattle.session_parts.specs.Rests.{IsAtRest};
-ghost use Rattle.category_tables.specs.Tables.{IsTable, TableValue, is_used};
-ghost use Rattle.category_tables.specs.Merges.{places_of};
-ghost use Rattle.category_tables.specs.Swaps.{IsSwapOf};
-ghost use Rattle.category_mirror.specs.Blocks.{MergeValue, begins_with, blocks_merge, merged_block, written_block};
-ghost use Rattle.category_mirror.specs.Filings.{AreOfCategories, filed_block, filed_rows, swapped_record};
-ghost use Rattle.category_mirror.specs.Refiled.{is_refiled, refiled_record, refiled_rows};
+ghost use Rattle.category_tables.specs.Tables.{TableValue};
+ghost use Rattle.category_tables.specs.Swaps.{AreSwapped};
+ghost use Rattle.category_mirror.specs.Blocks.{MergeValue, begins_with, merged_block, written_block};
+ghost use Rattle.category_mirror.specs.Filings.{AreOfCategories, UndoesSwap, filed_again, filed_block, filed_rows};
+ghost use Rattle.category_mirror.specs.Refiled.{is_refiled, refiled_rows};
 ghost use Rattle.category_mirror.specs.Sides.{Filing, StandsBehind, block_writes, device_among, filed_device, filed_slots, filing_acts, filing_changes, filing_of};
 ghost use Rattle.category_mirror.specs.FilingEnds.{IsFileable};
 ghost use Rattle.desk_store.specs.Shelves.{SlotValue};
@@ -39,22 +36,18 @@ pub fn a_stopped_session_is_made_up_for()
 /// A session behind one that ended, where nothing changed on either side, writes no block, and no row changes on the desktop.
 pub fn a_second_session_changes_nothing()
     ensures block { (handheld : Option (List ℕ)) (rows : DatabaseValue)
-        → AreOfCategories rows.records → written_block (filed_block handheld rows)
-        (blocks_merge (filed_block handheld rows) (filed_rows handheld rows).app) ≡ None }
+        → AreOfCategories rows.records
+        → written_block (filed_block handheld rows) (filed_again handheld rows) ≡ None }
     ensures rows { (handheld : Option (List ℕ)) (rows : DatabaseValue) (merge : MergeValue)
         → AreOfCategories rows.records
-        → blocks_merge (filed_block handheld rows) (filed_rows handheld rows).app ≡ Some merge
+        → filed_again handheld rows ≡ Some merge
         → is_refiled merge (filed_rows handheld rows) ≡ false }
 {}
 
 /// Records whose desktop exchanged two of the handheld's numbers, in its table and in each of them, get their own numbers again.
 pub fn a_swap_is_undone()
-    ensures { (handheld desktop : TableValue) (i j : ℕ) (records : List Record) → IsTable handheld
-        → IsTable desktop → IsSwapOf i j handheld.entries desktop.entries
-        → AllByRecursion (λ (item : Record). (item.content.category < 16)
-        × (is_used handheld.entries item.content.category ≡ true)) records
-        → map (refiled_record (places_of handheld desktop)) (map (swapped_record i j) records)
-        ≡ records }
+    ensures { (handheld desktop : TableValue) (i j : ℕ) → AreSwapped i j handheld desktop
+        → UndoesSwap handheld desktop i j }
 {}
 
 /// A block that begins with the merged table stays as it is where that is put at its head, and rows with a block that do not change stay as

@@ -1,6 +1,5 @@
 // A session that brings the categories of both sides together, from the greeting to the end.
-ghost use Rattle.std.specs.Prelude.{◌≡◌, ◌≤◌, ◌⊎◌, IfOk, Some, false, length};
-ghost use Rattle.dlp_commands.specs.Talks.{Talk};
+ghost use Rattle.std.specs.Prelude.{◌≡◌, ◌≤◌, ◌⊎◌, IfOk, false, length};
 ghost use Rattle.desk_store.specs.Desks.{IsDesk};
 ghost use Rattle.desk_store.specs.Views.{shelves_in};
 ghost use Rattle.pdb_values.specs.Slots.{slot_for as slot_of};
@@ -8,7 +7,7 @@ ghost use Rattle.desktop_session.specs.declared.fault.SessionFault.TheVariants a
 ghost use Rattle.session_parts.specs.declared.stop.Stop.TheVariants as stops;
 ghost use Rattle.session_parts.specs.Leaving.{Leaves};
 ghost use Rattle.session_parts.specs.Meets.{IsSeated};
-ghost use Rattle.session_parts.specs.Rests.{IsAtRest};
+ghost use Rattle.session_parts.specs.Rests.{WhereAtRest};
 ghost use Rattle.session_plan.specs.Fits.{Rise};
 ghost use Rattle.category_mirror.specs.Changes.{AreCommittable, changes_filed as changes_of};
 ghost use Rattle.category_mirror.specs.Courses.{Carries, Files, FilingRan, Finishes, Turns, picked_for};
@@ -196,9 +195,9 @@ pub fn file_session<L: Link, D: Folder>(alloc: Global, link: L, desk: Desk<D>) -
     ensures ran { FilingRan L.talk L.since L.fault L.downs D.contents D.moments D.paths D.faults
         link desk result }
     // Over a link that tells a handheld on which nothing is open.
-    ensures ends { (told : Talk) → IsDesk (D.contents desk.folder) desk.slots
-        → L.talk link ≡ Some told → IsAtRest told.device → FilingEnds L.talk L.since L.fault L.downs D.contents D.moments
-        (filing_of told.device desk.slots) link desk.folder result }
+    ensures ends { WhereAtRest L.talk link (IsDesk (D.contents desk.folder) desk.slots)
+        (λ device. FilingEnds L.talk L.since L.fault L.downs D.contents D.moments
+        (filing_of device desk.slots) link desk.folder result) }
 {
     run(alloc, link, desk)
 }

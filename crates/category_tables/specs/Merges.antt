@@ -1,7 +1,7 @@
 -- The merge of two tables of categories: which table both sides have then, and where each number of
 -- the desktop's goes.
-use Rattle.std.specs.Prelude.{ℕ, zero, suc, ◌==◌, ◌&&◌, Bool, not, List, [], ◌∷◌, Option, None, Some}
-use Rattle.std.specs.Prelude.{drop, is_none, map, max, position, replicate, slice_set, if◌then◌else◌}
+use Rattle.std.specs.Prelude.{◌≡◌, ℕ, zero, suc, true, ◌==◌, ◌&&◌, Bool, not, List, [], ◌∷◌, Option, None, Some}
+use Rattle.std.specs.Prelude.{drop, is_none, map, max, position, replicate, slice_index, slice_set, if◌then◌else◌}
 use Rattle.std.specs.List.{range_with_len}
 use Rattle.std.specs.Option.{option_map}
 use Rattle.std.specs.Str.{bytes_eq}
@@ -126,3 +126,16 @@ merged_table handheld desktop = record {
 -- where each number of the desktop's goes; an unused one, and one that found no place, goes to 0
 unfoldable pub places_of : TableValue → TableValue → List ℕ
 places_of handheld desktop = (merging handheld desktop).places
+
+-- where one of them goes
+abbrev pub goes_to : TableValue → TableValue → ℕ → ℕ
+goes_to handheld desktop number = slice_index (places_of handheld desktop) number
+
+-- a number that a table uses stays where the table is merged with itself
+abbrev pub StaysOwn : TableValue → ℕ → Type 0
+StaysOwn table number = is_used table.entries number ≡ true → goes_to table table number ≡ number
+
+-- where the handheld has the id of a number of the desktop's
+abbrev pub own_place : TableValue → TableValue → ℕ → Option ℕ
+own_place handheld desktop number =
+    of_id handheld.entries (entry_at desktop.entries number).id

@@ -56,3 +56,14 @@ pub record IsTable (table : TableValue) : Type 0 where
   pub apart : (one other : ℕ) → 1 ≤ one → one < other → other < 16
       → is_used table.entries one ≡ true → is_used table.entries other ≡ true
       → (entry_at table.entries one).id ≢ (entry_at table.entries other).id
+
+-- both are tables
+pub record AreTables (handheld desktop : TableValue) : Type 0 where
+  pub handheld_is : IsTable handheld
+  pub desktop_is : IsTable desktop
+
+-- a number from 1 to 15 that is used
+pub record UsesNumber (table : TableValue) (number : ℕ) : Type 0 where
+  pub some : 1 ≤ number
+  pub few : number < 16
+  pub used : is_used table.entries number ≡ true

@@ -1,17 +1,18 @@
 // What holds of merged tables.
-ghost use Rattle.std.specs.Prelude.{◌≡◌, ◌<◌, ◌≤◌, All, List, Some, slice_index, take, true, ℕ};
-ghost use Rattle.category_tables.specs.Tables.{IsTable, TableValue, entry_at, is_used};
-ghost use Rattle.category_tables.specs.Merges.{merged_table, of_id, places_of};
+ghost use Rattle.std.specs.Prelude.{◌≡◌, ◌<◌, All, List, Some, take, true, ℕ};
+ghost use Rattle.category_tables.specs.Tables.{AreTables, IsTable, TableValue, UsesNumber, is_used};
+ghost use Rattle.category_tables.specs.Merges.{StaysOwn, goes_to, merged_table, own_place, places_of};
 ghost use Rattle.category_tables.specs.Texts.{AreFilled, HasText, HoldsTable, table_in, table_text};
-ghost use Rattle.category_tables.specs.Swaps.{IsSwapOf, swapped};
+ghost use Rattle.category_tables.specs.Swaps.{AreSwapped, swapped};
 
 /// The merge of two tables is a table, and each of the desktop's numbers goes to one that is used in it.
 pub fn a_merged_table_is_a_table()
     ensures table { (handheld desktop : TableValue) → IsTable handheld → IsTable desktop
         → IsTable (merged_table handheld desktop) }
     ensures places { (handheld desktop : TableValue) (number : ℕ) → IsTable handheld → IsTable desktop
-        → number < 16 → is_used (merged_table handheld desktop).entries
-        (slice_index (places_of handheld desktop) number) ≡ true }
+        → number < 16
+        → is_used (merged_table handheld desktop).entries (goes_to handheld desktop number)
+        ≡ true }
 {}
 
 /// A table that was merged with a desktop's is left as it is by that one, and each number goes where it went.
@@ -27,21 +28,19 @@ pub fn a_merged_table_stays()
     ensures table { (handheld desktop : TableValue) → IsTable handheld → IsTable desktop
         → merged_table (merged_table handheld desktop) (merged_table handheld desktop)
         ≡ merged_table handheld desktop }
-    ensures places { (handheld desktop : TableValue) (number : ℕ) → IsTable handheld → IsTable desktop
-        → number < 16 → is_used (merged_table handheld desktop).entries number ≡ true → slice_index
-        (places_of (merged_table handheld desktop) (merged_table handheld desktop)) number ≡ number }
+    ensures places { (handheld desktop : TableValue) (number : ℕ) → AreTables handheld desktop
+        → number < 16 → StaysOwn (merged_table handheld desktop) number }
 {}
 
 /// A number of the desktop's goes where the handheld has its id. So two numbers that were exchanged are exchanged back.
 pub fn a_number_goes_where_its_id_is()
-    ensures known { (handheld desktop : TableValue) (number place : ℕ) → IsTable handheld
-        → IsTable desktop → 1 ≤ number → number < 16 → is_used desktop.entries number ≡ true
-        → of_id handheld.entries (entry_at desktop.entries number).id ≡ Some place
-        → slice_index (places_of handheld desktop) number ≡ place }
-    ensures swapped { (handheld desktop : TableValue) (i j number : ℕ) → IsTable handheld
-        → IsTable desktop → IsSwapOf i j handheld.entries desktop.entries → 1 ≤ number → number < 16
-        → is_used desktop.entries number ≡ true
-        → slice_index (places_of handheld desktop) number ≡ swapped i j number }
+    ensures known { (handheld desktop : TableValue) (number place : ℕ)
+        → AreTables handheld desktop → UsesNumber desktop number
+        → own_place handheld desktop number ≡ Some place
+        → goes_to handheld desktop number ≡ place }
+    ensures swapped { (handheld desktop : TableValue) (i j number : ℕ)
+        → AreSwapped i j handheld desktop → UsesNumber desktop number
+        → goes_to handheld desktop number ≡ swapped i j number }
 {}
 
 /// The text of a table is read as that table.

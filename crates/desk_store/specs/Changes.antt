@@ -2,6 +2,7 @@
 use Rattle.std.specs.Prelude.{◌≡◌, ◌≢◌, ◌<◌, ◌≤◌, ℕ, false, bytes_eq, List, [], ◌∷◌, ◌++◌, length, map, slice_index, slice_set, if◌then◌else◌, Option, None}
 use Rattle.std.specs.Prelude.{Some, IfSome}
 use Rattle.std.specs.List.{AllByRecursion, flat_map}
+use Rattle.std.specs.Option.{option_map, option_or}
 use Rattle.hs_folders.specs.FileMaps.{FileMap}
 use Rattle.pdb_values.specs.Databases.{DatabaseValue}
 use Rattle.pdb_values.specs.declared.user.Marks.{Marks}
@@ -10,15 +11,16 @@ use Rattle.pdb_files.specs.Files.{IsFileText, canonical}
 use Rattle.folder_files.specs.InfoFiles.{desktop_text}
 use Rattle.folder_files.specs.FileNames.{desktop_info_file}
 use Rattle.desk_journal.specs.Entries.{EntryValue}
+use Rattle.desk_journal.specs.Overlays.{put_all}
 use Rattle.desk_journal.specs.Steps.{changed_in, commit_steps}
 use Rattle.folder_files.specs.Slots.{users_of}
 use Rattle.desk_store.specs.DeskFiles.{slot_file}
 use Rattle.desk_store.specs.declared.role.Role.{Role}
 use Rattle.desk_store.specs.declared.role.Role.TheVariants.{Rows, Base, Archive}
-use Rattle.desk_store.specs.Shelves.{ShelvesValue, SlotValue, marks_of, number_of, slot_at, with_database, with_place}
+use Rattle.desk_store.specs.Shelves.{ShelvesValue, SlotValue, marks_of, number_of, shelf_of, slot_at, with_database, with_place}
 use Rattle.desk_store.specs.declared.change.DbChange.{DbChange}
 use Rattle.desk_store.specs.declared.change.DeskChange.{DeskChange}
-use Rattle.pdb_values.specs.NamedDatabases.{NamesRise}
+use Rattle.pdb_values.specs.NamedDatabases.{NamesRise, database_of}
 
 -- a database holds records under this name
 pub record IsOf (name : List ℕ) (database : DatabaseValue) : Type 0 where
@@ -95,6 +97,12 @@ changed role name (change ∷ changes) =
     if bytes_eq change.rows.head.name name then changed_to role change
     else changed role name changes
 
+-- the databases of these changes are as they say, and all others as before
+abbrev pub AreChanged : List DbChange → ShelvesValue → ShelvesValue → Type 0
+AreChanged changes old new =
+    (role : Role) (name : List ℕ) → database_of name (shelf_of new role)
+    ≡ option_or (changed role name changes) (database_of name (shelf_of old role))
+
 -- an archive that is given is put among the others
 abbrev pub with_archive : Option DatabaseValue → ShelvesValue → ShelvesValue
 with_archive None shelves = shelves
@@ -130,6 +138,11 @@ with_commit change place slots =
 abbrev pub change_entries : DeskChange → ℕ → List SlotValue → List EntryValue
 change_entries change place slots =
     slot_entries place change.databases.items (marks_of (with_commit change place slots))
+
+-- the files of a folder with those of a change of the slot at this place
+abbrev pub files_with : DeskChange → ℕ → List SlotValue → Option FileMap → Option FileMap
+files_with change place slots files =
+    option_map (put_all (change_entries change place slots)) files
 
 -- the steps in which a folder gets the files that this changes
 abbrev pub steps_of : DeskChange → ℕ → List SlotValue → FileMap → List (Option FileMap)

@@ -1,12 +1,11 @@
 // Carrying out a change.
 ghost use Rattle.std.specs.Prelude.{◌≡◌, ◌≤◌, ◌⊎◌, ◌++◌, ◌∷◌, [], IfOk, IfSome, IsErrOf, OnErr, OnOk, Some};
-ghost use Rattle.std.specs.Option.{option_map};
 ghost use Rattle.hs_folders.specs.Causes.{HasCause};
 ghost use Rattle.hs_folders.specs.Moments.{EachMomentSince};
 ghost use Rattle.folder_files.specs.InfoFiles.{IsDesktopFile, desktop_text};
 ghost use Rattle.folder_files.specs.Slots.{AreSlots};
 ghost use Rattle.desk_journal.specs.Entries.{entry_values};
-ghost use Rattle.desk_journal.specs.Overlays.{FinishesAs, StandsAs, put_all};
+ghost use Rattle.desk_journal.specs.Overlays.{FinishesAs, StandsAs};
 ghost use Rattle.desk_journal.specs.Steps.{GoesThrough, GoesThroughAll};
 ghost use Rattle.desk_store.specs.Changes as changes;
 ghost use Rattle.desk_store.specs.Changes.{IsDeskChange, MayBear, steps_of, with_commit};
@@ -36,25 +35,27 @@ pub(crate) fn write_change<F: Folder>(
     requires change { IsDeskChange change }
     requires marks { MayBear slots.items place change.marks }
 
-    ensures written { OnOk result (F.contents folder.new ≡ option_map
-        (put_all (changes.change_entries change place slots.items)) (F.contents folder.old)) }
+    ensures written { OnOk result (F.contents folder.new ≡
+        changes.files_with change place slots.items (F.contents folder.old)) }
     ensures slots { IfOk result (λ after. after.items ≡ with_commit change place slots.items) }
     ensures desk { IfOk result (λ after. IsDesk (F.contents folder.new) after.items) }
 
     ensures refused { OnErr result (StandsAs (F.contents folder.old) (F.contents folder.new)
-        ⊎ StandsAs (option_map (put_all (changes.change_entries change place slots.items))
-        (F.contents folder.old)) (F.contents folder.new)) }
-    ensures made { (folder.new ≡ folder.old) ⊎ IsDesk (option_map
-        (put_all (changes.change_entries change place slots.items)) (F.contents folder.old))
+        ⊎ StandsAs
+        (changes.files_with change place slots.items (F.contents folder.old))
+        (F.contents folder.new)) }
+    ensures made { (folder.new ≡ folder.old) ⊎ IsDesk
+        (changes.files_with change place slots.items (F.contents folder.old))
         (with_commit change place slots.items) }
-    ensures each_moment { EachMomentSince (StandsAs (option_map
-        (put_all (changes.change_entries change place slots.items)) (F.contents folder.old)))
+    ensures each_moment { EachMomentSince (StandsAs
+        (changes.files_with change place slots.items (F.contents folder.old)))
         (F.moments folder.old) (F.moments folder.new) }
     ensures left { FinishesAs (F.contents folder.old) (F.contents folder.new)
-        ⊎ FinishesAs (option_map (put_all (changes.change_entries change place slots.items))
-        (F.contents folder.old)) (F.contents folder.new) }
-    ensures each_left { EachMomentSince (FinishesAs (option_map
-        (put_all (changes.change_entries change place slots.items)) (F.contents folder.old)))
+        ⊎ FinishesAs
+        (changes.files_with change place slots.items (F.contents folder.old))
+        (F.contents folder.new) }
+    ensures each_left { EachMomentSince (FinishesAs
+        (changes.files_with change place slots.items (F.contents folder.old)))
         (F.moments folder.old) (F.moments folder.new) }
     ensures steps { IfSome (F.contents folder.old) (λ held. GoesThrough
         (steps_of change place slots.items held) (Some held) (F.contents folder.new)

@@ -1,19 +1,18 @@
 // A desktop's folder, opened.
-ghost use Rattle.std.specs.Prelude.{◌≡◌, ◌<◌, ◌≤◌, ◌⊎◌, ◌↔◌, ℕ, IsTrue, List, IfErr, IfOk, IfSome, IsErrAnd, OnErr, Some, length, map, min, slice_get, vec_len};
+ghost use Rattle.std.specs.Prelude.{◌≡◌, ◌<◌, ◌≤◌, ◌⊎◌, ◌↔◌, IsTrue, IfErr, IfOk, IfSome, IsErrAnd, OnErr, Some, length, map, min, slice_get, vec_len};
 ghost use Rattle.std.specs.FinMap as finmap;
-ghost use Rattle.std.specs.Option.{option_copied, option_map, option_or};
+ghost use Rattle.std.specs.Option.{option_copied, option_map};
 ghost use Rattle.hs_folders.specs.Causes.{HasCause};
 ghost use Rattle.hs_folders.specs.Moments.{EachMomentSince};
 ghost use Rattle.pdb_values.specs.NamedDatabases.{NamesRise, database_of};
 ghost use Rattle.folder_files.specs.Slots.{AreSlots, users_of as users_in};
-ghost use Rattle.desk_journal.specs.Overlays.{FinishesAs, StandsAs, finished, put_all};
+ghost use Rattle.desk_journal.specs.Overlays.{FinishesAs, StandsAs, finished};
 ghost use Rattle.desk_journal.specs.Steps.{GoesThrough, GoesThroughAll};
-ghost use Rattle.desk_store.specs.declared.role.Role.{Role};
 ghost use Rattle.desk_store.specs.Bounds.{AreBounded};
-ghost use Rattle.desk_store.specs.Changes.{IsDeskChange, MayBear, change_entries, changed, steps_of, with_commit};
+ghost use Rattle.desk_store.specs.Changes.{AreChanged, IsDeskChange, MayBear, files_with, steps_of, with_commit};
 ghost use Rattle.desk_store.specs.Desks.{IsDesk, IsJudged, IsOpenable, IsPickable, IsReadable, ShowsDeskFault, StaysOpenable, all_rows, place_of};
 ghost use Rattle.desk_store.specs.Finds.{rows_count};
-ghost use Rattle.desk_store.specs.Shelves.{marks_of, number_of, shelf_of};
+ghost use Rattle.desk_store.specs.Shelves.{marks_of, number_of};
 ghost use Rattle.desk_store.specs.Views.{folder_in, marks_in, picked_slot, shelves_in};
 
 use crate::bearing::may_bear;
@@ -132,8 +131,8 @@ impl<F: Folder> Desk<F> {
         requires marks { MayBear self.slots self.picked change.marks }
 
         // The folder holds the files of the change, and all others as they were.
-        ensures written { IfOk result (λ desk. F.contents desk.folder ≡ option_map
-            (put_all (change_entries change self.picked self.slots)) (F.contents self.folder)) }
+        ensures written { IfOk result (λ desk. F.contents desk.folder ≡
+            files_with change self.picked self.slots (F.contents self.folder)) }
         // The picked slot has the marks and databases of the change and its other databases as they were. All other slots are
         // as they were, and the desktop is what the folder then stands for.
         ensures slots { IfOk result (λ desk. desk.slots
@@ -141,31 +140,31 @@ impl<F: Folder> Desk<F> {
         ensures picked { IfOk result (λ desk. desk.picked ≡ self.picked) }
         ensures desk { IfOk result (λ desk. IsDesk (F.contents desk.folder) desk.slots) }
         ensures marks { IfOk result (λ desk. marks_in desk ≡ change.marks) }
-        ensures databases { IfOk result (λ desk. (role : Role) (name : List ℕ) → database_of name
-            (shelf_of (shelves_in desk) role) ≡ option_or
-            (changed role name change.databases.items)
-            (database_of name (shelf_of (shelves_in self) role))) }
+        ensures databases { IfOk result (λ desk.
+            AreChanged change.databases.items (shelves_in self) (shelves_in desk)) }
 
         // After a refusal the folder stands for what it stood for, or for the whole change.
         ensures refused { OnErr result (StandsAs (F.contents self.folder)
             (F.contents (folder_in result))
-            ⊎ StandsAs (option_map (put_all (change_entries change self.picked self.slots))
-            (F.contents self.folder)) (F.contents (folder_in result))) }
+            ⊎ StandsAs
+            (files_with change self.picked self.slots (F.contents self.folder))
+            (F.contents (folder_in result))) }
         // The folder is as it was, or with the files of the change it is that of a desktop with the change.
-        ensures made { (folder_in result ≡ self.folder) ⊎ IsDesk (option_map
-            (put_all (change_entries change self.picked self.slots)) (F.contents self.folder))
+        ensures made { (folder_in result ≡ self.folder) ⊎ IsDesk
+            (files_with change self.picked self.slots (F.contents self.folder))
             (with_commit change self.picked self.slots) }
         // From the first moment of the call on it stands for the whole change.
-        ensures each_moment { EachMomentSince (StandsAs (option_map
-            (put_all (change_entries change self.picked self.slots)) (F.contents self.folder)))
+        ensures each_moment { EachMomentSince (StandsAs
+            (files_with change self.picked self.slots (F.contents self.folder)))
             (F.moments self.folder) (F.moments (folder_in result)) }
 
         // Whatever was left, once the journal is finished the files are those from before, or those of the whole change.
         ensures left { FinishesAs (F.contents self.folder) (F.contents (folder_in result))
-            ⊎ FinishesAs (option_map (put_all (change_entries change self.picked self.slots))
-            (F.contents self.folder)) (F.contents (folder_in result)) }
-        ensures each_left { EachMomentSince (FinishesAs (option_map
-            (put_all (change_entries change self.picked self.slots)) (F.contents self.folder)))
+            ⊎ FinishesAs
+            (files_with change self.picked self.slots (F.contents self.folder))
+            (F.contents (folder_in result)) }
+        ensures each_left { EachMomentSince (FinishesAs
+            (files_with change self.picked self.slots (F.contents self.folder)))
             (F.moments self.folder) (F.moments (folder_in result)) }
         // So the folder can be opened, where neither desktop has more than 200 databases.
         ensures openable { all_rows self.slots ≤ 200

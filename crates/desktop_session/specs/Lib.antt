@@ -1,5 +1,7 @@
 pub mod Acts
 pub mod Answers
+pub mod Bases
+pub mod Calls
 pub mod Ends
 pub mod Faults
 pub mod Greetings

@@ -43,6 +43,16 @@ has_more (Err fault) = false
 abbrev pub list_reply : Device → ℕ → Result ReplyValue ReplyFault
 list_reply device start = reply_at 0x16 (acted (listing start) device).0
 
+-- of so many requests, each but the last was replied to with more to follow
+abbrev pub MoreFollow : Device → ℕ → Type 0
+MoreFollow device count =
+    (k : ℕ) → k + 1 < count → has_more (list_reply device k) ≡ true
+
+-- and the last one with no more, unless it was the 65,536th
+abbrev pub NoneFollow : Device → ℕ → Type 0
+NoneFollow device count =
+    (count ≡ 65536) ⊎ (has_more (list_reply device (count - 1)) ≡ false)
+
 -- the heads in the replies to so many requests
 unfoldable pub heads_listed : Device → ℕ → List DbHead
 heads_listed device zero = []
@@ -59,6 +69,14 @@ id_listings handle (suc parts) = id_listings handle parts ++ listing_ids handle 
 abbrev pub id_parts : ℕ → ℕ
 id_parts count = (count + 7999) / 8000
 
+-- these requests
+abbrev pub id_reads : ℕ → ℕ → List Act
+id_reads handle count = id_listings handle (id_parts count)
+
+-- the request behind so many
+abbrev pub id_listing : ℕ → ℕ → Act
+id_listing handle = λ parts. listing_ids handle (8000 * parts)
+
 -- the ids in a reply
 abbrev pub ids_in : Result ReplyValue ReplyFault → List ℕ
 ids_in (Ok value) = ids_of value
@@ -70,6 +88,14 @@ ids_listed device handle zero = []
 ids_listed device handle (suc parts) =
     ids_listed device handle parts
     ++ ids_in (reply_at 0x31 (acted (listing_ids handle (8000 * parts)) device).0)
+
+-- the ids in the replies to the requests that so many ids take
+abbrev pub ids_read : Device → ℕ → ℕ → List ℕ
+ids_read device handle count = ids_listed device handle (id_parts count)
+
+-- these are the ids, where a device is told
+abbrev pub AreIdsRead : Option Talk → ℕ → ℕ → List ℕ → Type 0
+AreIdsRead talk handle count ids = IfSome talk (λ talk. ids ≡ ids_read talk.device handle count)
 
 -- ---- causes
 
@@ -87,6 +113,14 @@ HasCause fault read (session.BadReply function broken) = (fault ≡ None) × (re
 HasCause fault read session.NoMemory = Unit {0}
 HasCause fault read (session.OtherUser handheld desktop) = ⊥
 HasCause fault read session.TooManyUsers = ⊥
+
+-- the cause of a refusal, by the last reply as one to one of these functions
+abbrev pub HasCauseIn : List ℕ → Option LinkFault → List ℕ → SessionFault → Type 0
+HasCauseIn [] fault reply cause = ⊥
+HasCauseIn (function ∷ []) fault reply cause = HasCause fault (reply_at function reply) cause
+HasCauseIn (function ∷ other ∷ functions) fault reply cause =
+    HasCause fault (reply_at function reply) cause
+    ⊎ HasCauseIn (other ∷ functions) fault reply cause
 
 -- a refusal, or a reply that is none, is told with this function
 abbrev pub IsToldOf : ℕ → SessionFault → Type 0
@@ -125,11 +159,8 @@ pub record Lists {L : Type 0} (talk : L → Option Talk) (since : L → L → Ty
   pub some : 0 < count
   pub few : count ≤ 65536
   pub stops : Stops talk since fault downs (map text (listings count)) old new
-  pub more : IfSome (talk old)
-      (λ talk. (k : ℕ) → k + 1 < count → has_more (list_reply talk.device k) ≡ true)
+  pub more : IfSome (talk old) (λ talk. MoreFollow talk.device count)
   pub does : OnOk answer (Does talk (listings count) old new)
   pub heads : IfOk answer
       (λ heads. IfSome (talk old) (λ talk. heads ≡ heads_listed talk.device count))
-  pub last : OnOk answer
-      (IfSome (talk old)
-      (λ talk. (count ≡ 65536) ⊎ (has_more (list_reply talk.device (count - 1)) ≡ false)))
+  pub last : OnOk answer (IfSome (talk old) (λ talk. NoneFollow talk.device count))

@@ -18,7 +18,7 @@ use Rattle.palm_device.specs.Records.{is_new}
 use Rattle.palm_device.specs.Resources.{has_room}
 use Rattle.dlp_commands.specs.Holding.{on_records, on_resources}
 use Rattle.dlp_commands.specs.Talks.{Talk}
-use Rattle.dlp_commands.specs.UserFunctions.{name_length, name_or_empty}
+use Rattle.dlp_commands.specs.UserFunctions.{name_length, name_or_empty, with_marks}
 use Rattle.desktop_session.specs.declared.fault.SessionFault.{SessionFault}
 use Rattle.desktop_session.specs.declared.fault.SessionFault.TheVariants as session
 use Rattle.desktop_session.specs.Acts.{Act, acted}
@@ -59,6 +59,12 @@ pub record IsMark (mark : UserInfo) : Type 0 where
   pub last : mark.last < 2 ^ 32
   pub short : length mark.name ≤ 40
   pub no_zero : list_any (λ byte. byte == 0) mark.name ≡ false
+
+-- the device whose user is marked: what the bits say becomes the mark's
+abbrev pub with_mark : UserInfo → ℕ → Device → Device
+with_mark mark bits device = record device {
+  user = with_marks bits mark.user mark.viewer mark.pc mark.last mark.name device.user;
+}
 
 -- a database of records
 abbrev pub HasRecords : Base → Type 0
@@ -157,6 +163,10 @@ may_find_none form.ReadRecordById = true
 may_find_none form.DeleteRecord = true
 may_find_none other = false
 
+-- an act whose call has no answer of its own for error 5
+abbrev pub HasToBeFound : Act → Type 0
+HasToBeFound one = may_find_none one.asks.form ≡ false
+
 -- a reply that is no error, or error 5 to a request whose call has an answer for it
 abbrev pub IsAnswered : Form → ReplyValue → Type 0
 IsAnswered f (Refused number code) = (may_find_none f ≡ true) × (code ≡ 5)
@@ -175,6 +185,10 @@ IsUnrefused (Err (session.Refused function code)) = ⊥
 IsUnrefused (Err (session.BadReply function broken)) = ⊥
 IsUnrefused (Err other) = Unit {0}
 
+-- a cause to stop that is neither of them
+abbrev pub IsNoRefusal : SessionFault → Type 0
+IsNoRefusal cause = IsUnrefused {A = Unit {0}} (Err cause)
+
 -- a session over a link that tells its device says an act in its order
 pub record SaysInOrder {L : Type 0} (talk : L → Option Talk) (act : Act) (link : L) : Type 0 where
   pub said : Talk
@@ -182,3 +196,17 @@ pub record SaysInOrder {L : Type 0} (talk : L → Option Talk) (act : Act) (link
   pub proper : IsTellable said.device
   pub sayable : IsSayable act said.device
   pub possible : IsPossible act said.device
+
+-- over a link that tells a device whose values keep their bounds
+pub record TellsDevice {L : Type 0} (talk : L → Option Talk) (said : Talk) (link : L)
+    : Type 0 where
+  pub is : talk link ≡ Some said
+  pub proper : IsTellable said.device
+
+-- over such a link a handle stands for an open database of records
+pub record TellsRecords {L : Type 0} (talk : L → Option Talk) (handle : ℕ) (link : L)
+    : Type 0 where
+  pub said : Talk
+  pub tells : TellsDevice talk said link
+  pub byte : handle < 2 ^ 8
+  pub records : IsSomeAnd (base_at said.device handle) HasRecords

@@ -47,4 +47,5 @@ pub record IsListedUpTo (read : Result ReplyValue ReplyFault) (heads : List DbHe
 abbrev pub IsCounted : Option Talk → ℕ → ℕ → Type 0
 IsCounted talk handle count =
     IfSome talk
-    (λ talk. said_in 0x2B count_of (reply_at 0x2B (acted (counting handle) talk.device).0) ≡ Ok count)
+    (λ talk. said_in 0x2B count_of (reply_at 0x2B (acted (counting handle) talk.device).0)
+    ≡ Ok count)

@@ -1,5 +1,5 @@
 // What holds of what a session says.
-ghost use Rattle.std.specs.Prelude.{◌≡◌, ◌++◌, ◌+◌, ◌-◌, ◌^◌, ◌<◌, ◌≤◌, ◌⊎◌, ℕ, List, Err, Ok, Some, None, false, length, map, max, slice_get, true};
+ghost use Rattle.std.specs.Prelude.{◌≡◌, ◌++◌, ◌+◌, ◌^◌, ◌<◌, ◌≤◌, ◌⊎◌, ℕ, List, Ok, Some, None, false, length, map, max};
 ghost use Rattle.pdb_values.specs.declared.head.DbHead.{DbHead};
 ghost use Rattle.pdb_values.specs.declared.record.Record.{Record};
 ghost use Rattle.pdb_values.specs.declared.resource.Resource.{Resource};
@@ -7,26 +7,24 @@ ghost use Rattle.dlp_replies.specs.ReplyReading.{reply_at};
 ghost use Rattle.dlp_replies.specs.ReplyValues as reply;
 ghost use Rattle.dlp_replies.specs.ReplyValues.{ReplyValue};
 ghost use Rattle.palm_device.specs.Devices.{Device};
-ghost use Rattle.palm_device.specs.Handles.{Base, base_at, no_handles};
+ghost use Rattle.palm_device.specs.Handles.{Base, no_handles};
 ghost use Rattle.palm_device.specs.Records.{next_changed, place_of_id};
 ghost use Rattle.palm_device.specs.Soundness.{ids_of};
 ghost use Rattle.dlp_commands.specs.DeviceRuns.{Ran};
 ghost use Rattle.dlp_commands.specs.DatabaseFunctions.{listed};
-ghost use Rattle.dlp_commands.specs.Holding.{on_records, on_resources};
 ghost use Rattle.dlp_commands.specs.Talks.{Talk};
 ghost use Rattle.desktop_session.specs.Acts.{Act, acted};
-ghost use Rattle.desktop_session.specs.Answers.{answer_by, no_more, or_false, or_none, record_of, resource_of, said_in};
-ghost use Rattle.desktop_session.specs.Lasts.{IsByErrorReply, IsByLastReply};
-ghost use Rattle.desktop_session.specs.Lent.{record_lent, resource_lent};
-ghost use Rattle.desktop_session.specs.Lists.{IsNotMissing, has_more, heads_listed, id_parts, ids_listed, list_reply};
+ghost use Rattle.desktop_session.specs.Answers.{no_more, or_false, or_none};
+ghost use Rattle.desktop_session.specs.Lists.{MoreFollow, NoneFollow, has_more, heads_listed, ids_read, list_reply};
 ghost use Rattle.desktop_session.specs.Opens.{IsOpenAs, LeavesOpen};
-ghost use Rattle.desktop_session.specs.Orders.{may_find_none};
 ghost use Rattle.desktop_session.specs.Requests.{closing, making, opening_in, reading_at, reading_next, reading_of, reading_resource};
 ghost use Rattle.desktop_session.specs.Says.{said};
 ghost use Rattle.desktop_session.specs.Sessions.{SessionValue};
 ghost use Rattle.desktop_session.specs.Starts.{next_start};
 ghost use Rattle.desktop_session.specs.Stops.{AsksOne};
 ghost use Rattle.desktop_session.specs.Tellings.{AreSayable, IsTellable, IsSayable, device_after, exchanges, number_of, told};
+ghost use Rattle.desktop_session.specs.Calls.{OthersStopByLastReply, StopsByErrorReply, StopsByLastReply, reply_said};
+ghost use Rattle.desktop_session.specs.Bases.{HasRecord, HasResource, SaysRecord, SaysResource, OpenRecords};
 
 use crate::fault::SessionFault;
 use dlp_commands::Link;
@@ -57,26 +55,17 @@ pub fn acts_are_steps()
 /// A call that has one never stops for it; where there were none, that reply may refuse with any error.
 pub fn refusals_are_the_last_reply<L: Link, A>()
     ensures said { (one : Act) (old new : SessionValue L) (take : ReplyValue → A)
-        (cause : SessionFault) → (may_find_none one.asks.form ≡ true → IsNotMissing cause)
         → AsksOne L.talk L.since L.fault L.downs one old new
-        → Err cause ≡ answer_by (L.fault new.link)
-        (said_in (number_of one) take (reply_at (number_of one) new.reply))
-        → IsByLastReply (L.talk new.link) cause }
+        → OthersStopByLastReply one L.talk L.fault new (reply_said one take new) }
     ensures refused { (one : Act) (old new : SessionValue L) (take : ReplyValue → A)
-        (cause : SessionFault) → AsksOne L.talk L.since L.fault L.downs one old new
-        → Err cause ≡ answer_by (L.fault new.link)
-        (said_in (number_of one) take (reply_at (number_of one) new.reply))
-        → IsByErrorReply (L.talk new.link) cause }
-    ensures found { (one : Act) (old new : SessionValue L) (take : ReplyValue → A)
-        (cause : SessionFault) → AsksOne L.talk L.since L.fault L.downs one old new
-        → Err cause ≡ answer_by (L.fault new.link)
-        (or_none (said_in (number_of one) take (reply_at (number_of one) new.reply)))
-        → IsByLastReply (L.talk new.link) cause }
-    ensures removed { (one : Act) (old new : SessionValue L) (cause : SessionFault)
         → AsksOne L.talk L.since L.fault L.downs one old new
-        → Err cause ≡ answer_by (L.fault new.link)
-        (or_false (said_in (number_of one) no_more (reply_at (number_of one) new.reply)))
-        → IsByLastReply (L.talk new.link) cause }
+        → StopsByErrorReply L.talk L.fault new (reply_said one take new) }
+    ensures found { (one : Act) (old new : SessionValue L) (take : ReplyValue → A)
+        → AsksOne L.talk L.since L.fault L.downs one old new
+        → StopsByLastReply L.talk L.fault new (or_none (reply_said one take new)) }
+    ensures removed { (one : Act) (old new : SessionValue L)
+        → AsksOne L.talk L.since L.fault L.downs one old new
+        → StopsByLastReply L.talk L.fault new (or_false (reply_said one no_more new)) }
 {}
 
 /// A database that is opened where nothing is open gets handle 1.
@@ -94,8 +83,7 @@ pub fn lists_are_whole()
         → length device.databases ≤ count → count ≤ 65536
         → heads_listed device count ≡ map (λ database. listed database.head) device.databases }
     ensures count { (device : Device) (count : ℕ) → IsTellable device → 0 < count → count ≤ 65536
-        → ((k : ℕ) → k + 1 < count → has_more (list_reply device k) ≡ true)
-        → (count ≡ 65536) ⊎ (has_more (list_reply device (count - 1)) ≡ false)
+        → MoreFollow device count → NoneFollow device count
         → count ≡ max 1 (length device.databases) }
     ensures next { (device : Device) (start next : ℕ) → start < 2 ^ 16
         → next_start start (list_reply device start) ≡ Some next → next ≡ start + 1 }
@@ -123,32 +111,20 @@ pub fn open_ones_stay_open()
 /// Over a device whose values keep their bounds what is lent says what its record or its resource
 /// says, with all its bytes, and the ids are those of the database's records, in their order.
 pub fn lent_ones_are_the_devices()
-    ensures at { (device : Device) (handle place : ℕ) (base : Base) (item : Record)
-        → IsTellable device → handle < 2 ^ 8 → place < 2 ^ 16 → base_at device handle ≡ Some base
-        → on_records base.database ≡ true → slice_get base.database.records place ≡ Some item
-        → said_in 0x20 record_of (reply_at 0x20 (acted (reading_at handle place) device).0)
-        ≡ Ok (record_lent item) }
-    ensures by_id { (device : Device) (handle id place : ℕ) (base : Base) (item : Record)
-        → IsTellable device → handle < 2 ^ 8 → id < 2 ^ 32 → base_at device handle ≡ Some base
-        → on_records base.database ≡ true → place_of_id id base.database.records ≡ Some place
-        → slice_get base.database.records place ≡ Some item
-        → said_in 0x20 record_of (reply_at 0x20 (acted (reading_of handle id) device).0)
-        ≡ Ok (record_lent item) }
-    ensures next { (device : Device) (handle place : ℕ) (base : Base) (item : Record)
-        → IsTellable device → handle < 2 ^ 8 → base_at device handle ≡ Some base
-        → on_records base.database ≡ true
-        → next_changed base.opened.next base.database.records ≡ Some place
-        → slice_get base.database.records place ≡ Some item
-        → said_in 0x1F record_of (reply_at 0x1F (acted (reading_next handle) device).0)
-        ≡ Ok (record_lent item) }
-    ensures resource { (device : Device) (handle place : ℕ) (base : Base) (resource : Resource)
-        → IsTellable device → handle < 2 ^ 8 → place < 2 ^ 16 → base_at device handle ≡ Some base
-        → on_resources base.database ≡ true
-        → slice_get base.database.resources place ≡ Some resource
-        → said_in 0x23 resource_of (reply_at 0x23 (acted (reading_resource handle place) device).0)
-        ≡ Ok (resource_lent resource) }
-    ensures ids { (device : Device) (handle count : ℕ) (base : Base) → IsTellable device
-        → handle < 2 ^ 8 → count < 2 ^ 16 → base_at device handle ≡ Some base
-        → on_records base.database ≡ true → length (ids_of base.database.records) ≤ count
-        → ids_listed device handle (id_parts count) ≡ ids_of base.database.records }
+    ensures at { (device : Device) (handle place : ℕ) (item : Record) → place < 2 ^ 16
+        → HasRecord device handle (λ base. Some place) item
+        → SaysRecord (reading_at handle place) device item }
+    ensures by_id { (device : Device) (handle id : ℕ) (item : Record) → id < 2 ^ 32
+        → HasRecord device handle (λ base. place_of_id id base.database.records) item
+        → SaysRecord (reading_of handle id) device item }
+    ensures next { (device : Device) (handle : ℕ) (item : Record)
+        → HasRecord device handle (λ base. next_changed base.opened.next base.database.records) item
+        → SaysRecord (reading_next handle) device item }
+    ensures resource { (device : Device) (handle place : ℕ) (resource : Resource)
+        → place < 2 ^ 16 → HasResource device handle place resource
+        → SaysResource (reading_resource handle place) device resource }
+    ensures ids { (device : Device) (handle count : ℕ) (base : Base)
+        → OpenRecords device handle base → count < 2 ^ 16
+        → let ids = ids_of base.database.records in
+        length ids ≤ count → ids_read device handle count ≡ ids }
 {}

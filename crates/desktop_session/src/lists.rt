@@ -1,11 +1,11 @@
 // Lists that come in several replies.
-ghost use Rattle.std.specs.Prelude.{◌≡◌, ◌++◌, ◌*◌, ◌≤◌, IfErr, IfOk, IfSome, IsOk, None, OnErr, OnOk, false, length, map};
+ghost use Rattle.std.specs.Prelude.{◌≡◌, ◌++◌, ◌≤◌, IfErr, IfOk, IsOk, None, OnErr, OnOk, false, length, map};
 ghost use Rattle.dlp_replies.specs.ReplyReading.{reply_at};
 ghost use Rattle.desktop_session.specs.Acts.{text};
 ghost use Rattle.desktop_session.specs.Answers.{ids_of, mapped, said_in};
 ghost use Rattle.desktop_session.specs.Lasts.{IsByLastReply};
-ghost use Rattle.desktop_session.specs.Lists.{HasCause, IsByReplyTo, IsNotMissing, Lists, heads_in};
-ghost use Rattle.desktop_session.specs.Lists.{id_listings, id_parts, ids_in, ids_listed};
+ghost use Rattle.desktop_session.specs.Lists.{AreIdsRead, HasCause, IsByReplyTo, IsNotMissing, Lists, heads_in, id_listing, id_reads};
+ghost use Rattle.desktop_session.specs.Lists.{id_parts, ids_in};
 ghost use Rattle.desktop_session.specs.Requests.{listing, listing_ids};
 ghost use Rattle.desktop_session.specs.Starts.{IsCounted, IsListedUpTo, next_start};
 ghost use Rattle.desktop_session.specs.Stops.{AsksOne, Does, Stops};
@@ -111,13 +111,12 @@ impl<L: Link> Linked<L> {
         count: u16,
     ) -> Result<Vec<RecordId>, SessionFault>
         ensures stops { IsCounted (L.talk self.old.link) handle count
-            → Stops L.talk L.since L.fault L.downs (map text (id_listings handle (id_parts count)))
+            → Stops L.talk L.since L.fault L.downs (map text (id_reads handle count))
             self.old.link self.new.link }
         ensures does { OnOk result (IsCounted (L.talk self.old.link) handle count
-            → Does L.talk (id_listings handle (id_parts count)) self.old.link self.new.link) }
+            → Does L.talk (id_reads handle count) self.old.link self.new.link) }
         ensures ids { IfOk result (λ ids. IsCounted (L.talk self.old.link) handle count
-            → IfSome (L.talk self.old.link)
-            (λ talk. ids.items ≡ ids_listed talk.device handle (id_parts count))) }
+            → AreIdsRead (L.talk self.old.link) handle count ids.items) }
         ensures whole { IfOk result (λ ids. count ≤ length ids.items) }
         ensures cause { IfErr result (HasCause (L.fault self.new.link) (reply_at 0x31
             self.new.reply)) }
@@ -125,7 +124,7 @@ impl<L: Link> Linked<L> {
             → IsByLastReply (L.talk self.new.link) cause) }
         ensures replied { OnErr result (IsCounted (L.talk self.old.link) handle count
             → IsByReplyTo L.talk L.fault (id_parts count)
-            (λ part. listing_ids handle (8000 * part)) self.old self.new) }
+            (id_listing handle) self.old self.new) }
         ensures rest { (self.new.user ≡ self.old.user) × (self.new.abandoned ≡ self.old.abandoned) }
     {
         let mut ids = Vec::new(alloc);
@@ -153,14 +152,14 @@ impl<'s, L: Link> OpenDb<'s, L> {
         ensures same_handle { self.new.handle ≡ self.old.handle }
         ensures stops { IsCounted (L.talk self.old.linked.now.link) self.old.handle count
             → Stops L.talk L.since L.fault L.downs
-            (map text (id_listings self.old.handle (id_parts count)))
+            (map text (id_reads self.old.handle count))
             self.old.linked.now.link self.new.linked.now.link }
         ensures does { OnOk result (IsCounted (L.talk self.old.linked.now.link) self.old.handle
-            count → Does L.talk (id_listings self.old.handle (id_parts count))
+            count → Does L.talk (id_reads self.old.handle count)
             self.old.linked.now.link self.new.linked.now.link) }
         ensures ids { IfOk result (λ ids. IsCounted (L.talk self.old.linked.now.link)
-            self.old.handle count → IfSome (L.talk self.old.linked.now.link)
-            (λ talk. ids.items ≡ ids_listed talk.device self.old.handle (id_parts count))) }
+            self.old.handle count
+            → AreIdsRead (L.talk self.old.linked.now.link) self.old.handle count ids.items) }
         ensures whole { IfOk result (λ ids. count ≤ length ids.items) }
         ensures cause { IfErr result (HasCause (L.fault self.new.linked.now.link)
             (reply_at 0x31 self.new.linked.now.reply)) }
@@ -168,7 +167,7 @@ impl<'s, L: Link> OpenDb<'s, L> {
             self.old.handle count → IsByLastReply (L.talk self.new.linked.now.link) cause) }
         ensures replied { OnErr result (IsCounted (L.talk self.old.linked.now.link) self.old.handle
             count → IsByReplyTo L.talk L.fault (id_parts count)
-            (λ part. listing_ids self.old.handle (8000 * part))
+            (id_listing self.old.handle)
             self.old.linked.now self.new.linked.now) }
         ensures rest { (self.new.linked.now.user ≡ self.old.linked.now.user)
             × (self.new.linked.now.abandoned ≡ self.old.linked.now.abandoned) }

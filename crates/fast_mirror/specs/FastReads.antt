@@ -1,10 +1,11 @@
 -- A fast reading of an open database: the number of its entries, the ids of its records, each
 -- changed record, and by its id each other record that the base has no row of.
-use Rattle.std.specs.Prelude.{ℕ, zero, suc, Bool, true, false, List, [], ◌∷◌, ◌++◌, length, map, Option, None, Some, filter, replicate, if◌then◌else◌}
+use Rattle.std.specs.Prelude.{◌≡◌, ℕ, zero, suc, Bool, true, false, List, [], ◌∷◌, ◌++◌, length, map, Option, None, Some, filter, replicate, if◌then◌else◌}
 use Rattle.pdb_values.specs.declared.record.Record.{Record}
 use Rattle.dlp_replies.specs.ReplyReading.{reply_at}
 use Rattle.palm_device.specs.Devices.{Device}
 use Rattle.palm_device.specs.FreshIds.{is_among}
+use Rattle.palm_device.specs.Handles.{Base}
 use Rattle.palm_device.specs.Records.{is_changed}
 use Rattle.dlp_commands.specs.Talks.{Talk}
 use Rattle.conduit_rules.specs.ById.{each_id}
@@ -127,6 +128,10 @@ fast_reads_of base handle None = []
 fast_reads_of base handle (Some talk) = fast_reads base handle talk.device
 
 -- ---- by the records of a database
+
+-- no changed record of an open database was asked for yet
+abbrev pub IsAtFirst : Base → Type 0
+IsAtFirst base = base.opened.next ≡ 0
 
 -- a record that did not change and has no base row is read by its id
 abbrev pub asks_of : List Record → ℕ → Option Record → List Act

@@ -1,10 +1,10 @@
 // A fast reading of an open database.
-ghost use Rattle.std.specs.Prelude.{◌≡◌, ◌⊎◌, IfErr, IfOk, IfSome, None, OnOk, map};
+ghost use Rattle.std.specs.Prelude.{◌≡◌, ◌∷◌, [], IfErr, IfOk, IfSome, None, OnOk, map};
 ghost use Rattle.dlp_replies.specs.ReplyReading.{reply_at};
 ghost use Rattle.conduit_rules.specs.ById.{each_id};
 ghost use Rattle.desktop_session.specs.Acts.{text};
 ghost use Rattle.desktop_session.specs.Lasts.{IsByLastReply};
-ghost use Rattle.desktop_session.specs.Lists.{HasCause};
+ghost use Rattle.desktop_session.specs.Lists.{HasCause, HasCauseIn};
 ghost use Rattle.desktop_session.specs.Stops.{Does, Stops};
 ghost use Rattle.slow_mirror.specs.Asks.{Asks};
 ghost use Rattle.slow_mirror.specs.Entries.{AreBounded, ordered};
@@ -36,10 +36,8 @@ fn read_ids<L: Link>(alloc: Global, db: &mut OpenDb<'_, L>) -> Result<Vec<Record
         (λ talk. ids.items ≡ ids_told db.old.handle talk.device)) }
     ensures rest { (db.new.linked.now.user ≡ db.old.linked.now.user)
         × (db.new.linked.now.abandoned ≡ db.old.linked.now.abandoned) }
-    ensures cause { IfErr result (λ cause.
-        HasCause (L.fault db.new.linked.now.link) (reply_at 0x2B db.new.linked.now.reply) cause
-        ⊎ HasCause (L.fault db.new.linked.now.link) (reply_at 0x31 db.new.linked.now.reply)
-        cause) }
+    ensures cause { IfErr result (HasCauseIn (0x2B ∷ 0x31 ∷ [])
+        (L.fault db.new.linked.now.link) db.new.linked.now.reply) }
     ensures last { IfErr result (IsByLastReply (L.talk db.new.linked.now.link)) }
 {
     let count = db.count()?;
@@ -98,12 +96,8 @@ pub fn read_side<L: Link>(
         (λ talk. view.seen.items ≡ fast_shown base.now db.old.handle talk.device)) }
     ensures rising { IfOk result (λ view. ordered view.seen.items ≡ view.seen.items) }
     ensures none { OnOk result (L.fault db.new.linked.now.link ≡ None) }
-    ensures cause { IfErr result (λ cause.
-        HasCause (L.fault db.new.linked.now.link) (reply_at 0x2B db.new.linked.now.reply) cause
-        ⊎ (HasCause (L.fault db.new.linked.now.link) (reply_at 0x31 db.new.linked.now.reply) cause
-        ⊎ (HasCause (L.fault db.new.linked.now.link) (reply_at 0x1F db.new.linked.now.reply) cause
-        ⊎ HasCause (L.fault db.new.linked.now.link) (reply_at 0x20 db.new.linked.now.reply)
-        cause))) }
+    ensures cause { IfErr result (HasCauseIn (0x2B ∷ 0x31 ∷ 0x1F ∷ 0x20 ∷ [])
+        (L.fault db.new.linked.now.link) db.new.linked.now.reply) }
     ensures last { IfErr result (IsByLastReply (L.talk db.new.linked.now.link)) }
 {
     let ids = read_ids(alloc, db)?;

@@ -3,20 +3,20 @@ use Rattle.std.specs.Prelude.{◌≡◌, ◌≤◌, ◌<◌, ◌++◌, ◌⊎◌
 use Rattle.pdb_values.specs.NamedDatabases.{database_of}
 use Rattle.palm_device.specs.Devices.{Device}
 use Rattle.conduit_rules.specs.States.{BaseState, base_at}
-use Rattle.conduit_rules.specs.Views.{IsHonest}
 use Rattle.conduit_rules.specs.declared.action.Action.TheVariants.{Desktop}
 use Rattle.record_merge.specs.Stops.{NoBase}
 use Rattle.desk_store.specs.Shelves.{SlotValue}
-use Rattle.session_plan.specs.Choosing.{base_rows, is_fast}
 use Rattle.sync_session.specs.Fronts.{MeetingFront}
 use Rattle.session_plan.specs.Limits.{first_over}
-use Rattle.session_plan.specs.Merges.{merged_slot}
+use Rattle.session_plan.specs.Losses.{first_loss}
+use Rattle.session_plan.specs.Merges.{merged_device, merged_slot}
 use Rattle.sync_session.specs.Sessions.{writes_before_commit}
-use Rattle.session_plan.specs.Tasks.{Meeting, records_of, slot_of, task_of}
-use Rattle.repeat_laws.specs.Meetings.{AsksTheSame, IsActive, action_at, found_of, holding_after, ids_at}
-use Rattle.repeat_laws.specs.Renaming.{AreUnknown}
-use Rattle.repeat_laws.specs.Repeats.{EndAlike, GotIds, NoneUnderGone, ended}
-use Rattle.front_laws.specs.Sound.{IsSoundMeeting}
+use Rattle.session_plan.specs.Tasks.{Meeting, slot_of, task_of}
+use Rattle.repeat_laws.specs.Meetings.{AsksTheSame, GotAllAt, IsActive, action_at, found_of, holding_after, ids_at}
+use Rattle.repeat_laws.specs.Renaming.{AreUnknown, SameEnds}
+use Rattle.repeat_laws.specs.Repeats.{EndAlike, GotAllIds, GotIds, NoneUnderGone, ended}
+use Rattle.front_laws.specs.Equal.{IsShownWhole}
+use Rattle.front_laws.specs.Sound.{FitsLimits, IsSoundMeeting}
 
 -- the desktop's slot is as it was, or merged: the first while no more writes were made than stand
 -- before the commit, the second from there on
@@ -37,12 +37,51 @@ pub record RunsAgain (meeting next : Meeting) (writes : ℕ) (given : List ℕ) 
 -- one of the sessions gave was that of a base row, gone or not, that it had then; and where both
 -- sides agreed, no record had the id of a gone row.
 pub record IsFresh (meeting next : Meeting) (given later : List ℕ) (name : List ℕ) : Type 0 where
-  pub honest : is_fast meeting (task_of meeting name) ≡ true
-      → IsHonest (base_rows (task_of meeting name)) (records_of (task_of meeting name).handheld)
+  pub honest : IsShownWhole meeting name
   pub fresh : NoBase (base_at (found_of meeting name).base true)
       (ids_at meeting given name ++ ids_at next later name)
   pub gone : NoneUnderGone (found_of meeting name).gone_counts (found_of meeting name).base
       (found_of meeting name).records
+
+-- so of each database that the first one doesn't skip
+abbrev pub AreAllFresh : Meeting → Meeting → List ℕ → List ℕ → Type 0
+AreAllFresh meeting next given later =
+    (name : List ℕ) → IsActive meeting name → IsFresh meeting next given later name
+
+-- each new record of a database got one of these ids from the last session, by whichever sides the
+-- first one went
+abbrev pub GotLastIds : Meeting → Meeting → List ℕ → List ℕ → Type 0
+GotLastIds meeting last later name =
+    GotAllIds (action_at meeting name) (found_of last name) (ids_at last later name)
+
+-- of a database, that the session of the first meeting stopped, and that of the next one was run
+-- again behind it, to its end
+pub record IsRunAgain (meeting next : Meeting) (given later : List ℕ) (name : List ℕ)
+    : Type 0 where
+  pub fits : FitsLimits meeting
+  pub writes : ℕ
+  pub again : RunsAgain meeting next writes given
+  pub active : IsActive meeting name
+  pub fresh : IsFresh meeting next given later name
+  pub got : GotLastIds meeting next later name
+
+-- a session gave each of its new records of a database one of these ids, which nothing had
+pub record GivesNewIds (meeting : Meeting) (given name : List ℕ) : Type 0 where
+  pub got : GotAllAt meeting given name
+  pub unknown : AreUnknown (found_of meeting name) (ids_at meeting given name)
+
+-- The last session doesn't skip a database, and ends as the first one would have ended, whichever
+-- ids that would have given to its new records.
+abbrev pub EndsAsWhole : Meeting → Meeting → List ℕ → List ℕ → Type 0
+EndsAsWhole meeting last later name =
+    (new : List ℕ) → GivesNewIds meeting new name
+    → IsActive last name
+    × SameEnds (found_of meeting name) (holding_after last later name)
+    (holding_after meeting new name)
+
+-- a meeting at which the desktop loses no live row to a new handheld
+abbrev pub LosesNone : Meeting → Type 0
+LosesNone meeting = first_loss meeting ≡ None
 
 -- ---- any number of them
 
@@ -73,11 +112,19 @@ AreFresh base meeting (e ∷ es) later name =
 -- of a database what is asked for one of them, where the last gave these ids
 pub record IsFreshBehind (meeting : Meeting) (es : List Later) (later : List ℕ)
     (name : List ℕ) : Type 0 where
-  pub honest : is_fast meeting (task_of meeting name) ≡ true
-      → IsHonest (base_rows (task_of meeting name)) (records_of (task_of meeting name).handheld)
+  pub honest : IsShownWhole meeting name
   pub fresh : AreFresh (base_at (found_of meeting name).base true) meeting es later name
   pub gone : NoneUnderGone (found_of meeting name).gone_counts (found_of meeting name).base
       (found_of meeting name).records
+
+-- of a database, that these sessions stopped, and the last was run to its end behind them
+pub record AreRunAgain (meeting : Meeting) (es : List Later) (later : List ℕ) (name : List ℕ)
+    : Type 0 where
+  pub sound : IsSoundMeeting meeting
+  pub again : AllRunAgain meeting es
+  pub active : IsActive meeting name
+  pub fresh : IsFreshBehind meeting es later name
+  pub got : GotLastIds meeting (last_run meeting es) later name
 
 -- ---- under which ids they end
 
@@ -116,3 +163,12 @@ AllSkip meeting [] name = Unit {0}
 AllSkip meeting (e ∷ es) name =
     (IsActive e.next name → ⊥) × HoldsTheSame meeting e.next.device (slot_of e.next) name
     × AllSkip meeting es name
+
+-- once a session has ended both sides hold under a name what the first meeting found there
+abbrev pub LeavesTheSame : Meeting → Meeting → List ℕ → List ℕ → Type 0
+LeavesTheSame meeting last given name =
+    HoldsTheSame meeting (merged_device last given) (merged_slot last given) name
+
+-- a database that a meeting skips
+abbrev pub IsSkipped : Meeting → List ℕ → Type 0
+IsSkipped meeting name = IsActive meeting name → ⊥

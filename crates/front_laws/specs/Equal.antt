@@ -5,9 +5,8 @@ use Rattle.pdb_values.specs.Records.{is_live}
 use Rattle.pdb_values.specs.declared.record.Record.{Record}
 use Rattle.palm_device.specs.Soundness.{AreIds, ids_of}
 use Rattle.conduit_rules.specs.States.{held}
-use Rattle.conduit_rules.specs.Views.{IsHonest}
-use Rattle.session_plan.specs.Choosing.{base_rows, is_fast}
-use Rattle.session_plan.specs.Tasks.{Meeting, records_of, task_of}
+use Rattle.session_plan.specs.Tasks.{Meeting, task_of}
+use Rattle.repeat_laws.specs.Meetings.{IsTaskShown, holding_after}
 use Rattle.repeat_laws.specs.Repeats.{Ending}
 
 -- a record that is live and not marked as changed
@@ -29,6 +28,8 @@ pub record HasEqualSides (end : Ending) : Type 0 where
 -- A session shows what the handheld holds of a database: it reads all of it, or each record that
 -- it passes over, as it isn't marked, has the content of its base row.
 abbrev pub IsShownWhole : Meeting → List ℕ → Type 0
-IsShownWhole meeting name =
-    is_fast meeting (task_of meeting name) ≡ true
-    → IsHonest (base_rows (task_of meeting name)) (records_of (task_of meeting name).handheld)
+IsShownWhole meeting name = IsTaskShown meeting (task_of meeting name)
+
+-- so it is behind a whole session, whose new records got these ids
+abbrev pub HoldsEqual : Meeting → List ℕ → List ℕ → Type 0
+HoldsEqual meeting given name = HasEqualSides (holding_after meeting given name)

@@ -1,10 +1,11 @@
 -- Both sides before a session, as their types keep them.
-use Rattle.std.specs.Prelude.{◌≡◌, ◌<◌, ◌≤◌, ◌^◌, ◌==◌, false, length}
+use Rattle.std.specs.Prelude.{◌≡◌, ◌<◌, ◌≤◌, ◌^◌, ◌==◌, None, false, length}
 use Rattle.std.specs.List.{AllByRecursion, list_any}
 use Rattle.palm_device.specs.Bounds.{IsBoundedDatabase}
 use Rattle.palm_device.specs.Handles.{no_handles}
 use Rattle.desktop_session.specs.Tellings.{IsTellable}
 use Rattle.desk_store.specs.Shelves.{SlotValue}
+use Rattle.session_plan.specs.Limits.{first_over}
 use Rattle.session_plan.specs.Tasks.{Meeting, slot_of}
 
 -- rows and base rows within the bounds of databases, numbers of 32 bits, and a user's name of at
@@ -24,3 +25,8 @@ pub record IsSoundMeeting (meeting : Meeting) : Type 0 where
   pub closed : meeting.device.handles ≡ no_handles
   pub slot : IsSoundSlot (slot_of meeting)
   pub date : meeting.wishes.date < 2 ^ 32
+
+-- one whose session passes no limit
+pub record FitsLimits (meeting : Meeting) : Type 0 where
+  pub sound : IsSoundMeeting meeting
+  pub fits : first_over meeting ≡ None

@@ -10,8 +10,16 @@ use Rattle.session_plan.specs.Merges.{handheld_before, merged_device}
 use Rattle.session_plan.specs.Skips.{active}
 use Rattle.session_plan.specs.Tasks.{Meeting, Task, task_of}
 use Rattle.session_plan.specs.Users.{begun_user}
+use Rattle.sync_session.specs.Fronts.{MeetingFront}
 use Rattle.repeat_laws.specs.Meetings.{IsActive, action_at, found_of, ids_at}
 use Rattle.repeat_laws.specs.Repeats.{GotAllIds, GotIds, chosen, clearing_done, given_by, news_done, shown}
+use Rattle.front_laws.specs.Sound.{FitsLimits}
+
+-- a front of a session that passes no limit
+pub record IsFittingFront (meeting : Meeting) (writes : ℕ) (given : List ℕ) (device : Device)
+    : Type 0 where
+  pub fits : FitsLimits meeting
+  pub front : MeetingFront meeting writes given device
 
 -- so many of the replacements and adds of the database of a name, where its adds got these ids
 abbrev pub news_at : Meeting → List ℕ → List ℕ → ℕ → List Write

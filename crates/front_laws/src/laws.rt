@@ -1,39 +1,32 @@
 //! What a session makes of a handheld. Each function here does nothing: its contract is the law.
-ghost use Rattle.std.specs.Prelude.{◌≡◌, ◌≤◌, ◌++◌, ℕ, List, [], ◌∷◌, Err, None, Some, filter, length, map, take};
-ghost use Rattle.std.specs.List.{AllByRecursion, flat_map};
+ghost use Rattle.std.specs.Prelude.{◌≡◌, ◌≤◌, ℕ, List, [], None, Some, length, map, take};
+ghost use Rattle.std.specs.List.{AllByRecursion};
 ghost use Rattle.palm_device.specs.Devices.{Device};
-ghost use Rattle.palm_device.specs.Handles.{no_handles};
-ghost use Rattle.dlp_commands.specs.Changes.{changes, given_in};
-ghost use Rattle.dlp_commands.specs.DeviceRuns.{DeviceRun, Exchange, exchanged};
+ghost use Rattle.dlp_commands.specs.Changes.{given_in};
 ghost use Rattle.dlp_commands.specs.Talks.{Talk};
 ghost use Rattle.desktop_session.specs.declared.fault.SessionFault.{SessionFault};
 ghost use Rattle.desktop_session.specs.Acts.{Act, text};
 ghost use Rattle.desktop_session.specs.Lasts.{IsByLastReply};
-ghost use Rattle.desktop_session.specs.Orders.{AreAnswered, AreInOrder, IsUnrefused};
-ghost use Rattle.desktop_session.specs.Requests.{ending};
+ghost use Rattle.desktop_session.specs.Orders.{AreAnswered, AreInOrder, IsNoRefusal};
 ghost use Rattle.desktop_session.specs.Tellings.{AreSayable, device_after, exchanges};
-ghost use Rattle.sync_session.specs.Fronts.{MeetingFront};
 ghost use Rattle.session_plan.specs.Limits.{first_over};
-ghost use Rattle.session_plan.specs.Losses.{first_loss};
-ghost use Rattle.session_plan.specs.Merges.{merged_device, merged_slot};
+ghost use Rattle.session_plan.specs.Merges.{merged_device};
 ghost use Rattle.sync_session.specs.Sessions.{adds_of, after_commit, before_commit, before_writes, session, requests, writes_before_commit};
 ghost use Rattle.session_plan.specs.Tasks.{Meeting};
-ghost use Rattle.repeat_laws.specs.Meetings.{IsActive, action_at, found_of, holding_after, ids_at};
-ghost use Rattle.repeat_laws.specs.Renaming.{AreUnknown, SameEnds};
-ghost use Rattle.repeat_laws.specs.Repeats.{GotAllIds};
-ghost use Rattle.front_laws.specs.Again.{AllRunAgain, AllSkip, EndsAtMerge, HoldsTheSame};
-ghost use Rattle.front_laws.specs.Again.{IsFresh, IsFreshBehind, Later, RunsAgain, last_run};
-ghost use Rattle.front_laws.specs.Answered.{IsAnsweredExchange};
-ghost use Rattle.front_laws.specs.Equal.{HasEqualSides, IsShownWhole};
-ghost use Rattle.front_laws.specs.Given.{GetFreeIds, ids_in};
-ghost use Rattle.front_laws.specs.Sound.{IsSoundMeeting};
-ghost use Rattle.front_laws.specs.Stops.{StandsAmongNews, StandsBehindCommit};
+ghost use Rattle.repeat_laws.specs.Meetings.{GotAllAt, IsActive};
+ghost use Rattle.front_laws.specs.Again.{AllRunAgain, AllSkip, AreAllFresh, AreRunAgain, EndsAsWhole, EndsAtMerge, GivesNewIds, IsRunAgain, IsSkipped, LeavesTheSame, LosesNone};
+ghost use Rattle.front_laws.specs.Again.{Later, RunsAgain, last_run};
+ghost use Rattle.front_laws.specs.Answered.{IsAnsweredExchange, RefusesNone};
+ghost use Rattle.front_laws.specs.Equal.{HoldsEqual, IsShownWhole};
+ghost use Rattle.front_laws.specs.Given.{GetFreeIds, TellIds, ids_in};
+ghost use Rattle.front_laws.specs.Sound.{FitsLimits, IsSoundMeeting};
+ghost use Rattle.front_laws.specs.Stops.{IsFittingFront, StandsAmongNews, StandsBehindCommit};
+ghost use Rattle.front_laws.specs.Acts.{ClosesBeforeEnd, LeadToFront};
 
 /// The acts of a whole session that passes no limit make the merged handheld, where each new record got an
 /// id that no record had at its turn.
 pub fn the_merge_is_reached()
-    ensures { (meeting : Meeting) (given : List ℕ) → IsSoundMeeting meeting
-        → first_over meeting ≡ None
+    ensures { (meeting : Meeting) (given : List ℕ) → FitsLimits meeting
         → GetFreeIds (session meeting given) meeting.device
         → device_after (session meeting given) meeting.device ≡ merged_device meeting given }
 {}
@@ -43,8 +36,7 @@ pub fn the_merge_is_reached()
 pub fn both_sides_end_equal()
     ensures { (meeting : Meeting) (given name : List ℕ) → IsSoundMeeting meeting
         → IsActive meeting name → IsShownWhole meeting name
-        → GotAllIds (action_at meeting name) (found_of meeting name) (ids_at meeting given name)
-        → HasEqualSides (holding_after meeting given name) }
+        → GotAllAt meeting given name → HoldsEqual meeting given name }
 {}
 
 /// What a session says fits into messages: so any beginning of it can be said whose new records get free
@@ -64,52 +56,41 @@ pub fn a_session_can_be_said()
 pub fn a_session_keeps_its_order()
     ensures read { (meeting : Meeting) (n : ℕ) → IsSoundMeeting meeting
         → AreInOrder (take n (before_writes meeting)) meeting.device }
-    ensures whole { (meeting : Meeting) (given : List ℕ) (n : ℕ) → IsSoundMeeting meeting
-        → first_over meeting ≡ None
+    ensures whole { (meeting : Meeting) (given : List ℕ) (n : ℕ) → FitsLimits meeting
         → let acts = take n (session meeting given) in
         GetFreeIds acts meeting.device → AreInOrder acts meeting.device }
-    ensures answered { (meeting : Meeting) (given : List ℕ) (n : ℕ) → IsSoundMeeting meeting
-        → first_over meeting ≡ None
+    ensures answered { (meeting : Meeting) (given : List ℕ) (n : ℕ) → FitsLimits meeting
         → let acts = take n (session meeting given) in
         GetFreeIds acts meeting.device → AreAnswered acts meeting.device }
     ensures closed { (meeting : Meeting) (given : List ℕ) → IsSoundMeeting meeting
         → first_over meeting ≡ None → GetFreeIds (session meeting given) meeting.device
-        → (acts : List Act) × (session meeting given ≡ acts ++ ending ∷ [])
-        × ((device_after acts meeting.device).handles ≡ no_handles) }
+        → ClosesBeforeEnd meeting given }
 {}
 
 /// A handheld that runs by requests of a session, up to any of them, refuses none, whichever ids it gives:
 /// each reply is no error, but error 5 where the call has an answer of its own for it. While nothing is
 /// written that is so whether or not a limit would be passed.
 pub fn a_session_is_never_refused()
-    ensures read { (meeting : Meeting) (count : ℕ) (replies : List (List ℕ)) (reached : Device)
-        → IsSoundMeeting meeting
-        → let asked = take count (map text (before_writes meeting)) in
-        DeviceRun meeting.device asked replies reached
-        → AllByRecursion IsAnsweredExchange (exchanged asked replies) }
-    ensures whole { (meeting : Meeting) (count : ℕ) (replies : List (List ℕ)) (reached : Device)
-        → IsSoundMeeting meeting → first_over meeting ≡ None
-        → let asked = take count (requests meeting) in
-        DeviceRun meeting.device asked replies reached
-        → AllByRecursion IsAnsweredExchange (exchanged asked replies) }
+    ensures read { (meeting : Meeting) (count : ℕ) → IsSoundMeeting meeting
+        → RefusesNone meeting.device (take count (map text (before_writes meeting))) }
+    ensures whole { (meeting : Meeting) (count : ℕ) → FitsLimits meeting
+        → RefusesNone meeting.device (take count (requests meeting)) }
 {}
 
 /// A session all of whose exchanges were answered stops for no refusal, and for no reply that can't be read.
 pub fn answered_sessions_are_never_refused()
     ensures { (talk : Talk) (cause : SessionFault)
         → AllByRecursion IsAnsweredExchange talk.exchanges → IsByLastReply (Some talk) cause
-        → IsUnrefused {A = Unit {0}} (Err cause) }
+        → IsNoRefusal cause }
 {}
 
 /// Any beginning of a session's acts leads to a front, which has as many writes as the acts have, and the
 /// ids that these gave.
 pub fn acts_lead_to_fronts()
-    ensures { (meeting : Meeting) (given : List ℕ) (n : ℕ) → IsSoundMeeting meeting
-        → first_over meeting ≡ None
+    ensures { (meeting : Meeting) (given : List ℕ) (n : ℕ) → FitsLimits meeting
         → let acts = take n (session meeting given) in
         GetFreeIds acts meeting.device
-        → MeetingFront meeting (length (filter changes (map text acts))) (ids_in acts)
-        (device_after acts meeting.device) }
+        → LeadToFront meeting acts }
 {}
 
 /// The ids that a session's new records get are those that its replies tell, in order, and as many as there
@@ -119,21 +100,15 @@ pub fn given_ids_are_told()
         → length given ≡ adds_of meeting
         → (ids_in (before_commit meeting given) ≡ given)
         × (ids_in (session meeting given) ≡ given) }
-    ensures commit { (meeting : Meeting) (given : List ℕ) → IsSoundMeeting meeting
-        → first_over meeting ≡ None → GetFreeIds (before_commit meeting given) meeting.device
-        → flat_map (λ (exchange : Exchange). given_in exchange.request exchange.reply)
-        (exchanges (before_commit meeting given) meeting.device)
-        ≡ ids_in (before_commit meeting given) }
-    ensures whole { (meeting : Meeting) (given : List ℕ) → IsSoundMeeting meeting
-        → first_over meeting ≡ None → GetFreeIds (session meeting given) meeting.device
-        → flat_map (λ (exchange : Exchange). given_in exchange.request exchange.reply)
-        (exchanges (session meeting given) meeting.device) ≡ ids_in (session meeting given) }
-    ensures beginning { (meeting : Meeting) (given : List ℕ) (n : ℕ) → IsSoundMeeting meeting
-        → first_over meeting ≡ None
+    ensures commit { (meeting : Meeting) (given : List ℕ) → FitsLimits meeting
+        → let acts = before_commit meeting given in
+        GetFreeIds acts meeting.device → TellIds acts meeting.device }
+    ensures whole { (meeting : Meeting) (given : List ℕ) → FitsLimits meeting
+        → let acts = session meeting given in
+        GetFreeIds acts meeting.device → TellIds acts meeting.device }
+    ensures beginning { (meeting : Meeting) (given : List ℕ) (n : ℕ) → FitsLimits meeting
         → let acts = take n (session meeting given) in
-        GetFreeIds acts meeting.device
-        → flat_map (λ (exchange : Exchange). given_in exchange.request exchange.reply)
-        (exchanges acts meeting.device) ≡ ids_in acts }
+        GetFreeIds acts meeting.device → TellIds acts meeting.device }
     ensures behind { (meeting : Meeting) → IsSoundMeeting meeting
         → AllByRecursion (λ (request : List ℕ). (reply : List ℕ) → given_in request reply ≡ [])
         (map text (after_commit meeting)) }
@@ -143,10 +118,10 @@ pub fn given_ids_are_told()
 /// and one with no fewer is behind the commit.
 pub fn fronts_stand()
     ensures news { (meeting : Meeting) (writes : ℕ) (given : List ℕ) (device : Device)
-        → IsSoundMeeting meeting → first_over meeting ≡ None → MeetingFront meeting writes given device
+        → IsFittingFront meeting writes given device
         → writes ≤ writes_before_commit meeting → StandsAmongNews meeting given device }
     ensures commit { (meeting : Meeting) (writes : ℕ) (given : List ℕ) (device : Device)
-        → IsSoundMeeting meeting → first_over meeting ≡ None → MeetingFront meeting writes given device
+        → IsFittingFront meeting writes given device
         → writes_before_commit meeting ≤ writes → StandsBehindCommit meeting given device }
 {}
 
@@ -154,70 +129,48 @@ pub fn fronts_stand()
 /// ended, whichever ids that would have given to its new records; and it skips no database that the first
 /// didn't.
 pub fn a_stopped_session_is_run_again()
-    ensures { (meeting next : Meeting) (writes : ℕ) (given later new : List ℕ) (name : List ℕ)
-        → IsSoundMeeting meeting → first_over meeting ≡ None → RunsAgain meeting next writes given
-        → IsActive meeting name → IsFresh meeting next given later name
-        → let a = action_at meeting name in
-        let x = found_of meeting name in
-        GotAllIds a (found_of next name) (ids_at next later name)
-        → GotAllIds a x (ids_at meeting new name) → AreUnknown x (ids_at meeting new name)
-        → IsActive next name
-        × SameEnds x (holding_after next later name) (holding_after meeting new name) }
+    ensures { (meeting next : Meeting) (given later name : List ℕ)
+        → IsRunAgain meeting next given later name → EndsAsWhole meeting next later name }
 {}
 
 /// A session that is run again behind one that stopped meets no new handheld that would cost the desktop
 /// live rows, where the one that stopped met none: not among its news, and not behind the desktop's commit,
 /// where the desktop has the date of a session that the handheld never ended.
 pub fn a_stopped_session_makes_no_new_handheld()
-    ensures { (meeting next : Meeting) (writes : ℕ) (given later : List ℕ) → IsSoundMeeting meeting
-        → first_over meeting ≡ None → first_loss meeting ≡ None
-        → RunsAgain meeting next writes given
-        → ((name : List ℕ) → IsActive meeting name → IsFresh meeting next given later name)
-        → first_loss next ≡ None }
+    ensures { (meeting next : Meeting) (writes : ℕ) (given later : List ℕ) → FitsLimits meeting
+        → LosesNone meeting → RunsAgain meeting next writes given
+        → AreAllFresh meeting next given later → LosesNone next }
 {}
 
 /// After any number of sessions that stopped, wherever each did, the one that ends leaves what the first
 /// would have left, whichever ids that would have given to its new records; and it skips no database that
 /// the first didn't.
 pub fn stopped_sessions_are_run_again()
-    ensures { (meeting : Meeting) (es : List Later) (later new : List ℕ) (name : List ℕ)
-        → let last = last_run meeting es in
-        IsSoundMeeting meeting → AllRunAgain meeting es → IsActive meeting name
-        → IsFreshBehind meeting es later name
-        → let a = action_at meeting name in
-        let x = found_of meeting name in
-        GotAllIds a (found_of last name) (ids_at last later name)
-        → GotAllIds a x (ids_at meeting new name) → AreUnknown x (ids_at meeting new name)
-        → IsActive last name
-        × SameEnds x (holding_after last later name) (holding_after meeting new name) }
+    ensures { (meeting : Meeting) (es : List Later) (later name : List ℕ)
+        → AreRunAgain meeting es later name
+        → EndsAsWhole meeting (last_run meeting es) later name }
 {}
 
 /// After any number of sessions that stopped the one that ends leaves of each database the merge of what the
 /// first one found: under all ids that they gave it, or, where it goes by the desktop, under some of them.
 pub fn stopped_sessions_end_at_the_merge()
-    ensures { (meeting : Meeting) (es : List Later) (later name : List ℕ) → IsSoundMeeting meeting
-        → AllRunAgain meeting es → IsActive meeting name → IsFreshBehind meeting es later name
-        → let last = last_run meeting es in
-        GotAllIds (action_at meeting name) (found_of last name) (ids_at last later name)
-        → EndsAtMerge meeting es later name }
+    ensures { (meeting : Meeting) (es : List Later) (later name : List ℕ)
+        → AreRunAgain meeting es later name → EndsAtMerge meeting es later name }
 {}
 
 /// A session leaves a database that it skips as both sides had it, and the sessions that are run again behind
 /// it skip it too, find it so and leave it so, whichever ids they give.
 pub fn a_skipped_database_is_left_alone()
-    ensures whole { (meeting : Meeting) (given name : List ℕ) → (IsActive meeting name → ⊥)
-        → HoldsTheSame meeting (merged_device meeting given) (merged_slot meeting given) name }
+    ensures whole { (meeting : Meeting) (given name : List ℕ) → IsSkipped meeting name
+        → LeavesTheSame meeting meeting given name }
     ensures again { (meeting : Meeting) (es : List Later) (later name : List ℕ)
-        → AllRunAgain meeting es → (IsActive meeting name → ⊥)
-        → let last = last_run meeting es in AllSkip meeting es name
-        × HoldsTheSame meeting (merged_device last later) (merged_slot last later) name }
+        → AllRunAgain meeting es → IsSkipped meeting name
+        → AllSkip meeting es name × LeavesTheSame meeting (last_run meeting es) later name }
 {}
 
 /// There are ids that a handheld may give to all new records of a session that passes no limit: in each
 /// database each is free at its turn, and nothing had one.
 pub fn new_ids_can_be_given()
-    ensures { (meeting : Meeting) → IsSoundMeeting meeting → first_over meeting ≡ None
-        → (new : List ℕ) × ((name : List ℕ) → IsActive meeting name
-        → GotAllIds (action_at meeting name) (found_of meeting name) (ids_at meeting new name)
-        × AreUnknown (found_of meeting name) (ids_at meeting new name)) }
+    ensures { (meeting : Meeting) → FitsLimits meeting
+        → (new : List ℕ) × ((name : List ℕ) → IsActive meeting name → GivesNewIds meeting new name) }
 {}

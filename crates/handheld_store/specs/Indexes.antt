@@ -21,6 +21,12 @@ IsIndexIn databases index =
 abbrev pub AreIndexes : List DatabaseValue → List Index → Type 0
 AreIndexes databases indexes = AllByRecursion (IsIndexIn databases) indexes
 
+-- where a database has the name of an index, it has one id more, which is this
+abbrev pub HasIdMore : List DatabaseValue → Index → ℕ → Type 0
+HasIdMore databases index id =
+    IfSome (database_of index.name databases)
+    (λ database. ids_of database.records ≡ index.ids.keys ++ id ∷ [])
+
 -- the databases of all other names are as before
 abbrev pub AreOthers : List ℕ → List DatabaseValue → List DatabaseValue → Type 0
 AreOthers name old new =

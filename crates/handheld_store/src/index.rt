@@ -6,7 +6,7 @@ ghost use Rattle.pdb_values.specs.NamedDatabases as named;
 ghost use Rattle.palm_device.specs.Records as records;
 ghost use Rattle.palm_device.specs.Soundness.{ids_of};
 ghost use Rattle.handheld_store.specs.Indexes as index_specs;
-ghost use Rattle.handheld_store.specs.Indexes.{AreIndexes, HasOneMore};
+ghost use Rattle.handheld_store.specs.Indexes.{AreIndexes, HasIdMore, HasOneMore};
 
 use indexmap::IndexSet;
 use palm_device::place_of_id;
@@ -132,9 +132,7 @@ fn place_of_index(indexes: &[Index], name: &[u8]) -> Option<usize>
 // Puts an index that has one id more behind the others, where memory serves.
 fn put_more(indexes: &mut Vec<Index>, index: Index, id: u32)
     ensures { (databases : List DatabaseValue) → AreIndexes databases indexes.old.items
-        → IfSome (named.database_of index.name databases)
-        (λ database. ids_of database.records ≡ index.ids.keys ++ id ∷ [])
-        → AreIndexes databases indexes.new.items }
+        → HasIdMore databases index id → AreIndexes databases indexes.new.items }
 {
     let Index { name, mut ids } = index;
     match ids.insert(id) {

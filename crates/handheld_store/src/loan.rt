@@ -10,10 +10,10 @@ ghost use Rattle.palm_device.specs.Records as records;
 ghost use Rattle.palm_device.specs.Records.{IsFree, with_records};
 ghost use Rattle.palm_device.specs.Resources as resources;
 ghost use Rattle.palm_device.specs.Resources.{with_resources};
-ghost use Rattle.handheld_files.specs.Openings.{Stands};
 ghost use Rattle.handheld_files.specs.Settled.{are_settled};
 ghost use Rattle.handheld_store.specs.Files.{FollowsName};
 ghost use Rattle.handheld_store.specs.Refusals.{open_fault, refusal_of, stops};
+ghost use Rattle.handheld_store.specs.Stores.{HasHead, IsKeptIn};
 
 use crate::fault::StoreFault;
 use crate::lent::{LentDatabase, RecordMut};
@@ -247,13 +247,9 @@ impl<'s, F: Folder> Loan<'s, F, LentDatabase> {
         }) }
         ensures files { OnOk result (FollowsName F.contents
             (database_in self.entry).head.name self.entry.store.now self.exit.0.now) }
-        ensures stands { IfSome (database_of
-            (database_in self.entry).head.name self.entry.store.now.databases)
-            (λ was. was.head ≡ (database_in self.entry).head)
-            → Stands (F.contents self.entry.store.now.folder) self.entry.store.now.databases
-            self.entry.store.now.user
-            → OnOk result (Stands (F.contents self.exit.0.now.folder) self.exit.0.now.databases
-            self.exit.0.now.user) }
+        ensures stands { HasHead (database_in self.entry).head self.entry.store.now.databases
+            → IsKeptIn F.contents self.entry.store.now
+            → OnOk result (IsKeptIn F.contents self.exit.0.now) }
         ensures change { OneChange F.contents F.moments F.paths F.faults
             self.entry.store.now.folder self.exit.0.now.folder
             result (IsErrOf result StoreFault.KeeperFault) }

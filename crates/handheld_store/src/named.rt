@@ -13,6 +13,7 @@ ghost use Rattle.handheld_files.specs.Settled.{are_settled};
 ghost use Rattle.handheld_store.specs.Files.{Follows};
 ghost use Rattle.handheld_store.specs.Placed.{Takes, with_record};
 ghost use Rattle.handheld_store.specs.Refusals.{create_fault, delete_fault, open_fault, refusal_of, stops};
+ghost use Rattle.handheld_store.specs.Stores.{HasHead};
 
 use crate::copies::{are_same, copy_of};
 use crate::fault::StoreFault;
@@ -159,9 +160,7 @@ pub fn put_database<F: Folder>(
         (named.database_of database.head.name databases.new.items)
         (F.contents folder.old) (F.contents folder.new)) }
     ensures stands { (user : UserValue)
-        → IfSome (named.database_of database.head.name databases.old.items)
-        (λ was. was.head ≡ database.head)
-        → Stands (F.contents folder.old) databases.old.items user
+        → HasHead database.head databases.old.items → Stands (F.contents folder.old) databases.old.items user
         → OnOk result (Stands (F.contents folder.new) databases.new.items user) }
     ensures change { OneChange F.contents F.moments F.paths F.faults folder.old folder.new
         result (IsErrOf result StoreFault.KeeperFault) }

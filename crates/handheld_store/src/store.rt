@@ -15,6 +15,7 @@ ghost use Rattle.handheld_files.specs.Openings.{AreKept, HoldsAll, ShowsOpenFaul
 ghost use Rattle.handheld_files.specs.Settled.{are_settled};
 ghost use Rattle.handheld_store.specs.Files.{FollowsName};
 ghost use Rattle.handheld_store.specs.Refusals.{create_fault, delete_fault, refusal_of, stops};
+ghost use Rattle.handheld_store.specs.Stores.{HasHead, IsKeptIn};
 
 use crate::fault::StoreFault;
 use crate::files::write_user;
@@ -286,10 +287,8 @@ impl<F: Folder> Store<F> {
         ensures failed { OnErr result (self.new
             ≡ record self.old { folder = self.new.folder; sound = false }) }
         ensures files { OnOk result (FollowsName F.contents database.head.name self.old self.new) }
-        ensures stands { IfSome (named.database_of database.head.name self.old.databases)
-            (λ was. was.head ≡ database.head)
-            → Stands (F.contents self.old.folder) self.old.databases self.old.user
-            → OnOk result (Stands (F.contents self.new.folder) self.new.databases self.new.user) }
+        ensures stands { HasHead database.head self.old.databases
+            → IsKeptIn F.contents self.old → OnOk result (IsKeptIn F.contents self.new) }
         ensures change { OneChange F.contents F.moments F.paths F.faults self.old.folder
             self.new.folder result (IsErrOf result StoreFault.KeeperFault) }
         ensures stops { stops result ≡ is_err result }

@@ -2,13 +2,13 @@
 ghost use Rattle.std.specs.Prelude.{◌≡◌, ◌≤◌, IfOk, IfSome, IsErrOf, IsSome, IsSomeAnd, OnErr, OnOk, is_err, is_ok, length, true, false};
 ghost use Rattle.hs_folders.specs.Moments.{OneChange};
 ghost use Rattle.pdb_values.specs.NamedDatabases as named;
-ghost use Rattle.pdb_values.specs.NamedDatabases.{replaced};
 ghost use Rattle.palm_device.specs.Records as records;
 ghost use Rattle.palm_device.specs.Records.{IsFree};
 ghost use Rattle.handheld_files.specs.Openings.{Stands};
 ghost use Rattle.handheld_store.specs.Files.{FollowsName};
-ghost use Rattle.handheld_store.specs.Placed.{HasRoomFor, Takes, with_record};
+ghost use Rattle.handheld_store.specs.Placed.{HasRoomFor, Takes};
 ghost use Rattle.handheld_store.specs.Refusals.{stops};
+ghost use Rattle.handheld_store.specs.Stores.{HasWritten};
 
 use crate::fault::StoreFault;
 use crate::index::{add_id, place_in};
@@ -36,14 +36,9 @@ impl<F: Folder> Store<F> {
         requires sound { self.old.sound ≡ true }
         requires possible { IfSome (named.database_of name.now self.old.databases)
             (HasRoomFor (length bytes.now) id) }
-        ensures written { IfOk result (λ given.
-            IfSome (named.database_of name.now self.old.databases) (λ database. self.new
-            ≡ record self.old {
-              folder = self.new.folder;
-              databases = replaced (with_record given
-                  (record { category = category; secret = secret; bytes = bytes.now }) database)
-                  self.old.databases;
-            })) }
+        ensures written { IfOk result (λ given. HasWritten name.now given
+            (record { category = category; secret = secret; bytes = bytes.now })
+            self.old self.new) }
         ensures there { OnOk result (IsSome (named.database_of name.now self.old.databases)) }
         ensures given { IfOk result (λ given. records.given_id given id ≡ given) }
         ensures free { IfOk result (λ given. id ≡ 0
@@ -82,11 +77,7 @@ impl<F: Folder> Store<F> {
     ) -> Result<(), StoreFault>
         requires sound { self.old.sound ≡ true }
         requires takes { IsSomeAnd (named.database_of name.now self.old.databases) (Takes id) }
-        ensures put { OnOk result (IfSome (named.database_of name.now self.old.databases)
-            (λ was. self.new ≡ record self.old {
-              folder = self.new.folder;
-              databases = replaced (with_record id content was) self.old.databases;
-            })) }
+        ensures put { OnOk result (HasWritten name.now id content self.old self.new) }
         ensures failed { OnErr result (self.new
             ≡ record self.old { folder = self.new.folder; sound = false }) }
         ensures files { OnOk result (FollowsName F.contents name.now self.old self.new) }

@@ -13,6 +13,10 @@ use Rattle.install_backup.specs.Installed.{AreApart}
 abbrev pub backed_up : DatabaseValue → DatabaseValue
 backed_up database = record database { head = listed database.head }
 
+-- no application is at work on a record
+abbrev pub HasNoneBusy : DatabaseValue → Type 0
+HasNoneBusy database = AllByRecursion (λ (item : Record). item.busy ≡ false) database.records
+
 -- no dates, no changes and no seed, and not marked as open
 pub record IsUnmarkedHead (head : DbHead) : Type 0 where
   pub created : head.created ≡ 0

@@ -49,7 +49,8 @@ pub record BackupWent {L F : Type 0} (talk : L → Option Talk) (since : L → L
     (old : SessionValue L) (folder : F) (left : MoveOutcome L F) : Type 0 where
   pub answer : Result (Vec Moved) Stop
   pub now : SessionValue L
-  pub keeps : KeepsSome talk since fault downs contents moments heads old now folder left.folder answer
+  pub keeps : KeepsSome talk since fault downs contents moments heads old now folder left.folder
+      answer
   pub finishes : Finishes talk since fault downs now.link left.link answer left.end
 
 -- where both sides did not meet, the folder was not touched, and the session stopped for that cause

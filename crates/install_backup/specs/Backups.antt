@@ -39,12 +39,17 @@ file_of database = record { name = database_file database.head; bytes = canonica
 abbrev pub kept_moved : DatabaseValue → Moved
 kept_moved database = record { name = database.head.name; entries = Some (entry_count database) }
 
+-- what is asked for of an open database of this head, by what is told of it
+abbrev pub copy_reads : DbHead → Option Talk → ℕ → List Act
+copy_reads head told handle =
+    backup_under (holds_resources head.attributes) (entries_of told handle) handle
+
 -- what is asked for of one database, by what was told before it, and what is read of it then
 unfoldable pub backups_under : Option Talk → DbHead → ℕ → List ℕ → List Act
 backups_under told head handle given =
     within (opening_to_read head.name)
-    (λ handle given. backup_under (holds_resources head.attributes)
-    (entries_of (saying (opening_to_read head.name ∷ []) told) handle) handle) handle given
+    (λ handle given. copy_reads head (saying (opening_to_read head.name ∷ []) told) handle) handle
+    given
 
 abbrev pub SaysCopied : Option Talk → DbHead → ℕ → List ℕ → DatabaseValue → Type 0
 SaysCopied told head handle given whole =

@@ -66,6 +66,10 @@ first_full (database ∷ databases) held =
     else Some database.head.name
     ) else first_full databases held
 
+-- a handheld has room for all of them
+abbrev pub HasRoomForAll : List DatabaseValue → Device → Type 0
+HasRoomForAll databases device = first_full databases device.databases ≡ None
+
 -- the databases of a handheld on which these were installed
 abbrev pub all_installed : List DatabaseValue → List DatabaseValue → List DatabaseValue
 all_installed [] held = held

@@ -1,13 +1,17 @@
 -- Where a handheld stands in the midst of an install.
-use Rattle.std.specs.Prelude.{◌≡◌, ◌⊎◌, ℕ, false, List, [], ◌∷◌, ◌++◌, Option, Some, None, take}
+use Rattle.std.specs.Prelude.{◌≡◌, ◌⊎◌, ℕ, false, List, [], ◌∷◌, ◌++◌, Option, Some, None, filter, map, take}
 use Rattle.std.specs.Str.{bytes_eq}
 use Rattle.pdb_values.specs.Databases.{DatabaseValue}
 use Rattle.pdb_values.specs.NamedDatabases.{database_of}
 use Rattle.palm_device.specs.Devices.{Device}
 use Rattle.palm_device.specs.Records.{reset_flags}
+use Rattle.desktop_session.specs.Acts.{text}
+use Rattle.session_parts.specs.Fronts.{Front}
+use Rattle.install_backup.specs.InstallActs.{install_acts, is_installable}
 use Rattle.install_backup.specs.InstallEnds.{all_installed}
 use Rattle.install_backup.specs.Installed.{installed_block, installed_head, installed_records}
 use Rattle.install_backup.specs.Puts.{put_each}
+use Rattle.install_backup.specs.Rooms.{AreAllBounded}
 
 -- A database of a file as far as it was written: under its head, each block there or not yet, and
 -- the first of its entries, of which records may still count as changed.
@@ -45,3 +49,20 @@ pub record StandsInTurn (databases : List DatabaseValue) (device after : Device)
   pub first : FirstIsUnderway later (all_installed before device.databases) after.databases
   pub others : (name : List ℕ) → IsNotFirst name later
       → database_of name after.databases ≡ database_of name (all_installed before device.databases)
+
+-- what an install of these databases left of a handheld, wherever it stopped
+pub record InstallFront (device : Device) (databases : List DatabaseValue) (after : Device)
+    : Type 0 where
+  pub bounded : AreAllBounded databases
+  pub writes : ℕ
+  pub given : List ℕ
+  pub front : Front device (map text (install_acts databases)) writes given after
+
+-- no database of this name is installed
+abbrev pub IsOther : List ℕ → List DatabaseValue → Type 0
+IsOther name databases = database_of name (filter is_installable databases) ≡ None
+
+-- what a handheld has under this name is as it was
+abbrev pub HasAsBefore : List ℕ → Device → Device → Type 0
+HasAsBefore name device after =
+    database_of name after.databases ≡ database_of name device.databases

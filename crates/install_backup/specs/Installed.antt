@@ -10,6 +10,7 @@ use Rattle.pdb_values.specs.declared.head.DbHead.{DbHead}
 use Rattle.pdb_values.specs.declared.record.Record.{Record}
 use Rattle.pdb_values.specs.declared.resource.Resource.{Resource}
 use Rattle.palm_device.specs.Blocks.{block_or_none}
+use Rattle.palm_device.specs.Devices.{Device}
 use Rattle.palm_device.specs.FreshIds.{with_fresh_ids}
 use Rattle.palm_device.specs.Heads.{new_head}
 use Rattle.palm_device.specs.Resources.{is_resource}
@@ -67,3 +68,8 @@ installed database = record {
 -- the handheld's databases with it in place of the one of its name
 abbrev pub with_installed : DatabaseValue → List DatabaseValue → List DatabaseValue
 with_installed database databases = with_put (installed database) databases
+
+-- the handheld with these databases
+abbrev pub installed_on : DatabaseValue → Device → Device
+installed_on database device =
+    record device { databases = with_installed database device.databases }

@@ -10,3 +10,4 @@ pub mod Installed
 pub mod Installs
 pub mod Puts
 pub mod Rooms
+pub mod Written

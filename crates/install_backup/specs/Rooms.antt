@@ -1,10 +1,14 @@
 -- Whether a handheld has room for a database: it has one of its name, or fewer than it can have
 -- (pilot-link, `pi-dlp.h`: dlpErrLimit).
 use Rattle.std.specs.Prelude.{◌≡◌, ◌⊎◌, ◌&&◌, ◌||◌, ◌==◌, ℕ, Bool, true, false, List, length, map, nat_lt, Option, IfSome, Result, Ok, Err, is_some, if◌then◌else◌}
+use Rattle.std.specs.List.{AllByRecursion}
 use Rattle.pdb_values.specs.Databases.{DatabaseValue}
+use Rattle.pdb_values.specs.Heads.{is_read_only}
 use Rattle.pdb_values.specs.NamedDatabases.{database_of}
 use Rattle.pdb_values.specs.Names.{IsName}
+use Rattle.palm_device.specs.Bounds.{IsBoundedDatabase}
 use Rattle.palm_device.specs.Devices.{Device, most_databases}
+use Rattle.palm_device.specs.Handles.{no_handles}
 use Rattle.dlp_commands.specs.Errors.{limit}
 use Rattle.dlp_commands.specs.declared.link.LinkFault.{LinkFault}
 use Rattle.dlp_commands.specs.Talks.{Talk}
@@ -27,6 +31,21 @@ has_room name databases =
 abbrev pub Judges : (Device → Type 0) → Bool → List ℕ → Option Talk → Type 0
 Judges Holds room name told =
     IfSome told (λ talk. Holds talk.device → has_room name talk.device.databases ≡ room)
+
+-- nothing is open on a handheld
+abbrev pub HasNoneOpen : Device → Type 0
+HasNoneOpen device = device.handles ≡ no_handles
+
+-- databases whose heads and entries keep the bounds of their types
+abbrev pub AreAllBounded : List DatabaseValue → Type 0
+AreAllBounded databases = AllByRecursion IsBoundedDatabase databases
+
+-- a handheld on which nothing is open has room for a database that is not read-only
+pub record CanInstall (device : Device) (database : DatabaseValue) : Type 0 where
+  pub rests : IsAtRest device
+  pub bounded : IsBoundedDatabase database
+  pub writable : is_read_only database.head.attributes ≡ false
+  pub room : has_room database.head.name device.databases ≡ true
 
 -- a handheld on which nothing is open, for a database that has a name
 abbrev pub RestsFor : DatabaseValue → Device → Type 0

@@ -1,12 +1,7 @@
 // One database of a handheld, read whole.
-ghost use Rattle.std.specs.Prelude.{◌≡◌, ◌∷◌, [], IfSome, false};
-ghost use Rattle.pdb_values.specs.Heads.{holds_resources};
-ghost use Rattle.desktop_session.specs.Requests.{opening_to_read};
-ghost use Rattle.desktop_session.specs.Says.{saying};
-ghost use Rattle.slow_mirror.specs.Reads.{entries_of};
-ghost use Rattle.session_parts.specs.Spans.{Spans, within};
-ghost use Rattle.install_backup.specs.BackupActs.{backup_under};
-ghost use Rattle.install_backup.specs.Copies.{copied};
+ghost use Rattle.std.specs.Prelude.{◌≡◌, false};
+ghost use Rattle.session_parts.specs.Spans.{Spans};
+ghost use Rattle.install_backup.specs.Backups.{SaysCopied, backups_under};
 
 use crate::copying::read_whole;
 use desktop_session::{Linked, SessionFault};
@@ -22,12 +17,9 @@ pub fn backup_one<L: Link>(
     head: &DbHead,
 ) -> Result<Database, SessionFault>
     requires { linked.old.abandoned ≡ false }
-    ensures spans { let told = saying (opening_to_read head.now.name ∷ []) (L.talk linked.old.link) in
-        Spans L.talk L.since L.fault L.downs (within (opening_to_read head.now.name)
-        (λ handle given. backup_under (holds_resources head.now.attributes)
-        (entries_of told handle) handle))
-        (λ handle given whole. IfSome told (λ talk. whole ≡ copied head.now handle talk.device))
-        linked.old linked.new result }
+    ensures spans { let told = L.talk linked.old.link in
+        Spans L.talk L.since L.fault L.downs (backups_under told head.now)
+        (SaysCopied told head.now) linked.old linked.new result }
 {
     let mut opened = linked.open_read(&head.name)?;
     let whole = match read_whole(alloc, &mut opened, head) {

@@ -8,11 +8,11 @@ ghost use Rattle.desktop_session.specs.Lent.{lent_resource, lent_value};
 ghost use Rattle.desktop_session.specs.Requests.{reading_at, reading_resource};
 ghost use Rattle.desktop_session.specs.Stops.{AsksOne};
 ghost use Rattle.slow_mirror.specs.Asks.{Asks};
-ghost use Rattle.slow_mirror.specs.Reads.{entries_of};
 ghost use Rattle.session_parts.specs.Causes.{IsLater};
-ghost use Rattle.install_backup.specs.BackupActs.{backup_under, each_read, entry_reads};
+ghost use Rattle.install_backup.specs.BackupActs.{each_read, entry_reads};
 ghost use Rattle.install_backup.specs.Copies as copies;
 ghost use Rattle.install_backup.specs.Copies.{copied, records_in, records_told, resources_in, resources_told};
+ghost use Rattle.install_backup.specs.Backups.{copy_reads};
 
 use desktop_session::{OpenDb, RecordLent, ResourceLent, SessionFault};
 use dlp_commands::Link;
@@ -237,8 +237,7 @@ pub(crate) fn read_whole<L: Link>(
     ensures same_reference { db.new.linked.ghost_name ≡ db.old.linked.ghost_name }
     ensures same_handle { db.new.handle ≡ db.old.handle }
     ensures asks { Asks L.talk L.since L.fault L.downs
-        (backup_under (holds_resources head.now.attributes)
-        (entries_of (L.talk db.old.linked.now.link) db.old.handle) db.old.handle)
+        (copy_reads head.now (L.talk db.old.linked.now.link) db.old.handle)
         db.old.linked.now db.new.linked.now result }
     ensures told { IfOk result (λ whole. IfSome (L.talk db.old.linked.now.link) (λ talk.
         whole ≡ copied head.now db.old.handle talk.device)) }

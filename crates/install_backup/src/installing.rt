@@ -1,20 +1,16 @@
 // One database of a file, installed on a handheld.
 ghost use Rattle.std.specs.Prelude.{◌≡◌, ◌≤◌, ◌∷◌, [], IfErr, OnErr, OnOk, false, length, true};
-ghost use Rattle.palm_device.specs.Devices.{Device};
-ghost use Rattle.palm_device.specs.Handles.{no_handles};
 ghost use Rattle.pdb_values.specs.Heads.{is_read_only};
-ghost use Rattle.pdb_values.specs.Names.{IsName};
-ghost use Rattle.desktop_session.specs.Requests.{deleting, making};
+ghost use Rattle.desktop_session.specs.Requests.{making};
 ghost use Rattle.slow_mirror.specs.Asks.{Asks};
 ghost use Rattle.session_parts.specs.Causes.{IsLater};
-ghost use Rattle.session_parts.specs.Rests.{IsAtRest};
 ghost use Rattle.session_parts.specs.Spans.{Spans, within};
 ghost use Rattle.install_backup.specs.Installed.{installed_head, installed_records};
 ghost use Rattle.install_backup.specs.InstallActs as acts;
 ghost use Rattle.install_backup.specs.InstallActs.{entry_acts, fill_acts, written_count};
 ghost use Rattle.install_backup.specs.Installs.{making_acts};
 ghost use Rattle.install_backup.specs.Rooms as rooms;
-ghost use Rattle.install_backup.specs.Rooms.{IsNoLimit, IsUnmade, IsWithin, Judges, RestsFor, fault_in, stop_at};
+ghost use Rattle.install_backup.specs.Rooms.{HasNoneOpen, IsNoLimit, IsUnmade, IsWithin, Judges, RestsFor, fault_in, stop_at};
 
 use crate::entries::{write_app, write_records, write_resources, write_sort};
 use crate::live::to_install;
@@ -109,13 +105,13 @@ fn make<L: Link>(
     ensures spans { Spans L.talk L.since L.fault L.downs
         (within (making (installed_head database.now.head)) (fill_acts database.now))
         (λ handle given done. Unit {0}) linked.old linked.new (fault_in result) }
-    ensures room { OnOk result (Judges (λ (device : Device). device.handles ≡ no_handles) true
+    ensures room { OnOk result (Judges HasNoneOpen true
         database.now.head.name (L.talk linked.old.link)) }
-    ensures full { IfErr result (IsUnmade L.talk (λ (device : Device). device.handles ≡ no_handles)
+    ensures full { IfErr result (IsUnmade L.talk HasNoneOpen
         (making (installed_head database.now.head) ∷ []) database.now.head.name
         linked.old.link linked.new.link) }
     ensures within { OnErr result (IsWithin L.talk L.since L.fault L.downs
-        (λ (device : Device). device.handles ≡ no_handles)
+        HasNoneOpen
         (making (installed_head database.now.head) ∷ []) database.now.head.name
         linked.old.link linked.new.link) }
 {
@@ -157,13 +153,10 @@ pub(crate) fn install_one<L: Link>(
     ensures spans { Spans L.talk L.since L.fault L.downs (acts.install_one database.now)
         (λ handle given count. count ≡ written_count database.now)
         linked.old linked.new (fault_in result) }
-    ensures room { OnOk result (Judges
-        (λ (device : Device). IsAtRest device × IsName database.now.head.name) true
-        database.now.head.name (L.talk linked.old.link)) }
-    ensures full { IfErr result (IsUnmade L.talk
-        (λ (device : Device). IsAtRest device × IsName database.now.head.name)
-        (deleting database.now.head.name ∷ making (installed_head database.now.head) ∷ [])
-        database.now.head.name linked.old.link linked.new.link) }
+    ensures room { OnOk result (Judges (RestsFor database.now) true database.now.head.name
+        (L.talk linked.old.link)) }
+    ensures full { IfErr result (IsUnmade L.talk (RestsFor database.now)
+        (making_acts database.now) database.now.head.name linked.old.link linked.new.link) }
     ensures within { OnErr result (IsWithin L.talk L.since L.fault L.downs
         (RestsFor database.now) (making_acts database.now)
         database.now.head.name linked.old.link linked.new.link) }
@@ -202,9 +195,8 @@ pub fn install<L: Link>(
     ensures spans { Spans L.talk L.since L.fault L.downs (acts.install_one database.now)
         (λ handle given count. count ≡ written_count database.now)
         linked.old linked.new result }
-    ensures room { OnOk result (Judges
-        (λ (device : Device). IsAtRest device × IsName database.now.head.name) true
-        database.now.head.name (L.talk linked.old.link)) }
+    ensures room { OnOk result (Judges (RestsFor database.now) true database.now.head.name
+        (L.talk linked.old.link)) }
 {
     match install_one(alloc, linked, database) {
         Ok(count) => Ok(count),

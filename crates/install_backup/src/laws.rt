@@ -1,33 +1,27 @@
 // What an install makes of a database and of a handheld, and what a backup reads. Each function here does nothing: its contract is the law.
-ghost use Rattle.std.specs.Prelude.{◌≡◌, ◌++◌, ℕ, List, [], None, Some, false, filter, flat_map, map, take, true};
-ghost use Rattle.std.specs.List.{AllByRecursion};
+ghost use Rattle.std.specs.Prelude.{◌≡◌, ◌++◌, ℕ, List, [], Some, flat_map, take, true};
 ghost use Rattle.pdb_values.specs.Databases.{DatabaseValue};
-ghost use Rattle.pdb_values.specs.Heads.{is_read_only};
 ghost use Rattle.pdb_values.specs.NamedDatabases.{NamesRise, database_of, with_new, with_put, without_named};
-ghost use Rattle.pdb_values.specs.declared.record.Record.{Record};
 ghost use Rattle.pdb_values.specs.declared.resource.Resource.{Resource};
 ghost use Rattle.palm_device.specs.Blocks.{with_app, with_sort};
 ghost use Rattle.palm_device.specs.Bounds.{IsBoundedDatabase};
-ghost use Rattle.palm_device.specs.Devices.{Device, with_database};
-ghost use Rattle.palm_device.specs.Handles.{Base, base_at, is_writable, no_handles};
-ghost use Rattle.palm_device.specs.Resources as resources;
-ghost use Rattle.palm_device.specs.Resources.{put_resource, with_resources};
-ghost use Rattle.dlp_commands.specs.Holding.{on_resources};
-ghost use Rattle.desktop_session.specs.Acts.{acted, text};
+ghost use Rattle.palm_device.specs.Devices.{Device};
+ghost use Rattle.palm_device.specs.Handles.{Base};
+ghost use Rattle.desktop_session.specs.Acts.{acted};
 ghost use Rattle.desktop_session.specs.Orders.{AreInOrder, CanDelete};
-ghost use Rattle.desktop_session.specs.Requests.{deleting, putting_resource, writing_app, writing_sort};
+ghost use Rattle.desktop_session.specs.Requests.{deleting, writing_app, writing_sort};
 ghost use Rattle.desktop_session.specs.Tellings.{device_after};
-ghost use Rattle.session_parts.specs.Fronts.{Front};
 ghost use Rattle.session_parts.specs.Rests.{IsAtRest};
-ghost use Rattle.install_backup.specs.BackedUp.{IsUnmarked, backed_up};
+ghost use Rattle.install_backup.specs.BackedUp.{HasNoneBusy, IsUnmarked, backed_up};
 ghost use Rattle.install_backup.specs.BackupActs.{backup_acts, backup_of};
 ghost use Rattle.install_backup.specs.BackupEnds.{backup_front, read_of};
-ghost use Rattle.install_backup.specs.InstallActs.{install_acts, install_one, is_installable};
-ghost use Rattle.install_backup.specs.InstallEnds.{first_full};
-ghost use Rattle.install_backup.specs.InstallFronts.{StandsInTurn};
-ghost use Rattle.install_backup.specs.Installed.{installed, installed_behind, with_installed};
+ghost use Rattle.install_backup.specs.InstallActs.{install_acts, install_one, put_resource};
+ghost use Rattle.install_backup.specs.InstallEnds.{HasRoomForAll};
+ghost use Rattle.install_backup.specs.InstallFronts.{HasAsBefore, InstallFront, IsOther, StandsInTurn};
+ghost use Rattle.install_backup.specs.Installed.{installed, installed_behind, installed_on};
 ghost use Rattle.install_backup.specs.Puts.{put_each};
-ghost use Rattle.install_backup.specs.Rooms.{has_room};
+ghost use Rattle.install_backup.specs.Rooms.{AreAllBounded, CanInstall, HasNoneOpen, has_room};
+ghost use Rattle.install_backup.specs.Written.{HasPlaceFor, OpenToWrite, PutsDatabase, put_into};
 
 /// Of resources that are put one after another, each in place of the first of its type and id, those are left that are installed.
 pub fn resources_are_put_in_turn()
@@ -44,20 +38,14 @@ pub fn databases_go()
 /// Both blocks are written into an open database that may be written, and a resource into one of resources that has room for it.
 pub fn what_is_written_is_there()
     ensures app { (device : Device) (handle : ℕ) (base : Base) (bytes : List ℕ)
-        → base_at device handle ≡ Some base → is_writable base ≡ true
-        → (acted (writing_app handle bytes) device).1
-        ≡ with_database device (with_app bytes base.database) }
+        → OpenToWrite device handle base
+        → PutsDatabase (writing_app handle bytes) device (with_app bytes base.database) }
     ensures sort { (device : Device) (handle : ℕ) (base : Base) (bytes : List ℕ)
-        → base_at device handle ≡ Some base → is_writable base ≡ true
-        → (acted (writing_sort handle bytes) device).1
-        ≡ with_database device (with_sort bytes base.database) }
+        → OpenToWrite device handle base
+        → PutsDatabase (writing_sort handle bytes) device (with_sort bytes base.database) }
     ensures resource { (device : Device) (handle : ℕ) (base : Base) (resource : Resource)
-        → base_at device handle ≡ Some base → is_writable base ≡ true
-        → on_resources base.database ≡ true
-        → resources.has_room resource.kind.0 resource.id base.database.resources ≡ true
-        → (acted (putting_resource handle resource.kind.0 resource.id resource.bytes) device).1
-        ≡ with_database device (with_resources (put_resource resource.kind.0 resource.id
-        resource.bytes base.database.resources) base.database) }
+        → HasPlaceFor device handle base resource
+        → PutsDatabase (put_resource handle resource) device (put_into resource base.database) }
 {}
 
 /// An installed database keeps the bounds of one, is installed as it is, and stands where a new one goes once the one of its name is gone.
@@ -75,18 +63,13 @@ pub fn installed_databases_are_databases()
 /// On a handheld on which nothing is open, and which has room for it, a database that is not read-only is installed in place of the one of
 /// its name, and all else stays: each request may be asked at its turn, and nothing is open then.
 pub fn installs_arrive()
-    ensures order { (device : Device) (database : DatabaseValue) → IsAtRest device
-        → IsBoundedDatabase database → is_read_only database.head.attributes ≡ false
-        → has_room database.head.name device.databases ≡ true
+    ensures order { (device : Device) (database : DatabaseValue) → CanInstall device database
         → AreInOrder (install_one database 1 []) device }
-    ensures device { (device : Device) (database : DatabaseValue) → IsAtRest device
-        → IsBoundedDatabase database → is_read_only database.head.attributes ≡ false
-        → has_room database.head.name device.databases ≡ true
-        → device_after (install_one database 1 []) device
-        ≡ record device { databases = with_installed database device.databases } }
+    ensures device { (device : Device) (database : DatabaseValue) → CanInstall device database
+        → device_after (install_one database 1 []) device ≡ installed_on database device }
     ensures rests { (device : Device) (database : DatabaseValue) → IsAtRest device
         → IsBoundedDatabase database → has_room database.head.name device.databases ≡ true
-        → IsAtRest (record device { databases = with_installed database device.databases }) }
+        → IsAtRest (installed_on database device) }
 {}
 
 /// What a backup reads of a handheld on which nothing is open is the handheld's database, without its seed, where no application is at work
@@ -94,8 +77,7 @@ pub fn installs_arrive()
 pub fn copies_are_the_devices()
     ensures { (device : Device) (database : DatabaseValue) → IsAtRest device
         → database_of database.head.name device.databases ≡ Some database
-        → AllByRecursion (λ (item : Record). item.busy ≡ false) database.records
-        → read_of device database ≡ backed_up database }
+        → HasNoneBusy database → read_of device database ≡ backed_up database }
 {}
 
 /// A backup leaves a handheld on which nothing is open as it was, up to the request that ends the session.
@@ -113,8 +95,7 @@ pub fn backups_keep_their_order()
 /// Each request of an install may be asked at its turn of a handheld on which nothing is open, and which has room for all of its databases.
 pub fn installs_keep_their_order()
     ensures { (device : Device) (databases : List DatabaseValue) (count : ℕ) → IsAtRest device
-        → AllByRecursion IsBoundedDatabase databases
-        → first_full databases device.databases ≡ None
+        → AreAllBounded databases → HasRoomForAll databases device
         → AreInOrder (take count (install_acts databases)) device }
 {}
 
@@ -123,10 +104,8 @@ pub fn installs_keep_their_order()
 pub fn installs_come_back()
     ensures database { (database : DatabaseValue) → IsBoundedDatabase database → IsUnmarked database
         → backed_up (installed database) ≡ database }
-    ensures handheld { (device : Device) (database : DatabaseValue) → IsAtRest device
-        → IsBoundedDatabase database → IsUnmarked database
-        → is_read_only database.head.attributes ≡ false
-        → has_room database.head.name device.databases ≡ true
+    ensures handheld { (device : Device) (database : DatabaseValue) → CanInstall device database
+        → IsUnmarked database
         → read_of (device_after (install_one database 1 []) device) (installed database)
         ≡ database }
 {}
@@ -134,26 +113,18 @@ pub fn installs_come_back()
 /// Wherever an install stops, a handheld on which nothing was open has the user that it had, and each of its databases whose name no file
 /// has that is installed is as it was, whether or not there was room.
 pub fn others_stay()
-    ensures user { (device after : Device) (databases : List DatabaseValue) (writes : ℕ)
-        (given : List ℕ) → device.handles ≡ no_handles
-        → AllByRecursion IsBoundedDatabase databases
-        → Front device (map text (install_acts databases)) writes given after
-        → after.user ≡ device.user }
-    ensures others { (device after : Device) (databases : List DatabaseValue) (writes : ℕ)
-        (given name : List ℕ) → device.handles ≡ no_handles
-        → AllByRecursion IsBoundedDatabase databases
-        → Front device (map text (install_acts databases)) writes given after
-        → database_of name (filter is_installable databases) ≡ None
-        → database_of name after.databases ≡ database_of name device.databases }
+    ensures user { (device after : Device) (databases : List DatabaseValue) → HasNoneOpen device
+        → InstallFront device databases after → after.user ≡ device.user }
+    ensures others { (device after : Device) (databases : List DatabaseValue) (name : List ℕ)
+        → HasNoneOpen device → InstallFront device databases after → IsOther name databases
+        → HasAsBefore name device after }
 {}
 
 /// Wherever an install of several stops, on a handheld on which nothing was open, and which has room for all of them: those in front of one
 /// are installed; the database of its name is as it was then, or gone, or made anew with a beginning of its blocks and entries; and each
 /// database of another name is as it was then.
 pub fn installs_come_in_turn()
-    ensures { (device after : Device) (databases : List DatabaseValue) (writes : ℕ) (given : List ℕ)
-        → IsAtRest device → AllByRecursion IsBoundedDatabase databases
-        → first_full databases device.databases ≡ None
-        → Front device (map text (install_acts databases)) writes given after
+    ensures { (device after : Device) (databases : List DatabaseValue) → IsAtRest device
+        → HasRoomForAll databases device → InstallFront device databases after
         → StandsInTurn databases device after }
 {}

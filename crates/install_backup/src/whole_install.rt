@@ -1,11 +1,10 @@
 // A session that installs databases, from the greeting to the end.
 ghost use Rattle.std.specs.Prelude.{◌≡◌, Err, Some, false};
-ghost use Rattle.std.specs.List.{AllByRecursion};
-ghost use Rattle.palm_device.specs.Bounds.{IsBoundedDatabase};
 ghost use Rattle.dlp_commands.specs.Talks.{Talk};
 ghost use Rattle.session_parts.specs.Leaving.{Leaves};
 ghost use Rattle.session_parts.specs.Rests.{IsAtRest};
 ghost use Rattle.install_backup.specs.InstallEnds.{InstallEnds, InstallWent};
+ghost use Rattle.install_backup.specs.Rooms.{AreAllBounded};
 
 use crate::greeting::greet;
 use crate::many::install_all;
@@ -72,7 +71,7 @@ pub fn install_session<L: Link>(
     ensures link { Leaves L.since L.fault L.downs link result.link }
     // Over a link that tells a handheld on which nothing is open.
     ensures ends { (told : Talk) → L.talk link ≡ Some told → IsAtRest told.device
-        → AllByRecursion IsBoundedDatabase databases.now
+        → AreAllBounded databases.now
         → InstallEnds L.talk L.since L.fault L.downs databases.now told.device link result.link
         result.end }
 {

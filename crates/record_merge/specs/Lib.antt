@@ -1,3 +1,4 @@
 pub mod Merging
 pub mod Stops
+pub mod Whole
 pub mod Writes

@@ -29,9 +29,13 @@ settled_record e = clean (new_record e.0 e.1)
 abbrev pub gone_record : ℕ × ContentValue → Record
 gone_record e = record { id = e.0; deleted = true; dirty = false; busy = false; content = e.1 }
 
--- the desktop's rows, in rising ids
+-- what stands under ids, in rising order
+abbrev pub merged_entries : Choice → List ℕ → List (ℕ × ContentValue)
+merged_entries ch given = each_id (λ i. with_id i (row_at ch given i))
+
+-- the desktop's rows
 abbrev pub merged_rows : Choice → List ℕ → List Record
-merged_rows ch given = map settled_record (each_id (λ i. with_id i (row_at ch given i)))
+merged_rows ch given = map settled_record (merged_entries ch given)
 
 -- the base: the rows, then the gone rows
 abbrev pub merged_base : Choice → (ℕ → SideState) → List ℕ → List Record

@@ -7,14 +7,16 @@ use Rattle.pdb_values.specs.NamedDatabases.{database_of}
 use Rattle.pdb_values.specs.declared.head.DbHead.{DbHead}
 use Rattle.palm_device.specs.Devices.{Device}
 use Rattle.conduit_rules.specs.declared.action.Action.{Action}
+use Rattle.conduit_rules.specs.Views.{IsHonest}
 use Rattle.record_merge.specs.Writes.{after, giving}
 use Rattle.desk_store.specs.Shelves.{SlotValue}
 use Rattle.session_plan.specs.Archives.{entries_of}
-use Rattle.session_plan.specs.Choosing.{action_or_sync, agrees, base_rows, view, add_count}
+use Rattle.session_plan.specs.Choosing.{action_or_sync, add_count, agrees, base_rows, is_fast, view}
 use Rattle.session_plan.specs.Merges.{merged_device, merged_slot}
 use Rattle.session_plan.specs.Skips.{active, head_of, skip_of}
 use Rattle.session_plan.specs.Tasks.{Meeting, Task, names, task_of, slot_of, records_of}
-use Rattle.repeat_laws.specs.Repeats.{Finding, Ending, ended, chosen, shown, Place, left, news_done, clearing_done}
+use Rattle.repeat_laws.specs.Renaming.{AreUnknown, GotNewIds, SameEnds}
+use Rattle.repeat_laws.specs.Repeats.{AreStops, Ending, Finding, GotAllIds, IsRead, Place, all_ids, at_end, chosen, clearing_done, ended, left, news_done, shown}
 
 -- ---- one meeting
 
@@ -35,6 +37,15 @@ found_of meeting name = found meeting (task_of meeting name)
 -- by whichever sides it goes
 abbrev pub action_at : Meeting → List ℕ → Action
 action_at meeting name = action_or_sync (task_of meeting name).action
+
+-- all of it is read, or what is passed over is honest
+abbrev pub IsTaskShown : Meeting → Task → Type 0
+IsTaskShown meeting task =
+    is_fast meeting task ≡ true → IsHonest (base_rows task) (records_of task.handheld)
+
+-- the end of its session, where its new records get these ids
+abbrev pub ended_of : Meeting → List ℕ → List ℕ → Ending
+ended_of meeting name given = ended (action_at meeting name) (found_of meeting name) given
 
 -- ---- the next one
 
@@ -108,6 +119,28 @@ last_of meeting (e ∷ es) = last_of e.0 es
 abbrev pub places_of : List (Meeting × Place) → List Place
 places_of es = map (λ (e : Meeting × Place). e.1) es
 
+-- behind a whole session, as the next meeting reads it
+abbrev pub place_ended : Meeting → List ℕ → List ℕ → Place
+place_ended next name given = at_end given (view next (task_of next name)) (not (agrees next))
+
+-- Meetings find a database, each where the one before it stopped, and in the last each new record
+-- gets one of these ids; nothing had any id that stands in the end.
+pub record AreMeetings (meeting : Meeting) (name : List ℕ) (es : List (Meeting × Place))
+    (later : List ℕ) : Type 0 where
+  pub follow : AllFollow meeting name es
+  pub read : IsRead (found_of meeting name)
+  pub stops : AreStops (action_at meeting name) (found_of meeting name) (places_of es)
+  pub got : GotAllIds (action_at meeting name) (found_of (last_of meeting es) name) later
+  pub unknown : AreUnknown (found_of meeting name)
+      (all_ids (action_at meeting name) (places_of es) later)
+
+-- the last one's session ends as that of the first would have ended, whichever ids this would have
+-- given to its new records
+abbrev pub EndsAsFirst : Meeting → Meeting → List ℕ → List ℕ → Type 0
+EndsAsFirst meeting last name later =
+    (new : List ℕ) → GotNewIds (action_at meeting name) (found_of meeting name) new
+    → SameEnds (found_of meeting name) (ended_of last name later) (ended_of meeting name new)
+
 -- ---- the ids that are dealt out to a name
 
 -- the databases of a session get their ids in order, each as many as it has adds
@@ -147,6 +180,31 @@ holding_after meeting given name =
 -- the ids that a name got of them
 abbrev pub ids_at : Meeting → List ℕ → List ℕ → List ℕ
 ids_at meeting given name = ids_dealt meeting (active meeting) given name
+
+-- the merge of a database, where a session's new records got these
+abbrev pub merge_at : Meeting → List ℕ → List ℕ → Ending
+merge_at meeting given name = ended_of meeting name (ids_at meeting given name)
+
+-- each new record of a database got one of them
+abbrev pub GotAllAt : Meeting → List ℕ → List ℕ → Type 0
+GotAllAt meeting given name =
+    GotAllIds (action_at meeting name) (found_of meeting name) (ids_at meeting given name)
+
+-- meetings as above, of which neither the first nor the last skips the database
+pub record AreWholeMeetings (meeting : Meeting) (name : List ℕ) (es : List (Meeting × Place))
+    (later : List ℕ) : Type 0 where
+  pub first : IsActive meeting name
+  pub last : IsActive (last_of meeting es) name
+  pub meetings : AreMeetings meeting name es (ids_at (last_of meeting es) later name)
+
+-- both sides hold behind the last one what they would hold behind the first, whichever ids this
+-- would have given to its new records
+abbrev pub HoldsAsFirst : Meeting → Meeting → List ℕ → List ℕ → Type 0
+HoldsAsFirst meeting last name later =
+    (new : List ℕ)
+    → GotNewIds (action_at meeting name) (found_of meeting name) (ids_at meeting new name)
+    → SameEnds (found_of meeting name) (holding_after last later name)
+    (holding_after meeting new name)
 
 -- ---- no database is skipped that wasn't
 

@@ -5,7 +5,8 @@ use Rattle.pdb_values.specs.Records.{is_live}
 use Rattle.pdb_values.specs.declared.record.Record.{Record}
 use Rattle.conduit_rules.specs.Contents.{same_content}
 use Rattle.conduit_rules.specs.States.{held, first, live_of}
-use Rattle.repeat_laws.specs.Repeats.{Finding, Ending}
+use Rattle.conduit_rules.specs.declared.action.Action.{Action}
+use Rattle.repeat_laws.specs.Repeats.{AreStops, Ending, Finding, GotAllIds, IsRead, Place, all_ids, left_by}
 
 -- a record or a base row, gone or not, had the id
 abbrev pub is_known : Finding → ℕ → Bool
@@ -15,6 +16,20 @@ is_known x i = is_some (first i x.records) || is_some (first i x.base)
 abbrev pub AreUnknown : Finding → List ℕ → Type 0
 AreUnknown x [] = Unit {0}
 AreUnknown x (g ∷ gs) = (is_known x g ≡ false) × AreUnknown x gs
+
+-- each new record of a session gets one of these ids, which nothing had
+pub record GotNewIds (a : Action) (x : Finding) (given : List ℕ) : Type 0 where
+  pub got : GotAllIds a x given
+  pub unknown : AreUnknown x given
+
+-- Sessions stopped at these places, and one ended behind them: each new record of the last one got
+-- one of these ids, and nothing had any id that stands in the end.
+pub record AreSessions (a : Action) (x : Finding) (places : List Place) (later : List ℕ)
+    : Type 0 where
+  pub read : IsRead x
+  pub stops : AreStops a x places
+  pub got : GotAllIds a (left_by a x places) later
+  pub unknown : AreUnknown x (all_ids a places later)
 
 -- a live record with this content, under an id that nothing had
 abbrev pub is_new_with : Finding → ContentValue → Record → Bool

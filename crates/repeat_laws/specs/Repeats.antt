@@ -148,12 +148,22 @@ left_at_end a x given view gone_counts =
       gone_counts = gone_counts;
     }
 
+-- a session reads what the handheld holds, and its new records get free ids
+pub record IsSession (a : Action) (x : Finding) (given : List ℕ) : Type 0 where
+  pub read : IsRead x
+  pub got : GotIds a x given
+
 -- both ends are the same but for the gone rows of the base
 pub record EndAlike (e f : Ending) : Type 0 where
   pub records : e.records ≡ f.records
   pub rows : e.rows ≡ f.rows
   pub base : (i : ℕ) → base_at e.base false i ≡ base_at f.base false i
   pub archive : e.archive ≡ f.archive
+
+-- a session that finds y, and gives its new records the first ids, ends as one that finds x, and
+-- gives them the second
+abbrev pub EndsLike : Action → Finding → List ℕ → Finding → List ℕ → Type 0
+EndsLike a y later x given = EndAlike (ended a y later) (ended a x given)
 
 -- ---- sessions that stop, one after another
 

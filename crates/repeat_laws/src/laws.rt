@@ -5,10 +5,10 @@ ghost use Rattle.conduit_rules.specs.declared.action.Action.{Action};
 ghost use Rattle.conduit_rules.specs.declared.action.Action.TheVariants.{Sync, Handheld, Desktop};
 ghost use Rattle.conduit_rules.specs.declared.view.Seen.{Seen};
 ghost use Rattle.repeat_laws.specs.Losses.{loses_rows};
-ghost use Rattle.repeat_laws.specs.Repeats.{Finding, IsRead, EndAlike, GotIds, ended, Place};
+ghost use Rattle.repeat_laws.specs.Repeats.{EndsLike, Finding, GotIds, IsRead, IsSession, Place, ended};
 ghost use Rattle.repeat_laws.specs.Repeats.{StopsAmongNews, left_among_news, left_behind_commit};
-ghost use Rattle.repeat_laws.specs.Renaming.{AreUnknown, SameEnds};
-ghost use Rattle.repeat_laws.specs.Repeats.{GotAllIds, left_at_end, AreStops, left_by, all_ids};
+ghost use Rattle.repeat_laws.specs.Renaming.{AreSessions, GotNewIds, SameEnds};
+ghost use Rattle.repeat_laws.specs.Repeats.{left_at_end, AreStops, left_by, all_ids};
 
 /// A session of both sides that stops among its replacements and adds is taken up by the next one: that
 /// ends at the merge of what the first one found, under the ids that were given in both.
@@ -31,18 +31,16 @@ pub fn a_handheld_is_read_again()
 /// A session that goes by the desktop and stops among its replacements and adds is begun anew by the next
 /// one, under the ids that are given then: what was added before is purged.
 pub fn a_desktop_is_sent_again()
-    ensures { (x : Finding) (given later : List ℕ) (n : ℕ) → IsRead x → GotIds Desktop x given
+    ensures { (x : Finding) (given later : List ℕ) (n : ℕ) → IsSession Desktop x given
         → let y = left_among_news Desktop x given n in
-        GotIds Desktop y later
-        → EndAlike (ended Desktop y later) (ended Desktop x later) }
+        GotIds Desktop y later → EndsLike Desktop y later x later }
 {}
 
 /// A session that stops behind the desktop's commit, anywhere among its purges, its clean up and its reset,
 /// is ended by the next one as it would have ended.
 pub fn purges_are_taken_up()
-    ensures { (a : Action) (x : Finding) (given later : List ℕ) (n : ℕ) → IsRead x → GotIds a x given
-        → let y = left_behind_commit a x given n in
-        EndAlike (ended a y later) (ended a x given) }
+    ensures { (a : Action) (x : Finding) (given later : List ℕ) (n : ℕ) → IsSession a x given
+        → EndsLike a (left_behind_commit a x given n) later x given }
 {}
 
 /// A session that costs the desktop no live row of a database costs it none where it is run again, wherever
@@ -63,10 +61,10 @@ pub fn a_stop_costs_no_row()
 /// next one reads.
 pub fn an_ended_session_is_not_undone()
     ensures { (a : Action) (x : Finding) (given later : List ℕ) (view : List Seen)
-        (gone_counts : Bool)
-        → IsRead x → GotIds a x given
-        → let y = left_at_end a x given view gone_counts in
-        IsRead y → EndAlike (ended a y later) (ended a x given) }
+        (gone : Bool)
+        → IsSession a x given
+        → let y = left_at_end a x given view gone in
+        IsRead y → EndsLike a y later x given }
 {}
 
 /// After any number of sessions that stopped, wherever each did, the one that ends is as if the first had
@@ -77,23 +75,20 @@ pub fn stopped_sessions_end_as_one()
         → AreStops a x places
         → let y = left_by a x places in
         GotIds a y later
-        → EndAlike (ended a y later) (ended a x (all_ids a places later)) }
+        → EndsLike a y later x (all_ids a places later) }
 {}
 
 /// Which ids the new records got doesn't matter, as long as nothing had them.
 pub fn new_ids_are_of_no_account()
     ensures { (a : Action) (x : Finding) (given other : List ℕ) → IsRead x
-        → GotAllIds a x given → GotAllIds a x other → AreUnknown x given → AreUnknown x other
+        → GotNewIds a x given → GotNewIds a x other
         → SameEnds x (ended a x given) (ended a x other) }
 {}
 
 /// After any number of sessions that stopped, the one that ends leaves what one whole session would have
 /// left, whichever ids that one would have given to its new records.
 pub fn nothing_is_doubled_or_lost()
-    ensures { (a : Action) (x : Finding) (places : List Place) (later new : List ℕ) → IsRead x
-        → AreStops a x places
-        → let y = left_by a x places in
-        GotAllIds a y later → AreUnknown x (all_ids a places later)
-        → GotAllIds a x new → AreUnknown x new
-        → SameEnds x (ended a y later) (ended a x new) }
+    ensures { (a : Action) (x : Finding) (places : List Place) (later new : List ℕ)
+        → AreSessions a x places later → GotNewIds a x new
+        → SameEnds x (ended a (left_by a x places) later) (ended a x new) }
 {}

@@ -1,6 +1,6 @@
 -- A plan, carried out on an open database: what both sides keep and the handheld lacks is put, and,
 -- once the desktop has committed, what goes is taken away.
-use Rattle.std.specs.Prelude.{◌≡◌, ◌<◌, ◌≤◌, ℕ, List, [], ◌∷◌, ◌++◌, length, map, Option, Some, IfErr, IfOk, IfSome, OnOk, Result}
+use Rattle.std.specs.Prelude.{◌≡◌, ◌+◌, ◌<◌, ◌≤◌, ℕ, List, [], ◌∷◌, ◌++◌, length, map, Option, Some, IfErr, IfOk, IfSome, OnOk, Result}
 use Rattle.std.specs.List.{AllByRecursion}
 use Rattle.pdb_values.specs.Contents.{ContentValue}
 use Rattle.pdb_values.specs.declared.record.Record.{Record}
@@ -16,6 +16,7 @@ use Rattle.desktop_session.specs.Acts.{Act, acted}
 use Rattle.desktop_session.specs.Lists.{HasCause}
 use Rattle.desktop_session.specs.Requests.{cleaning, putting, removing, resetting}
 use Rattle.desktop_session.specs.Sessions.{SessionValue}
+use Rattle.desktop_session.specs.Tellings.{device_after}
 use Rattle.slow_mirror.specs.Asks.{Asks}
 
 -- contents under their ids; one of id 0 is a new record, which got the id at its place
@@ -60,6 +61,13 @@ AreFreeFor handle (entry ∷ entries) (id ∷ given) device =
     IsFreeFor handle entry.0 id device
     × AreFreeFor handle entries given (acted (putting id handle entry.0 entry.1) device).1
 
+-- contents that records can have, each with its id, which is free at its turn if it is a new one's
+pub record CanPut (handle : ℕ) (entries : List (ℕ × ContentValue)) (given : List ℕ)
+    (device : Device) : Type 0 where
+  pub puttable : ArePuttable entries
+  pub ids : AreIdsOf entries given
+  pub free : AreFreeFor handle entries given device
+
 -- A session put these, in order, and nothing else; each new one got an id that was free at its
 -- turn, and the answer says this of the ids. It stopped where a reply to WriteRecord did not come
 -- or was a refusal.
@@ -103,3 +111,18 @@ IsOpenWith handle base records device = base_at device handle ≡ Some (record {
   opened = base.opened;
   database = with_records records base.database;
 })
+
+-- whatever is put into it, as far as it has room, each put is carried out, in order
+abbrev pub CarriesOutPuts : ℕ → Base → List Record → Device → Type 0
+CarriesOutPuts handle base records device =
+    (entries : List (ℕ × ContentValue)) (given : List ℕ)
+    → length records + length entries ≤ 65535 → ArePuttable entries → AreIdsOf entries given
+    → IsOpenWith handle base (after_puts given entries records)
+    (device_after (puts handle given entries) device)
+
+-- and whatever is purged, each purge is
+abbrev pub CarriesOutPurges : ℕ → Base → List Record → Device → Type 0
+CarriesOutPurges handle base records device =
+    (ids : List ℕ)
+    → IsOpenWith handle base (after_purges ids records)
+    (device_after (purge_writes handle ids) device)

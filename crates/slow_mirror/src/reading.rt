@@ -1,9 +1,9 @@
 // A whole reading of an open database.
-ghost use Rattle.std.specs.Prelude.{◌≡◌, ◌<◌, ◌∷◌, ◌⊎◌, [], IfErr, IfOk, IfSome, None, OnOk};
+ghost use Rattle.std.specs.Prelude.{◌≡◌, ◌<◌, ◌∷◌, [], IfErr, IfOk, IfSome, None, OnOk};
 ghost use Rattle.dlp_replies.specs.ReplyReading.{reply_at};
 ghost use Rattle.conduit_rules.specs.ById.{id_bound};
 ghost use Rattle.desktop_session.specs.Lasts.{IsByLastReply};
-ghost use Rattle.desktop_session.specs.Lists.{HasCause};
+ghost use Rattle.desktop_session.specs.Lists.{HasCause, HasCauseIn};
 ghost use Rattle.desktop_session.specs.Requests.{reading_at};
 ghost use Rattle.desktop_session.specs.Stops.{AsksOne};
 ghost use Rattle.slow_mirror.specs.Asks.{Asks};
@@ -77,10 +77,8 @@ pub fn read_side<L: Link>(alloc: Global, db: &mut OpenDb<'_, L>) -> Result<View,
         (λ talk. view.seen.items ≡ slow_shown talk.device db.old.handle)) }
     ensures rising { IfOk result (λ view. ordered view.seen.items ≡ view.seen.items) }
     ensures none { OnOk result (L.fault db.new.linked.now.link ≡ None) }
-    ensures cause { IfErr result (λ cause.
-        HasCause (L.fault db.new.linked.now.link) (reply_at 0x2B db.new.linked.now.reply) cause
-        ⊎ HasCause (L.fault db.new.linked.now.link) (reply_at 0x20 db.new.linked.now.reply)
-        cause) }
+    ensures cause { IfErr result (HasCauseIn (0x2B ∷ 0x20 ∷ [])
+        (L.fault db.new.linked.now.link) db.new.linked.now.reply) }
     ensures last { IfErr result (IsByLastReply (L.talk db.new.linked.now.link)) }
 {
     let count = db.count()?;

@@ -1,8 +1,8 @@
 // A plan, carried out on an open database.
-ghost use Rattle.std.specs.Prelude.{◌≡◌, ◌⊎◌, IfErr, drop, length, map};
+ghost use Rattle.std.specs.Prelude.{◌≡◌, ◌∷◌, [], IfErr, drop, length, map};
 ghost use Rattle.dlp_replies.specs.ReplyReading.{reply_at};
 ghost use Rattle.desktop_session.specs.Lasts.{IsByLastReply};
-ghost use Rattle.desktop_session.specs.Lists.{HasCause};
+ghost use Rattle.desktop_session.specs.Lists.{HasCause, HasCauseIn};
 ghost use Rattle.desktop_session.specs.Requests.{removing};
 ghost use Rattle.slow_mirror.specs.Asks.{Asks};
 ghost use Rattle.slow_mirror.specs.News.{PutsAll, as_new, news_of, purge_writes};
@@ -103,11 +103,8 @@ pub fn purge_side<L: Link>(db: &mut OpenDb<'_, L>, plan: &Plan) -> Result<(), Se
     ensures asks { Asks L.talk L.since L.fault L.downs
         (purge_writes db.old.handle plan.now.purge.items)
         db.old.linked.now db.new.linked.now result }
-    ensures cause { IfErr result (λ cause.
-        HasCause (L.fault db.new.linked.now.link) (reply_at 0x22 db.new.linked.now.reply) cause
-        ⊎ (HasCause (L.fault db.new.linked.now.link) (reply_at 0x26 db.new.linked.now.reply) cause
-        ⊎ HasCause (L.fault db.new.linked.now.link) (reply_at 0x27 db.new.linked.now.reply)
-        cause)) }
+    ensures cause { IfErr result (HasCauseIn (0x22 ∷ 0x26 ∷ 0x27 ∷ [])
+        (L.fault db.new.linked.now.link) db.new.linked.now.reply) }
     ensures last { IfErr result (IsByLastReply (L.talk db.new.linked.now.link)) }
 {
     remove_all(db, &plan.purge)?;

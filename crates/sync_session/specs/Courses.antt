@@ -1,12 +1,10 @@
 -- How a session went over any link, call by call: each record tells what one call answered, and how
 -- it went on then.
-use Rattle.std.specs.Prelude.{◌≡◌, ◌⊎◌, ℕ, Bool, List, [], ◌∷◌, length, map, Option, IfErr, IfOk, Result, Ok, Err}
+use Rattle.std.specs.Prelude.{◌≡◌, ℕ, Bool, List, [], ◌∷◌, length, map, Option, IfErr, IfOk, Result, Ok, Err}
 use Rattle.std.specs.Global.{Vec}
-use Rattle.std.specs.Result.{IsErrAnd}
 use Rattle.hs_folders.specs.FileMaps.{FileMap}
 use Rattle.hs_folders.specs.Moments.{Moments}
 use Rattle.pdb_values.specs.Slots.{slot_for}
-use Rattle.pdb_values.specs.declared.slot.Slot.{Slot}
 use Rattle.pdb_values.specs.declared.slot.Slot.TheVariants as slot
 use Rattle.pdb_values.specs.declared.head.DbHead.{DbHead}
 use Rattle.pdb_values.specs.declared.user.Marks.{Marks}
@@ -14,7 +12,6 @@ use Rattle.pdb_values.specs.declared.user.UserInfo.{UserInfo}
 use Rattle.folder_files.specs.Slots.{users_of}
 use Rattle.dlp_commands.specs.declared.link.LinkFault.{LinkFault}
 use Rattle.dlp_commands.specs.Talks.{Talk}
-use Rattle.conduit_rules.specs.declared.view.View.{View}
 use Rattle.desk_store.specs.declared.fault.CommitFault.{CommitFault}
 use Rattle.desk_store.specs.Desks.{all_rows, place_of}
 use Rattle.desk_store.specs.Shelves.{marks_of}
@@ -37,20 +34,20 @@ use Rattle.session_parts.specs.declared.report.DbReport.{DbReport}
 use Rattle.session_parts.specs.declared.stop.Stop.{Stop}
 use Rattle.session_parts.specs.declared.stop.Stop.TheVariants as stop
 use Rattle.session_plan.specs.declared.wishes.Wishes.{Wishes}
-use Rattle.session_plan.specs.Commits.{Commits}
+use Rattle.session_plan.specs.Commits.{CommitsPlanned}
 use Rattle.sync_session.specs.Endings.{Ends}
 use Rattle.session_plan.specs.Jobs.{jobs_of}
 use Rattle.session_parts.specs.Meets.{MeetsOrNot}
-use Rattle.sync_session.specs.Phases.{gained, news_under}
+use Rattle.sync_session.specs.Phases.{GainsEach, news_under}
 use Rattle.session_plan.specs.PlannedLimits.{limit_planned}
 use Rattle.session_plan.specs.PlannedLosses.{loss_planned}
 use Rattle.session_plan.specs.PlannedReports.{reports_planned}
 use Rattle.session_plan.specs.Planning.{ArePlanned}
-use Rattle.sync_session.specs.Readings.{reads_under, shown_under}
+use Rattle.sync_session.specs.Readings.{ShowsEach, reads_under}
 use Rattle.sync_session.specs.Stopping.{Judges}
 use Rattle.session_parts.specs.Stopping.{stop_of}
 use Rattle.session_parts.specs.Stretches.{SpansBehind, SpansEach}
-use Rattle.session_plan.specs.Takes.{each_of, taken_entries, taken_slots}
+use Rattle.session_plan.specs.Takes.{each_of}
 use Rattle.session_plan.specs.Users.{begun_user, done_user}
 
 -- ---- what is left
@@ -97,9 +94,8 @@ pub record Carries {L F : Type 0} (talk : L → Option Talk) (since : L → L �
     (date : ℕ) (prepared : Prepared) (ids : List (List ℕ)) (old : SessionValue L)
     (desk : DeskValue F) (left : Outcome L F) : Type 0 where
   pub answer : Result (DeskValue F) (CommitFault × F)
-  pub commits : Commits contents moments paths faults
-      (taken_slots date old.user prepared.planned.items ids desk.picked desk.slots)
-      (taken_entries date old.user prepared.planned.items ids desk.picked desk.slots) desk answer
+  pub commits : CommitsPlanned contents moments paths faults date old.user
+      prepared.planned.items ids desk answer
   pub goes : AfterCommit talk since fault downs date (marks_in desk) prepared old answer left
 
 -- ---- the news
@@ -127,9 +123,7 @@ pub record Writes {L F : Type 0} (talk : L → Option Talk) (since : L → L →
   pub now : SessionValue L
   pub answer : Result (Vec (Vec ℕ)) SessionFault
   pub sends : SpansBehind talk since fault downs (marking (begun_user old.user) 0x40) news_under
-      (λ told one handle given
-      (ids : Vec ℕ). gained told one handle given ids.items) prepared.planned.items
-      (λ (made : Vec (Vec ℕ)). made.items) old now answer
+      GainsEach prepared.planned.items (λ (made : Vec (Vec ℕ)). made.items) old now answer
   pub goes : AfterNews talk since fault downs contents moments paths faults
       date prepared now desk answer left
 
@@ -146,8 +140,7 @@ pub record ReadsAll {L F : Type 0} (talk : L → Option Talk) (since : L → L �
     (heads : List DbHead) (wishes : Wishes) (desk : DeskValue F) (old new : SessionValue L)
     (answer : Result (Vec Planned) SessionFault) : Type 0 where
   pub reads : SpansEach talk since fault downs (reads_under (shelves_in desk))
-      (λ told job handle given (view : View). shown_under
-      (shelves_in desk) told job handle given view.seen.items) (jobs_met heads wishes desk old.user)
+      (ShowsEach (shelves_in desk)) (jobs_met heads wishes desk old.user)
       (λ (planned : Vec Planned). map (λ (one : Planned). one.view) planned.items) old new answer
   pub plans : IfOk answer
       (λ planned. ArePlanned (shelves_in desk) (agreed old.user (marks_in desk))
@@ -159,13 +152,20 @@ abbrev pub reported : Result Prepared Stop → Result (Vec DbReport) Stop
 reported (Ok prepared) = Ok prepared.reports
 reported (Err cause) = Err cause
 
--- the limits were looked at, and what a new handheld would cost, or not all was read
+-- the limits were looked at, where the handheld listed so many databases, and what a new handheld
+-- would cost
+abbrev pub JudgesPlanned : {F : Type 0} → DeskValue F → UserInfo → ℕ → List Planned
+    → Result (Vec DbReport) Stop → Type 0
+JudgesPlanned desk user listed planned answer =
+    Judges (limit_planned (shelves_in desk) listed (all_rows desk.slots) planned)
+    (loss_planned user (marks_in desk) (shelves_in desk) planned)
+    (reports_planned (shelves_in desk) planned) answer
+
+-- so they were, or not all was read
 abbrev pub AfterReading : {F : Type 0} → List DbHead → DeskValue F → UserInfo
     → Result (Vec Planned) SessionFault → Result Prepared Stop → Type 0
 AfterReading heads desk user (Ok planned) answer =
-    Judges (limit_planned (shelves_in desk) (length heads) (all_rows desk.slots) planned.items)
-    (loss_planned user (marks_in desk) (shelves_in desk) planned.items)
-    (reports_planned (shelves_in desk) planned.items) (reported answer)
+    JudgesPlanned desk user (length heads) planned.items (reported answer)
     × IfOk answer (λ prepared. prepared.planned ≡ planned)
 AfterReading heads desk user (Err cause) answer = answer ≡ Err (stop.Session cause)
 

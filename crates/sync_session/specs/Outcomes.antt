@@ -29,6 +29,7 @@ use Rattle.desktop_session.specs.Greetings.{user_with}
 use Rattle.desktop_session.specs.Lasts.{IsBroken, IsRefusal, LastSays}
 use Rattle.desktop_session.specs.Requests.{reading_user}
 use Rattle.desktop_session.specs.Stops.{Does, Stops}
+use Rattle.session_parts.specs.declared.outcome.Outcome.{Outcome}
 use Rattle.session_parts.specs.declared.report.DbReport.{DbReport}
 use Rattle.session_parts.specs.declared.stop.Stop.{Stop}
 use Rattle.session_parts.specs.declared.stop.Stop.TheVariants as stop
@@ -250,3 +251,11 @@ pub record SessionEnds {L : Type 0} (talk : L → Option Talk) (since : L → L 
       → Stops talk since fault downs (map text (before_writes meeting)) old new
   pub loss : (name : List ℕ) → first_over meeting ≡ None → first_loss meeting ≡ Some name
       → StopsAtLoss name answer
+
+-- so an outcome of theirs says, by what the desktop's folder told before
+abbrev pub EndsSo : {L F : Type 0} → (L → Option Talk) → (L → L → Type 0)
+    → (L → Option LinkFault) → (L → ℕ) → (F → Option FileMap) → (F → Moments) → Meeting → L → F
+    → Outcome L F → Type 0
+EndsSo talk since fault downs contents moments meeting old folder left =
+    SessionEnds talk since fault downs meeting old left.link
+    (tellings contents moments folder left.folder) left.end

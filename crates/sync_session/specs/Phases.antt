@@ -1,5 +1,6 @@
 -- What a session says of each of its databases, in one phase after another.
 use Rattle.std.specs.Prelude.{◌≡◌, ℕ, List, [], ◌∷◌, Option, None, Some}
+use Rattle.std.specs.Global.{Vec}
 use Rattle.pdb_values.specs.Contents.{ContentValue}
 use Rattle.pdb_values.specs.declared.head.DbHead.{DbHead}
 use Rattle.dlp_commands.specs.Talks.{Talk}
@@ -13,6 +14,15 @@ use Rattle.session_parts.specs.declared.skip.Skip.{Skip}
 use Rattle.sync_session.specs.Gains.{AreGained}
 use Rattle.session_plan.specs.Heads.{made_head}
 use Rattle.session_parts.specs.Spans.{nothing, within}
+
+-- a database that an act opens or makes gets what its plan says
+abbrev pub news_within : Act → Plan → ℕ → List ℕ → List Act
+news_within one plan = within one (λ handle given. puts handle given (news_of plan))
+
+-- the ids that its new records got, by what was told before that act
+abbrev pub GainsIds : Act → Option Talk → Plan → ℕ → List ℕ → Vec ℕ → Type 0
+GainsIds one told plan =
+    λ handle given ids. AreGained (saying (one ∷ []) told) plan handle given ids.items
 
 -- what a database that the handheld has gets: it is opened where there is something
 abbrev pub opened_news : List ℕ → List (ℕ × ContentValue) → ℕ → List ℕ → List Act
@@ -60,3 +70,7 @@ gained_by None None None name plan told handle given ids = ids ≡ []
 unfoldable pub gained : Option Talk → Planned → ℕ → List ℕ → List ℕ → Type 0
 gained told one handle given ids =
     gained_by one.job.skip one.job.handheld one.job.rows one.job.name one.plan told handle given ids
+
+-- they were answered
+abbrev pub GainsEach : Option Talk → Planned → ℕ → List ℕ → Vec ℕ → Type 0
+GainsEach = λ told one handle given ids. gained told one handle given ids.items

@@ -2,12 +2,10 @@
 ghost use Rattle.std.specs.Prelude.{◌≡◌, ◌+◌, ◌↔◌, ◌∷◌, ◌++◌, [], IfErr, IsTrue, OnOk, false, length};
 ghost use Rattle.desktop_session.specs.declared.fault.SessionFault.TheVariants as session;
 ghost use Rattle.desktop_session.specs.Requests.{making, marking, opening};
-ghost use Rattle.desktop_session.specs.Says.{saying};
-ghost use Rattle.slow_mirror.specs.News.{news_of, puts};
-ghost use Rattle.sync_session.specs.Gains.{AreGained};
+ghost use Rattle.slow_mirror.specs.News.{news_of};
 ghost use Rattle.session_plan.specs.Heads as heads;
-ghost use Rattle.sync_session.specs.Phases.{gained, news_under, opened_news};
-ghost use Rattle.session_parts.specs.Spans.{Spans, within};
+ghost use Rattle.sync_session.specs.Phases.{GainsEach, GainsIds, gained, news_under, news_within, opened_news};
+ghost use Rattle.session_parts.specs.Spans.{Spans};
 ghost use Rattle.session_plan.specs.Users as users;
 ghost use Rattle.session_parts.specs.Stretches.{SpansBehind, SpansEach};
 
@@ -29,10 +27,8 @@ pub fn give_one<L: Link>(
     plan: &Plan,
 ) -> Result<Vec<RecordId>, SessionFault>
     requires { linked.old.abandoned ≡ false }
-    ensures spans { let told = saying (opening name.now ∷ []) (L.talk linked.old.link) in
-        Spans L.talk L.since L.fault L.downs
-        (within (opening name.now) (λ handle given. puts handle given (news_of plan.now)))
-        (λ handle given ids. AreGained told plan.now handle given ids.items)
+    ensures spans { Spans L.talk L.since L.fault L.downs (news_within (opening name.now) plan.now)
+        (GainsIds (opening name.now) (L.talk linked.old.link) plan.now)
         linked.old linked.new result }
 {
     let mut opened = linked.open(name)?;
@@ -55,10 +51,8 @@ pub fn make_one<L: Link>(
     plan: &Plan,
 ) -> Result<Vec<RecordId>, SessionFault>
     requires { linked.old.abandoned ≡ false }
-    ensures spans { let told = saying (making head.now ∷ []) (L.talk linked.old.link) in
-        Spans L.talk L.since L.fault L.downs
-        (within (making head.now) (λ handle given. puts handle given (news_of plan.now)))
-        (λ handle given ids. AreGained told plan.now handle given ids.items)
+    ensures spans { Spans L.talk L.since L.fault L.downs (news_within (making head.now) plan.now)
+        (GainsIds (making head.now) (L.talk linked.old.link) plan.now)
         linked.old linked.new result }
 {
     let mut opened = linked.create(head)?;
@@ -88,9 +82,9 @@ fn give_old<L: Link>(
     plan: &Plan,
 ) -> Result<Vec<RecordId>, SessionFault>
     requires { linked.old.abandoned ≡ false }
-    ensures spans { let told = saying (opening name.now ∷ []) (L.talk linked.old.link) in
-        Spans L.talk L.since L.fault L.downs (opened_news name.now (news_of plan.now))
-        (λ handle given ids. AreGained told plan.now handle given ids.items)
+    ensures spans { Spans L.talk L.since L.fault L.downs
+        (opened_news name.now (news_of plan.now))
+        (GainsIds (opening name.now) (L.talk linked.old.link) plan.now)
         linked.old linked.new result }
 {
     if is_nothing(&plan.replace, &plan.adds) {
@@ -142,7 +136,7 @@ pub fn give_all<L: Link>(
 ) -> Result<Vec<Vec<RecordId>>, SessionFault>
     requires { linked.old.abandoned ≡ false }
     ensures gives { SpansEach L.talk L.since L.fault L.downs news_under
-        (λ told one handle given ids. gained told one handle given ids.items) planned.now
+        GainsEach planned.now
         (λ made. made.items) linked.old linked.new result }
 {
     let mut ids = Vec::new(alloc);
@@ -162,7 +156,7 @@ pub fn send_all<L: Link>(
     requires { linked.old.abandoned ≡ false }
     ensures sends { SpansBehind L.talk L.since L.fault L.downs
         (marking (users.begun_user linked.old.user) 0x40) news_under
-        (λ told one handle given ids. gained told one handle given ids.items) planned.now
+        GainsEach planned.now
         (λ made. made.items) linked.old linked.new result }
 {
     begin(linked)?;

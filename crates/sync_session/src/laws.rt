@@ -1,17 +1,14 @@
 //! What holds of every session. Each function here does nothing: its contract is the law.
-ghost use Rattle.std.specs.Prelude.{◌≡◌, ℕ, List, None, length, map};
+ghost use Rattle.std.specs.Prelude.{◌≡◌, ℕ, List, None, map};
 ghost use Rattle.conduit_rules.specs.Choices.{Sides, choice_for};
 ghost use Rattle.conduit_rules.specs.Plans.{IsPlan};
 ghost use Rattle.record_merge.specs.Merging.{merged_base, merged_rows};
-ghost use Rattle.desk_store.specs.Desks.{all_rows};
 ghost use Rattle.desktop_session.specs.Acts.{text};
 ghost use Rattle.desktop_session.specs.Tellings.{IsTellable, device_after};
 ghost use Rattle.session_plan.specs.Limits.{first_over};
 ghost use Rattle.session_plan.specs.Losses.{first_loss};
-ghost use Rattle.session_plan.specs.PlannedLimits.{limit_planned, over_planned};
 ghost use Rattle.session_plan.specs.PlannedLosses.{loss_planned};
-ghost use Rattle.session_plan.specs.PlannedReports.{reports_planned};
-ghost use Rattle.sync_session.specs.PlannedTasks.{ArePlannedFor};
+ghost use Rattle.sync_session.specs.PlannedTasks.{ArePlannedFor, limit_in, over_in, reports_in};
 ghost use Rattle.session_parts.specs.Quiet.{AreQuiet};
 ghost use Rattle.session_plan.specs.Reports.{reports};
 ghost use Rattle.session_parts.specs.Rests.{IsAtRest};
@@ -55,14 +52,10 @@ pub fn planned_rows_are_merged()
 pub fn the_first_over_is_the_meetings()
     ensures over { (meeting : Meeting) (planned : List Planned)
         → IsTellable meeting.device → ArePlannedFor meeting planned
-        → over_planned (slot_of meeting).shelves (length meeting.device.databases)
-        (all_rows meeting.slots) planned
-        ≡ first_over meeting }
+        → over_in meeting planned ≡ first_over meeting }
     ensures told { (meeting : Meeting) (planned : List Planned)
         → IsTellable meeting.device → ArePlannedFor meeting planned
-        → limit_planned (slot_of meeting).shelves (length meeting.device.databases)
-        (all_rows meeting.slots) planned
-        ≡ first_over meeting }
+        → limit_in meeting planned ≡ first_over meeting }
 {}
 
 /// The first planned database by which a new handheld would cost the desktop live rows is the first one of the meeting.
@@ -76,5 +69,5 @@ pub fn the_first_loss_is_the_meetings()
 pub fn what_is_told_is_the_meetings()
     ensures { (meeting : Meeting) (planned : List Planned)
         → IsTellable meeting.device → ArePlannedFor meeting planned → first_over meeting ≡ None
-        → reports_planned (slot_of meeting).shelves planned ≡ reports meeting }
+        → reports_in meeting planned ≡ reports meeting }
 {}

@@ -1,12 +1,9 @@
 // What a session does before it writes.
 ghost use Rattle.std.specs.Prelude.{◌≡◌, OnOk, false};
-ghost use Rattle.desk_store.specs.Desks.{all_rows};
 ghost use Rattle.desk_store.specs.Views.{marks_in, shelves_in};
-ghost use Rattle.sync_session.specs.Courses.{Prepares, ReadsAll};
-ghost use Rattle.session_plan.specs.PlannedLimits.{limit_planned};
+ghost use Rattle.sync_session.specs.Courses.{JudgesPlanned, Prepares, ReadsAll};
 ghost use Rattle.session_plan.specs.PlannedLosses.{loss_planned};
-ghost use Rattle.session_plan.specs.PlannedReports.{reports_planned};
-ghost use Rattle.sync_session.specs.Stopping.{Judges, refusal_by};
+ghost use Rattle.sync_session.specs.Stopping.{refusal_by};
 
 use crate::reading::read_all;
 use desk_store::Desk;
@@ -73,10 +70,7 @@ fn judge<D: Folder>(
     listed: usize,
     planned: &[Planned],
 ) -> Result<Vec<DbReport>, Stop>
-    ensures { Judges (limit_planned (shelves_in desk.now) listed
-        (all_rows desk.now.slots) planned.now)
-        (loss_planned handheld.now (marks_in desk.now) (shelves_in desk.now) planned.now)
-        (reports_planned (shelves_in desk.now) planned.now) result }
+    ensures { JudgesPlanned desk.now handheld.now listed planned.now result }
 {
     let limit = first_limit(alloc, desk, listed, planned)?;
     match refusal_of(limit, desk, handheld, planned) {

@@ -1,15 +1,11 @@
 // What a session reads of one database.
-ghost use Rattle.std.specs.Prelude.{◌≡◌, ◌++◌, ◌∷◌, [], IfErr, IfSome, OnOk, false};
+ghost use Rattle.std.specs.Prelude.{◌≡◌, ◌++◌, ◌∷◌, [], IfErr, OnOk, false, true};
 ghost use Rattle.std.specs.Option.{option_copied};
 ghost use Rattle.pdb_values.specs.NamedDatabases.{database_of};
 ghost use Rattle.desk_store.specs.Views.{shelves_in};
 ghost use Rattle.desktop_session.specs.declared.fault.SessionFault.TheVariants as session;
-ghost use Rattle.desktop_session.specs.Requests.{opening};
-ghost use Rattle.desktop_session.specs.Says.{saying};
-ghost use Rattle.slow_mirror.specs.Reads.{entries_of, slow_reads, slow_shown};
-ghost use Rattle.fast_mirror.specs.FastReads.{fast_reads_of, fast_shown};
-ghost use Rattle.sync_session.specs.Readings.{reads_by, reads_under, shown_by, shown_under};
-ghost use Rattle.session_parts.specs.Spans.{Spans, within};
+ghost use Rattle.sync_session.specs.Readings.{ShowsEach, ShowsName, name_reads, reads_under};
+ghost use Rattle.session_parts.specs.Spans.{Spans};
 ghost use Rattle.session_parts.specs.Stretches.{SpansEach};
 ghost use Rattle.session_plan.specs.Tasks.{records_of};
 
@@ -31,11 +27,9 @@ pub fn read_one<L: Link>(
     name: &DbName,
 ) -> Result<View, SessionFault>
     requires { linked.old.abandoned ≡ false }
-    ensures spans { let told = saying (opening name.now ∷ []) (L.talk linked.old.link) in
-        Spans L.talk L.since L.fault L.downs
-        (within (opening name.now) (λ handle given. slow_reads handle (entries_of told handle)))
-        (λ handle given view. IfSome told
-        (λ talk. view.seen.items ≡ slow_shown talk.device handle)) linked.old linked.new result }
+    ensures spans { let told = L.talk linked.old.link in
+        Spans L.talk L.since L.fault L.downs (name_reads false name.now [] told)
+        (ShowsName false name.now [] told) linked.old linked.new result }
 {
     let mut opened = linked.open(name)?;
     let view = match read_side(alloc, &mut opened) {
@@ -58,12 +52,9 @@ pub fn read_changed<L: Link>(
     base: &[Record],
 ) -> Result<View, SessionFault>
     requires { linked.old.abandoned ≡ false }
-    ensures spans { let told = saying (opening name.now ∷ []) (L.talk linked.old.link) in
-        Spans L.talk L.since L.fault L.downs
-        (within (opening name.now) (λ handle given. fast_reads_of base.now handle told))
-        (λ handle given view. IfSome told
-        (λ talk. view.seen.items ≡ fast_shown base.now handle talk.device))
-        linked.old linked.new result }
+    ensures spans { let told = L.talk linked.old.link in
+        Spans L.talk L.since L.fault L.downs (name_reads true name.now base.now told)
+        (ShowsName true name.now base.now told) linked.old linked.new result }
 {
     let mut opened = linked.open(name)?;
     let view = match fast_mirror::read_side(alloc, &mut opened, base) {
@@ -105,11 +96,9 @@ fn read_opened<L: Link>(
     base: &[Record],
 ) -> Result<View, SessionFault>
     requires { linked.old.abandoned ≡ false }
-    ensures spans { let told = saying (opening name.now ∷ []) (L.talk linked.old.link) in
-        Spans L.talk L.since L.fault L.downs
-        (within (opening name.now) (reads_by fast base.now told))
-        (λ handle given view. shown_by fast base.now told handle view.seen.items)
-        linked.old linked.new result }
+    ensures spans { let told = L.talk linked.old.link in
+        Spans L.talk L.since L.fault L.downs (name_reads fast name.now base.now told)
+        (ShowsName fast name.now base.now told) linked.old linked.new result }
 {
     if fast {
         read_changed(alloc, linked, name, base)
@@ -126,12 +115,9 @@ fn read_job<L: Link, D: Folder>(
     job: &Job,
 ) -> Result<View, SessionFault>
     requires { linked.old.abandoned ≡ false }
-    ensures spans { Spans L.talk L.since L.fault L.downs
-        (reads_under (shelves_in desk.now) (L.talk linked.old.link) job.now)
-        (λ handle given view.
-        shown_under (shelves_in desk.now)
-        (L.talk linked.old.link) job.now handle given view.seen.items)
-        linked.old linked.new result }
+    ensures spans { let told = L.talk linked.old.link in
+        Spans L.talk L.since L.fault L.downs (reads_under (shelves_in desk.now) told job.now)
+        (ShowsEach (shelves_in desk.now) told job.now) linked.old linked.new result }
 {
     match &job.skip {
         Some(_) => Ok(no_view(alloc)),
@@ -165,8 +151,7 @@ pub fn read_all<L: Link, D: Folder>(
 ) -> Result<Vec<View>, SessionFault>
     requires { linked.old.abandoned ≡ false }
     ensures reads { SpansEach L.talk L.since L.fault L.downs (reads_under (shelves_in desk.now))
-        (λ told job handle given view.
-        shown_under (shelves_in desk.now) told job handle given view.seen.items) jobs.now
+        (ShowsEach (shelves_in desk.now)) jobs.now
         (λ made. made.items) linked.old linked.new result }
 {
     let mut views = Vec::new(alloc);

@@ -1,6 +1,5 @@
 // A session of both sides, from the greeting to the end.
-ghost use Rattle.std.specs.Prelude.{◌≡◌, ◌≤◌, Some, false, length};
-ghost use Rattle.dlp_commands.specs.Talks.{Talk};
+ghost use Rattle.std.specs.Prelude.{◌≡◌, ◌≤◌, false, length};
 ghost use Rattle.folder_files.specs.Slots.{AreSlots, users_of};
 ghost use Rattle.desk_store.specs.Shelves.{AreInOrder, marks_of};
 ghost use Rattle.desk_store.specs.Views.{marks_in, shelves_in};
@@ -10,10 +9,10 @@ ghost use Rattle.sync_session.specs.Courses.{Carries, Closes, GoesOn, Runs, Writ
 ghost use Rattle.session_parts.specs.Meets.{IsSeated};
 ghost use Rattle.session_plan.specs.Fits.{AreOfSession, CanTake, IsSeat};
 ghost use Rattle.session_parts.specs.Leaving.{Leaves};
+ghost use Rattle.session_parts.specs.Rests.{WhereAtRest};
 ghost use Rattle.sync_session.specs.Leaving.{LeavesFolder};
-ghost use Rattle.sync_session.specs.Outcomes.{SessionEnds, tellings};
+ghost use Rattle.sync_session.specs.Outcomes.{EndsSo};
 ghost use Rattle.session_plan.specs.PlannedLimits.{unskipped};
-ghost use Rattle.session_parts.specs.Rests.{IsAtRest};
 ghost use Rattle.session_plan.specs.Takes.{each_of};
 ghost use Rattle.session_plan.specs.Tasks.{meeting_of};
 ghost use Rattle.session_plan.specs.Users.{agreed_user};
@@ -189,10 +188,9 @@ pub fn run_session<L: Link, D: Folder>(
     ensures link { Leaves L.since L.fault L.downs link result.link }
     ensures folder { LeavesFolder D.contents D.moments D.paths D.faults desk.folder result }
     // Over a link that tells a handheld on which nothing is open it is the session of both sides.
-    ensures ends { (told : Talk) → AreInOrder desk.slots → L.talk link ≡ Some told
-        → IsAtRest told.device → SessionEnds L.talk L.since L.fault L.downs
-        (meeting_of told.device desk.slots wishes.now) link result.link
-        (tellings D.contents D.moments desk.folder result.folder) result.end }
+    ensures ends { WhereAtRest L.talk link (AreInOrder desk.slots) (λ device. EndsSo L.talk L.since L.fault
+        L.downs D.contents D.moments (meeting_of device desk.slots wishes.now) link desk.folder
+        result) }
 {
     run(alloc, link, desk, wishes)
 }

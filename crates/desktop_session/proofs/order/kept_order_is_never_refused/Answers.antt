@@ -3,7 +3,7 @@ use Rattle.desktop_session.proofs.order.kept_order_is_never_refused.Goals as goa
 
 pub returns : goal.returns
 returns g c = record {
-  said = λ one old new. said_in_order g.L.Link.talk g.L.Link.since g.L.Link.fault g.L.Link.downs one old new;
-  found = λ one old new. found_in_order g.L.Link.talk g.L.Link.since g.L.Link.fault g.L.Link.downs one old new;
-  removed = removed_in_order g.L.Link.talk g.L.Link.since g.L.Link.fault g.L.Link.downs;
+  said = λ one old new take is. said_in_order g.L.Link.talk g.L.Link.since g.L.Link.fault g.L.Link.downs one old new take is.asked is.order;
+  found = λ one old new take is. found_in_order g.L.Link.talk g.L.Link.since g.L.Link.fault g.L.Link.downs one old new take is.asked is.order;
+  removed = λ one old new is. removed_in_order g.L.Link.talk g.L.Link.since g.L.Link.fault g.L.Link.downs one old new is.asked is.order;
 }

@@ -5,5 +5,5 @@ use Rattle.install_backup.proofs.laws.installs_come_back.Goals as goal
 pub returns : goal.returns
 returns c = record {
   database = back-unmarked;
-  handheld = λ device database rests bounded unmarked may room. comes_back device database rests bounded unmarked may room;
+  handheld = λ device database can unmarked. comes_back device database can.rests can.bounded unmarked can.writable can.room;
 }

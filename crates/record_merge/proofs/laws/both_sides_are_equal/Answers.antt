@@ -4,8 +4,9 @@ use Rattle.record_merge.proofs.CountLaws.{honest-merged}
 use Rattle.record_merge.proofs.laws.both_sides_are_equal.Goals as goal
 
 pub returns-clause-equal : goal.returns-clause-equal
-returns-clause-equal c = λ ch handheld given records ids bounded shows free. sides-equal ch handheld given records (differ-ids records ids) bounded shows free
+returns-clause-equal c = λ ch handheld given records sees.
+    sides-equal ch handheld given records (differ-ids records sees.are.ids) sees.are.bounded sees.shows sees.free
 
 pub returns-clause-honest : goal.returns-clause-honest
 returns-clause-honest c =
-    λ ch handheld given records ids bounded shows free. honest-merged ch handheld given records (differ-ids records ids) bounded shows free
+    λ ch handheld given records sees. honest-merged ch handheld given records (differ-ids records sees.are.ids) sees.are.bounded sees.shows sees.free

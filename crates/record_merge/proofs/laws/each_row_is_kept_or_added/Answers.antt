@@ -2,4 +2,4 @@ use Rattle.record_merge.proofs.CountLaws.{sum-rows, new-free}
 use Rattle.record_merge.proofs.laws.each_row_is_kept_or_added.Goals as goal
 
 pub returns : goal.returns
-returns c = λ w ch handheld given records shows free. sum-rows w ch given (new-free ch handheld given records shows free)
+returns c = λ ch handheld given records shows free w. sum-rows w ch given (new-free ch handheld given records shows free)

@@ -5,7 +5,7 @@ pub returns-clause-reads : goal.returns-clause-reads
 returns-clause-reads c = slow_sayable
 
 pub returns-clause-puts : goal.returns-clause-puts
-returns-clause-puts c = puts_sayable
+returns-clause-puts c = λ device handle entries given byte can. puts_sayable device handle entries given byte can.puttable can.ids can.free
 
 pub returns-clause-purges : goal.returns-clause-purges
 returns-clause-purges c = purges_sayable
