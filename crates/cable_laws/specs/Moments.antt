@@ -1,11 +1,15 @@
 -- What may happen to two ends over a cable: a packet is lost, an end takes one, says a piece once
 -- more, begins a message or awaits one.
-use Rattle.std.specs.Prelude.{◌≡◌, ◌≤◌, ℕ, List, [], ◌∷◌, ◌++◌, length, Some, None}
+use Rattle.std.specs.Prelude.{◌≡◌, ◌⊎◌, ◌≤◌, ◌↔◌, ℕ, List, [], ◌∷◌, ◌++◌, length, Some, None}
+use Rattle.padp_end.specs.Arrivals.{Ack, Data, arrival_of}
 use Rattle.padp_end.specs.Ends.{EndValue, end_begins, end_expects, end_takes, end_waits}
 use Rattle.padp_end.specs.declared.heard.Heard.{Heard}
 use Rattle.padp_end.specs.declared.heard.Heard.TheVariants as heard
+use Rattle.padp_link.specs.FragmentText.{FragmentValue}
+use Rattle.padp_link.specs.Pieces.{key_of}
 use Rattle.padp_link.specs.Receivers.{whole_of}
-use Rattle.padp_link.specs.Senders.{waiting}
+use Rattle.padp_link.specs.Senders.{waiting, waiting_key}
+use Rattle.padp_link.specs.declared.piece.Key.{Key}
 use Rattle.cable_laws.specs.Cables.{Cable, Side, Parcel, IsAhead, IsOver, parcels}
 
 -- what y heard, where it took a packet of x
@@ -51,3 +55,24 @@ pub record BeginsOne (x y : Side) (id : ℕ) (message : List ℕ) (there back : 
   pub cable : Cable x next there (back ++ parcels next.count (end_begins y.end id message).0)
   pub other : IsOver x next
   pub ahead : IsAhead next x
+
+-- where both messages before it were taken whole and nothing of y waits, y may begin a message,
+-- under another transaction than the one before
+abbrev pub MayBeginOne : Side → Side → ℕ → List ℕ → List Parcel → List Parcel → Type 0
+MayBeginOne x y id message there back =
+    IsOver x y → IsOver y x → waiting y.end.sender ≡ None → length message ≤ 65535
+    → (y.count.begun ≡ 0) ⊎ ¬ (y.end.sender.id ≡ id) → BeginsOne x y id message there back
+
+-- data in a packet is the last piece that y took exactly where y took as many as its sender had
+-- begun when it said it
+abbrev pub KnowsRepeat : Side → Parcel → ℕ → FragmentValue → Type 0
+KnowsRepeat y first id fragment =
+    arrival_of first.packet ≡ Data id fragment
+    → (y.end.receiver.last ≡ Some (key_of id fragment)) ↔ (first.at.begun ≡ y.count.taken)
+
+-- an acknowledgement with the key of the piece of y that waits was said by an end that had taken
+-- that piece
+abbrev pub KnowsAck : Side → Parcel → Key → Type 0
+KnowsAck y first key =
+    arrival_of first.packet ≡ Ack key → waiting_key y.end.sender ≡ Some key
+    → first.at.taken ≡ y.count.begun

@@ -1,13 +1,10 @@
 //! What holds of two ends over a cable. Each function here does nothing: its contract is the law.
-ghost use Rattle.std.specs.Prelude.{◌≡◌, ◌⊎◌, ◌≤◌, ◌++◌, ◌∷◌, ◌↔◌, ℕ, List, None, Some, length};
-ghost use Rattle.padp_end.specs.Arrivals.{Ack, Data, arrival_of};
+ghost use Rattle.std.specs.Prelude.{◌++◌, ◌∷◌, ℕ, List};
 ghost use Rattle.padp_end.specs.Ends.{end_expects};
 ghost use Rattle.padp_link.specs.FragmentText.{FragmentValue};
-ghost use Rattle.padp_link.specs.Pieces.{key_of};
-ghost use Rattle.padp_link.specs.Senders.{waiting, waiting_key};
 ghost use Rattle.padp_link.specs.declared.piece.Key.{Key};
 ghost use Rattle.cable_laws.specs.Cables.{Cable, IsOver, Side, Parcel};
-ghost use Rattle.cable_laws.specs.Moments.{BeginsOne, SaysAgain, TakesOne};
+ghost use Rattle.cable_laws.specs.Moments.{KnowsAck, KnowsRepeat, MayBeginOne, SaysAgain, TakesOne};
 
 /// Both ends are alike.
 pub fn ends_are_alike()
@@ -38,9 +35,7 @@ pub fn a_piece_may_go_again()
 /// waits, under another transaction than the one before.
 pub fn a_message_may_begin()
     ensures { (x y : Side) (there back : List Parcel) (id : ℕ) (message : List ℕ)
-        → Cable x y there back → IsOver x y → IsOver y x → waiting y.end.sender ≡ None
-        → length message ≤ 65535 → (y.count.begun ≡ 0) ⊎ ¬ (y.end.sender.id ≡ id)
-        → BeginsOne x y id message there back }
+        → Cable x y there back → MayBeginOne x y id message there back }
 {}
 
 /// An end may await another message where it took the one before it whole.
@@ -55,13 +50,11 @@ pub fn a_message_may_be_awaited()
 pub fn a_repeat_is_known()
     ensures { (x y : Side) (first : Parcel) (there back : List Parcel) (id : ℕ)
         (fragment : FragmentValue) → Cable x y (first ∷ there) back
-        → arrival_of first.packet ≡ Data id fragment
-        → (y.end.receiver.last ≡ Some (key_of id fragment)) ↔ (first.at.begun ≡ y.count.taken) }
+        → KnowsRepeat y first id fragment }
 {}
 
 /// An acknowledgement with the key of the piece that waits was said by an end that had taken that piece.
 pub fn an_acknowledgement_is_for_its_piece()
     ensures { (x y : Side) (first : Parcel) (there back : List Parcel) (key : Key)
-        → Cable x y (first ∷ there) back → arrival_of first.packet ≡ Ack key
-        → waiting_key y.end.sender ≡ Some key → first.at.taken ≡ y.count.begun }
+        → Cable x y (first ∷ there) back → KnowsAck y first key }
 {}

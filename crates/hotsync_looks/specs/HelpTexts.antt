@@ -18,7 +18,8 @@ commands =
 -- how a command is called
 abbrev pub synopsis : CommandWord → List ℕ
 synopsis Run =
-    codes "hotsync run HANDHELD DESKTOP --date=D [--script=F] [--trace=F] [--only=L] [--slow] [--actions=L] [--add-user] [--dry-run]"
+    codes "hotsync run HANDHELD DESKTOP --date=D [--script=F] [--trace=F] [--only=L] [--slow] "
+    ++ codes "[--actions=L] [--add-user] [--dry-run]"
 synopsis Check = codes "hotsync check FILE"
 synopsis Show = codes "hotsync show FILE [--records]"
 synopsis Export =
@@ -34,7 +35,8 @@ synopsis Device =
     codes "hotsync device HANDHELD {--in=F --out=F | --port=PORT [--trace=F]}"
 synopsis Categories = codes "hotsync categories HANDHELD DESKTOP [--script=F] [--trace=F]"
 synopsis Sync =
-    codes "hotsync sync PORT DESKTOP --date=D [--only=L] [--trace=F] [--slow] [--actions=L] [--add-user]"
+    codes "hotsync sync PORT DESKTOP --date=D [--only=L] [--trace=F] [--slow] [--actions=L] "
+    ++ codes "[--add-user]"
 synopsis Make = codes "hotsync make SEED N"
 
 -- the options of a command
@@ -69,7 +71,8 @@ option_words Slow = codes "--slow             reads every record of the handheld
 option_words Actions = codes "--actions=L        what is done with single databases"
 option_words Only = codes "--only=L           the databases that are touched"
 option_words AddUser =
-    codes "--add-user         where the handheld's user is unknown to the desktop, a place of its own is made"
+    codes "--add-user         where the handheld's user is unknown to the desktop, a place of its "
+    ++ codes "own is made"
 option_words DryRun =
     codes "--dry-run          prints what the run would print, and changes nothing in either folder"
 option_words AsText = codes "--as=txt           the memos as text in UTF-8"

@@ -41,7 +41,8 @@ line_feed = 10 ∷ []
 
 -- how the program is called
 abbrev pub usage_line : List ℕ
-usage_line = codes "usage: hotsync run HANDHELD DESKTOP --date=D [--script=F] [--trace=F] [--only=L] [--slow] [--actions=L] [--add-user]" ++ line_feed
+usage_line = codes "usage: hotsync run HANDHELD DESKTOP --date=D [--script=F] [--trace=F] "
+    ++ codes "[--only=L] [--slow] [--actions=L] [--add-user]" ++ line_feed
 
 -- what is wrong with the word that stands behind it
 abbrev pub fault_words : FaultKind → List ℕ
@@ -237,8 +238,8 @@ abbrev pub filed_text : FiledCounts → List ℕ
 filed_text counts =
     count_text (codes " categories ") counts.used ++ count_text (codes " moved ") counts.moved
 
--- the counts of a run, or ` skipped REASON`, or ` installed entries N`, or ` backed up entries N`, or
--- those of categories
+-- the counts of a run, or ` skipped REASON`, or ` installed entries N`, or ` backed up entries N`,
+-- or those of categories
 abbrev pub did_text : Did → List ℕ
 did_text (Synced counts) = counts_text counts
 did_text (Skipped reason) = codes " skipped " ++ skip_word reason

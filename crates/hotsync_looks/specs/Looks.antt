@@ -24,7 +24,8 @@ pub record IsShowable (look : Look) (bytes : List ℕ) : Type 0 where
   pub is : IsTextOf look bytes text
 
 -- bytes that are not too many, and why the look prints nothing of them, as the status says
-pub record RefusesLook (look : Look) (file : List ℕ) (status : Status) (bytes : List ℕ) : Type 0 where
+pub record RefusesLook (look : Look) (file : List ℕ) (status : Status) (bytes : List ℕ)
+    : Type 0 where
   pub short : length bytes ≤ source_limit
   pub cause : Cause
   pub is : IsCauseOf look bytes cause
@@ -79,7 +80,8 @@ pub record IsLook (look : Look) (file : List ℕ) (source source_after : SourceT
       → (status ≡ Done) ⊎ (status ≡ NoMemory)
   pub refused : (bytes : List ℕ) (cause : Cause) → source.left ≡ Some bytes
       → length bytes ≤ source_limit → IsCauseOf look bytes cause
-      → ¬ Rose source.faults source_after.faults → SaysOfFile look file cause status ⊎ (status ≡ NoMemory)
+      → ¬ Rose source.faults source_after.faults
+      → SaysOfFile look file cause status ⊎ (status ≡ NoMemory)
   pub too_long : (bytes : List ℕ) → source.left ≡ Some bytes → source_limit < length bytes
       → ¬ Rose source.faults source_after.faults
       → (status ≡ TooLong) ⊎ (status ≡ NoMemory)

@@ -1,5 +1,7 @@
 -- What a source and a sink tell at one moment.
 use Rattle.std.specs.Prelude.{ℕ, List, Option}
+use Rattle.hs_folders.specs.declared.sink.Sink.{Ghosts as SinkMembers}
+use Rattle.hs_folders.specs.declared.source.Source.{Ghosts as SourceMembers}
 
 -- what a sink tells
 pub record SinkTold : Type 0 where
@@ -13,20 +15,18 @@ pub record SourceTold : Type 0 where
   pub paths : Option (List (List ℕ))
   pub faults : ℕ
 
--- what these tell of a sink, by the members of its trait
-abbrev pub sink_told : {T : Type 0} → (T → Option (List ℕ)) → (T → Option (List (List ℕ)))
-    → (T → ℕ) → T → SinkTold
-sink_told taken paths faults sink = record {
-  taken = taken sink;
-  paths = paths sink;
-  faults = faults sink;
+-- what these tell of a sink, the members of its trait
+abbrev pub sink_told : {T : Type 0} → SinkMembers T → T → SinkTold
+sink_told sinks sink = record {
+  taken = sinks.taken sink;
+  paths = sinks.paths sink;
+  faults = sinks.faults sink;
 }
 
 -- likewise of a source
-abbrev pub source_told : {S : Type 0} → (S → Option (List ℕ)) → (S → Option (List (List ℕ)))
-    → (S → ℕ) → S → SourceTold
-source_told left paths faults source = record {
-  left = left source;
-  paths = paths source;
-  faults = faults source;
+abbrev pub source_told : {S : Type 0} → SourceMembers S → S → SourceTold
+source_told sources source = record {
+  left = sources.left source;
+  paths = sources.paths source;
+  faults = sources.faults source;
 }

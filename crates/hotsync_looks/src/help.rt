@@ -1,5 +1,6 @@
 // Help.
 ghost use Rattle.hotsync_looks.specs.Helped.{IsHelped};
+ghost use Rattle.hotsync_looks.specs.Told.{sink_told};
 
 use crate::help_text::help_text;
 use crate::printing::{print_no_memory, print_text};
@@ -11,9 +12,7 @@ use std::alloc::{AllocError, Global};
 /// Prints the text of a topic.
 pub fn print_help<O: Sink>(alloc: Global, topic: Topic, out: &mut O) -> Status
     ensures { IsHelped topic
-        (record { taken = O.taken out.old; paths = O.paths out.old; faults = O.faults out.old })
-        (record { taken = O.taken out.new; paths = O.paths out.new; faults = O.faults out.new })
-        result }
+        (sink_told O.Sink out.old) (sink_told O.Sink out.new) result }
 {
     match help_text(alloc, topic) {
         Ok(text) => print_text(text.as_bytes(), out),

@@ -3,6 +3,7 @@ ghost use Rattle.std.specs.Prelude.{◌≡◌, ◌⊎◌, ◌≤◌, IfOk, optio
 ghost use Rattle.hotsync_looks.specs.Lines.{fault_lines as lines_of_fault, fault_words as words_of_fault};
 ghost use Rattle.hotsync_looks.specs.Misuses.{IsMisuse, TellsFault};
 ghost use Rattle.hotsync_looks.specs.Printed.{IsPrinted};
+ghost use Rattle.hotsync_looks.specs.Told.{sink_told};
 ghost use Rattle.run_words.specs.Views.{fault_view};
 
 use crate::printed_name::push_name;
@@ -17,9 +18,7 @@ pub fn print_misuse<O: Sink>(alloc: Global, fault: Option<WordFault<'_>>, out: &
     ensures status { IsMisuse result ⊎ (result ≡ Status.NoMemory) }
     ensures fault { TellsFault (option_map fault_view fault.entry) result }
     ensures printed { IsPrinted (λ text. ⊥)
-        (record { taken = O.taken out.old; paths = O.paths out.old; faults = O.faults out.old })
-        (record { taken = O.taken out.new; paths = O.paths out.new; faults = O.faults out.new })
-        result }
+        (sink_told O.Sink out.old) (sink_told O.Sink out.new) result }
     ensures count { O.faults out.old ≤ O.faults out.new }
 {
     let refusal = usage_status(alloc, fault);

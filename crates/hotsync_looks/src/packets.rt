@@ -1,5 +1,6 @@
 // The packets in captured bytes.
 ghost use Rattle.hotsync_looks.specs.Scans.{IsScanned};
+ghost use Rattle.hotsync_looks.specs.Told.{sink_told};
 ghost use Rattle.run_words.specs.Words.{bytes_of};
 ghost use Rattle.std.specs.Prelude.{◌≡◌, ◌≤◌, IfOk, string_bytes};
 ghost use Rattle.slp_frames.specs.PacketScan.{scan};
@@ -14,9 +15,7 @@ use trace_text::show_packets;
 /// Prints a line for each packet in the bytes of this hexadecimal, and then their number.
 pub fn print_packets<O: Sink>(alloc: Global, hex: &str, out: &mut O) -> Status
     ensures scanned { IsScanned (bytes_of hex.now)
-        (record { taken = O.taken out.old; paths = O.paths out.old; faults = O.faults out.old })
-        (record { taken = O.taken out.new; paths = O.paths out.new; faults = O.faults out.new })
-        result }
+        (sink_told O.Sink out.old) (sink_told O.Sink out.new) result }
 {
     match packets_text(alloc, hex) {
         Ok(text) => print_text(text.as_bytes(), out),

@@ -2,6 +2,7 @@
 ghost use Rattle.std.specs.Prelude.{◌≡◌, ◌⊎◌, IfOk, string_bytes};
 ghost use Rattle.hotsync_looks.specs.Printed.{IsPrinted};
 ghost use Rattle.hotsync_looks.specs.Served.{served_lines as lines_of_served};
+ghost use Rattle.hotsync_looks.specs.Told.{sink_told};
 
 use crate::printing::{print_no_memory, print_text};
 use crate::status::Status;
@@ -15,9 +16,7 @@ pub fn print_served<O: Sink>(alloc: Global, count: usize, out: &mut O) -> Status
     ensures status { (result ≡ Status.Done) ⊎ (result ≡ Status.OutWrite) ⊎
         (result ≡ Status.NoMemory) }
     ensures printed { IsPrinted (λ text. text ≡ lines_of_served count)
-        (record { taken = O.taken out.old; paths = O.paths out.old; faults = O.faults out.old })
-        (record { taken = O.taken out.new; paths = O.paths out.new; faults = O.faults out.new })
-        result }
+        (sink_told O.Sink out.old) (sink_told O.Sink out.new) result }
 {
     match served_lines(alloc, count) {
         Ok(lines) => print_text(lines.as_bytes(), out),

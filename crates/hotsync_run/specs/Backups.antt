@@ -159,7 +159,8 @@ pub record BackupRan (words : Between) (before after : CallTold) (status : Statu
   pub closed : device.handles ≡ no_handles
   pub apart : StandsApart before.desk.contents
   pub had : HadBackup rules device (sides_of before) (sides_of after) status report
-  pub traced : TakesTrace words.trace (trace_text (frames_in report)) before.trace after.trace status
+  pub traced : TakesTrace words.trace (trace_text (frames_in report)) before.trace after.trace
+      status
 
 -- ---- every backup
 

@@ -21,7 +21,7 @@ use Rattle.hotsync_run.specs.Runs.{IsRun, run_paths}
 use Rattle.hotsync_run.specs.SessionCalls.{Paths}
 use Rattle.hotsync_looks.specs.Scans.{IsScanned}
 use Rattle.hotsync_looks.specs.Told.{SinkTold, sink_told}
-use Rattle.hotsync_run.specs.Told.{CallTold, call_told}
+use Rattle.hotsync_run.specs.Told.{CallTold, SidesTold, call_told, sides_told}
 use Rattle.hotsync_run.specs.declared.answer.Answer.{Answer}
 use Rattle.hotsync_run.specs.declared.report.Report.{Report}
 use Rattle.hotsync_looks.specs.declared.status.Status.{Status}
@@ -93,8 +93,23 @@ abbrev pub OfCall : (CallTold → CallTold → SinkTold → SinkTold → Status 
 OfCall Fact palms desks sources traces outs palm desk source trace out answer read written said =
     Fact (call_told palms desks sources traces palm desk source trace)
     (call_told palms desks sources traces answer.device answer.desk read written)
-    (sink_told outs.taken outs.paths outs.faults out)
-    (sink_told outs.taken outs.paths outs.faults said) answer.status answer.report
+    (sink_told outs out) (sink_told outs said) answer.status answer.report
+
+-- likewise of a call beside standard output, which prints nothing yet
+abbrev pub OfRun : (CallTold → CallTold → Status → Report → Type 0)
+    → {H D S T : Type 0} → FolderMembers H → FolderMembers D → SourceMembers S → SinkMembers T
+    → H → D → S → T → Answer H D → S → T → Type 0
+OfRun Fact palms desks sources traces palm desk source trace answer read written =
+    Fact (call_told palms desks sources traces palm desk source trace)
+    (call_told palms desks sources traces answer.device answer.desk read written)
+    answer.status answer.report
+
+-- likewise of a session between both folders
+abbrev pub OfSides : (SidesTold → SidesTold → Status → Report → Type 0)
+    → {H D : Type 0} → FolderMembers H → FolderMembers D → H → D → Answer H D → Type 0
+OfSides Fact palms desks palm desk answer =
+    Fact (sides_told palms desks palm desk) (sides_told palms desks answer.device answer.desk)
+    answer.status answer.report
 
 -- the words ask for a session: for a run, a dry one too, for one between made folders, for an
 -- install, a backup, a restore or categories; or for a handheld's end of one, over captured bytes

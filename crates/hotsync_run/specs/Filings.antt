@@ -1,5 +1,5 @@
--- What holds of every call that brings the categories of both sides together: all objects before it,
--- and all of them after it.
+-- What holds of every call that brings the categories of both sides together: all objects before
+-- it, and all of them after it.
 use Rattle.std.specs.Prelude.{◌≡◌, ◌⊎◌, ⊤, ℕ, List, [], ◌∷◌, length, map, Option, None, Some, IfErr, IfSome, IsErr, IsOk, Err}
 use Rattle.std.specs.Option.{option_map}
 use Rattle.hs_folders.specs.FileMaps.{FileMap}
@@ -66,8 +66,8 @@ abbrev pub StandsInSomeTurn : Filing → Option FileMap → Type 0
 StandsInSomeTurn filing told = (writes : ℕ) × StandsBehindWrites filing told writes
 
 -- It ended: each of its requests was issued and performed, and none else; both folders stand for
--- what the session makes of both sides, the desktop's without a journal; and what was done with each
--- database is told.
+-- what the session makes of both sides, the desktop's without a journal; and what was done with
+-- each database is told.
 pub record EndedFiling (filing : Filing) (palm_after desk_after : FolderTold)
     (report : Report) : Type 0 where
   pub said : SaidAll (map text (filing_acts filing)) report
@@ -137,8 +137,8 @@ abbrev pub IsFilingTalk : List RuleValue → Filing → SidesTold → SidesTold 
 IsFilingTalk rules filing before after status report =
     IsTalk (HadFiling rules filing before.desk.contents before after) before after status report
 
--- The script and both sides before it, the desktop's slots once a journal that was left is finished;
--- all that is known of the session; and what the trace took.
+-- The script and both sides before it, the desktop's slots once a journal that was left is
+-- finished; all that is known of the session; and what the trace took.
 pub record CategoriesRan (words : Between) (before after : CallTold) (status : Status)
     (report : Report) : Type 0 where
   pub rules : List RuleValue
@@ -150,7 +150,8 @@ pub record CategoriesRan (words : Between) (before after : CallTold) (status : S
   pub desktop : IsDesk (option_map finished before.desk.contents) slots
   pub had : HadFiling rules (filing_of device slots) (option_map finished before.desk.contents)
       (sides_of before) (sides_of after) status report
-  pub traced : TakesTrace words.trace (trace_text (frames_in report)) before.trace after.trace status
+  pub traced : TakesTrace words.trace (trace_text (frames_in report)) before.trace after.trace
+      status
 
 -- ---- every call
 

@@ -126,7 +126,8 @@ pub record InstallRan (words : Between) (before after : CallTold) (status : Stat
   pub closed : device.handles ≡ no_handles
   pub had : HadInstall device database before.palm after.palm status report
   pub desktop : after.desk ≡ before.desk
-  pub traced : TakesTrace words.trace (trace_text (frames_in report)) before.trace after.trace status
+  pub traced : TakesTrace words.trace (trace_text (frames_in report)) before.trace after.trace
+      status
 
 -- ---- every install
 

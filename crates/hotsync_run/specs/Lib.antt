@@ -19,6 +19,7 @@ pub mod LineRuns
 pub mod Makes
 pub mod Meetings
 pub mod Moves
+pub mod Promises
 pub mod Refusals
 pub mod Reports
 pub mod Restores

@@ -157,7 +157,8 @@ pub record RestoreRan (words : Between) (before after : CallTold) (status : Stat
   pub backups : IfSome before.desk.contents (λ held. HoldsBackups held databases)
   pub had : HadRestore rules device databases before.palm after.palm status report
   pub desktop : StaysAsItWas before.desk after.desk
-  pub traced : TakesTrace words.trace (trace_text (frames_in report)) before.trace after.trace status
+  pub traced : TakesTrace words.trace (trace_text (frames_in report)) before.trace after.trace
+      status
 
 -- ---- every restore
 

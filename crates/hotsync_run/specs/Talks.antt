@@ -49,7 +49,8 @@ agenda_of rules meeting =
 
 -- A session between these sides that began: what is known of every session, what it left of both,
 -- and what its status shows of them.
-abbrev pub BegunSession : List RuleValue → Meeting → SidesTold → SidesTold → Status → Report → Type 0
+abbrev pub BegunSession : List RuleValue → Meeting → SidesTold → SidesTold → Status → Report
+    → Type 0
 BegunSession rules meeting before after status report =
     HadSession (SessionLeft meeting after.palm before.desk after.desk) (ShowsMeeting meeting)
     (agenda_of rules meeting) before.palm after.palm status report

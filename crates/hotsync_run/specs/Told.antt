@@ -52,6 +52,6 @@ abbrev pub call_told : {H D S T : Type 0} → FolderMembers H → FolderMembers 
 call_told palms desks sources traces palm desk source trace = record {
   palm = folder_told palms.contents palms.moments palms.paths palms.faults palm;
   desk = folder_told desks.contents desks.moments desks.paths desks.faults desk;
-  source = source_told sources.left sources.paths sources.faults source;
-  trace = sink_told traces.taken traces.paths traces.faults trace;
+  source = source_told sources source;
+  trace = sink_told traces trace;
 }

@@ -5,9 +5,8 @@ ghost use Rattle.palm_device.specs.Bounds.{IsBounded};
 ghost use Rattle.run_words.specs.Views.{between_view};
 ghost use Rattle.hotsync_looks.specs.Told.{sink_told};
 ghost use Rattle.hotsync_run.specs.Backups.{HasBackedUp, IsBackup, IsBackupTalk};
-ghost use Rattle.hotsync_run.specs.Calls.{OfCall};
+ghost use Rattle.hotsync_run.specs.Calls.{OfCall, OfRun, OfSides};
 ghost use Rattle.hotsync_run.specs.Refusals.{BlamesHandheld, BlamesSource};
-ghost use Rattle.hotsync_run.specs.Told.{call_told, sides_told};
 ghost use Rattle.hotsync_run.specs.Traces.{TracesReport};
 
 use crate::answer::Answer;
@@ -69,9 +68,9 @@ fn judged_backup<H: Folder, D: Folder, S: Source, T: Sink>(
     source: &mut S,
     trace: &mut T,
 ) -> Answer<H, D>
-    ensures ran { let told = call_told H.Folder D.Folder S.Source T.Sink in
-        HasBackedUp (between_view words.now) (told device desk source.old trace.old)
-        (told result.device result.desk source.new trace.new) result.status result.report }
+    ensures ran { OfRun (HasBackedUp (between_view words.now))
+        H.Folder D.Folder S.Source T.Sink device desk source.old trace.old
+        result source.new trace.new }
     ensures unprinted { result.status ≢ Status.OutWrite }
     ensures source_first { BlamesSource result.status
         → (result.device ≡ device) × (result.desk ≡ desk) }
@@ -113,13 +112,11 @@ fn traced_backup<H: Folder, D: Folder, T: Sink>(
     requires stands { Stands (H.contents store.folder) store.databases store.user }
     requires kept { AreKept store.databases }
     requires proper { IsBounded (opened_device store.databases store.user) }
-    ensures talk { let told = sides_told H.Folder D.Folder in
-        IsBackupTalk script (opened_device store.databases store.user)
-        (told store.folder files) (told result.device result.desk) result.status result.report }
+    ensures talk { OfSides (IsBackupTalk script (opened_device store.databases store.user))
+        H.Folder D.Folder store.folder files result }
     ensures unprinted { result.status ≢ Status.OutWrite }
     ensures traced { TracesReport (between_view words.now).trace result.report
-        (sink_told T.taken T.paths T.faults trace.old)
-        (sink_told T.taken T.paths T.faults trace.new) result.status }
+        (sink_told T.Sink trace.old) (sink_told T.Sink trace.new) result.status }
     ensures trace { words.now.trace ≡ None → trace.new ≡ trace.old }
 {
     let answer = backup_talk(alloc, store, files, script);

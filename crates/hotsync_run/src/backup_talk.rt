@@ -5,8 +5,8 @@ ghost use Rattle.line_world.specs.Logs.{no_log};
 ghost use Rattle.palm_device.specs.Bounds.{IsBounded};
 ghost use Rattle.palm_device.specs.Handles.{no_handles};
 ghost use Rattle.hotsync_run.specs.Backups.{IsBackupTalk};
+ghost use Rattle.hotsync_run.specs.Calls.{OfSides};
 ghost use Rattle.hotsync_run.specs.Causes.{IsUnsaid};
-ghost use Rattle.hotsync_run.specs.Told.{sides_told};
 
 use crate::answer::Answer;
 use crate::closing::{Closed, close_session};
@@ -31,9 +31,8 @@ pub fn backup_talk<H: Folder, D: Folder>(
     requires stands { Stands (H.contents store.folder) store.databases store.user }
     requires kept { AreKept store.databases }
     requires proper { IsBounded (opened_device store.databases store.user) }
-    ensures talk { let told = sides_told H.Folder D.Folder in
-        IsBackupTalk script (opened_device store.databases store.user)
-        (told store.folder files) (told result.device result.desk) result.status result.report }
+    ensures talk { OfSides (IsBackupTalk script (opened_device store.databases store.user))
+        H.Folder D.Folder store.folder files result }
     ensures unsaid { IsUnsaid result.status }
 {
     match World::new(alloc, Server::new(store), script) {
@@ -54,10 +53,8 @@ fn backup_over<H: Folder, D: Folder>(alloc: Global, world: World<H>, files: D) -
     requires silent { world.log ≡ no_log }
     requires begun { world.begun ≡ false }
     requires cause { world.cause ≡ None }
-    ensures talk { let told = sides_told H.Folder D.Folder in
-        IsBackupTalk world.script world.server.device
-        (told world.server.folder files) (told result.device result.desk)
-        result.status result.report }
+    ensures talk { OfSides (IsBackupTalk world.script world.server.device)
+        H.Folder D.Folder world.server.folder files result }
     ensures unsaid { IsUnsaid result.status }
 {
     let outcome = backup_session(alloc, world, files);

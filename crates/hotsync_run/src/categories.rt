@@ -5,12 +5,11 @@ ghost use Rattle.desk_store.specs.Bounds.{AreBounded};
 ghost use Rattle.desk_store.specs.Desks.{IsDesk};
 ghost use Rattle.handheld_files.specs.Openings.{AreKept, Stands, opened_device};
 ghost use Rattle.palm_device.specs.Bounds.{IsBounded};
-ghost use Rattle.hotsync_run.specs.Calls.{OfCall};
+ghost use Rattle.hotsync_run.specs.Calls.{OfCall, OfRun, OfSides};
 ghost use Rattle.hotsync_run.specs.Filings.{HasFiled, IsCategories, IsFilingTalk};
 ghost use Rattle.hotsync_run.specs.Refusals.{BlamesHandheld, BlamesSource};
 ghost use Rattle.hotsync_run.specs.Traces.{TracesReport};
 ghost use Rattle.hotsync_looks.specs.Told.{sink_told};
-ghost use Rattle.hotsync_run.specs.Told.{call_told, sides_told};
 ghost use Rattle.run_words.specs.Views.{between_view};
 
 use crate::answer::Answer;
@@ -73,9 +72,9 @@ fn judged_categories<H: Folder, D: Folder, S: Source, T: Sink>(
     source: &mut S,
     trace: &mut T,
 ) -> Answer<H, D>
-    ensures ran { let told = call_told H.Folder D.Folder S.Source T.Sink in
-        HasFiled (between_view words.now) (told device desk source.old trace.old)
-        (told result.device result.desk source.new trace.new) result.status result.report }
+    ensures ran { OfRun (HasFiled (between_view words.now))
+        H.Folder D.Folder S.Source T.Sink device desk source.old trace.old
+        result source.new trace.new }
     ensures unprinted { result.status ≢ Status.OutWrite }
     ensures source_first { BlamesSource result.status
         → (result.device ≡ device) × (result.desk ≡ desk) }
@@ -121,14 +120,12 @@ fn traced_categories<H: Folder, D: Folder, T: Sink>(
     requires proper { IsBounded (opened_device store.databases store.user) }
     requires desktop { IsDesk (D.contents desk.folder) desk.slots }
     requires bounded { AreBounded desk.slots }
-    ensures talk { let told = sides_told H.Folder D.Folder in
-        IsFilingTalk script (filing_of (opened_device store.databases store.user) desk.slots)
-        (told store.folder desk.folder) (told result.device result.desk)
-        result.status result.report }
+    ensures talk { OfSides (IsFilingTalk script
+        (filing_of (opened_device store.databases store.user) desk.slots))
+        H.Folder D.Folder store.folder desk.folder result }
     ensures unprinted { result.status ≢ Status.OutWrite }
     ensures traced { TracesReport (between_view words.now).trace result.report
-        (sink_told T.taken T.paths T.faults trace.old)
-        (sink_told T.taken T.paths T.faults trace.new) result.status }
+        (sink_told T.Sink trace.old) (sink_told T.Sink trace.new) result.status }
     ensures trace { words.now.trace ≡ None → trace.new ≡ trace.old }
 {
     let answer = categories_talk(alloc, store, desk, script);

@@ -7,9 +7,9 @@ ghost use Rattle.handheld_files.specs.Openings.{AreKept, Stands, opened_device};
 ghost use Rattle.line_world.specs.Logs.{no_log};
 ghost use Rattle.palm_device.specs.Bounds.{IsBounded};
 ghost use Rattle.palm_device.specs.Handles.{no_handles};
+ghost use Rattle.hotsync_run.specs.Calls.{OfSides};
 ghost use Rattle.hotsync_run.specs.Causes.{IsUnsaid};
 ghost use Rattle.hotsync_run.specs.Filings.{IsFilingTalk};
-ghost use Rattle.hotsync_run.specs.Told.{sides_told};
 
 use crate::answer::Answer;
 use crate::closing::{Closed, close_session};
@@ -37,10 +37,9 @@ pub fn categories_talk<H: Folder, D: Folder>(
     requires proper { IsBounded (opened_device store.databases store.user) }
     requires desktop { IsDesk (D.contents desk.folder) desk.slots }
     requires bounded { AreBounded desk.slots }
-    ensures talk { let told = sides_told H.Folder D.Folder in
-        IsFilingTalk script (filing_of (opened_device store.databases store.user) desk.slots)
-        (told store.folder desk.folder) (told result.device result.desk)
-        result.status result.report }
+    ensures talk { OfSides (IsFilingTalk script
+        (filing_of (opened_device store.databases store.user) desk.slots))
+        H.Folder D.Folder store.folder desk.folder result }
     ensures unsaid { IsUnsaid result.status }
 {
     match World::new(alloc, Server::new(store), script) {
@@ -70,10 +69,8 @@ fn categories_over<H: Folder, D: Folder>(
     requires silent { world.log ≡ no_log }
     requires begun { world.begun ≡ false }
     requires cause { world.cause ≡ None }
-    ensures talk { let told = sides_told H.Folder D.Folder in
-        IsFilingTalk world.script (filing_of world.server.device desk.slots)
-        (told world.server.folder desk.folder) (told result.device result.desk)
-        result.status result.report }
+    ensures talk { OfSides (IsFilingTalk world.script (filing_of world.server.device desk.slots))
+        H.Folder D.Folder world.server.folder desk.folder result }
     ensures unsaid { IsUnsaid result.status }
 {
     let outcome = file_session(alloc, world, desk);

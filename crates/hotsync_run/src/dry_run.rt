@@ -5,10 +5,9 @@ ghost use Rattle.folder_copies.specs.Copies.{IsCopy, TellsPaths};
 ghost use Rattle.hs_folders.specs.Causes.{Rose};
 ghost use Rattle.hotsync_looks.specs.Opening.{Opens, OpensAtMost};
 ghost use Rattle.hotsync_looks.specs.Told.{sink_told};
-ghost use Rattle.hotsync_run.specs.Calls.{OfCall};
+ghost use Rattle.hotsync_run.specs.Calls.{OfCall, OfRun};
 ghost use Rattle.hotsync_run.specs.DryRuns.{HasDryRun, IsDryRun};
 ghost use Rattle.hotsync_run.specs.Refusals.{BlamesHandheld, BlamesSource, IsDesktopFailure, IsHandheldFailure};
-ghost use Rattle.hotsync_run.specs.Told.{call_told};
 ghost use Rattle.run_words.specs.Views.{run_view};
 
 use crate::answer::Answer;
@@ -71,9 +70,9 @@ fn judged_dry_run<H: Folder, D: Folder, S: Source, T: Sink>(
     source: &mut S,
     trace: &mut T,
 ) -> Answer<H, D>
-    ensures ran { let told = call_told H.Folder D.Folder S.Source T.Sink in
-        HasDryRun (run_view words.now) (told device desk source.old trace.old)
-        (told result.device result.desk source.new trace.new) result.status result.report }
+    ensures ran { OfRun (HasDryRun (run_view words.now))
+        H.Folder D.Folder S.Source T.Sink device desk source.old trace.old
+        result source.new trace.new }
     ensures unprinted { result.status ≢ Status.OutWrite }
     ensures source_first { BlamesSource result.status
         → (result.device ≡ device) × (result.desk ≡ desk) }

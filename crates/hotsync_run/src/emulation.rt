@@ -9,9 +9,8 @@ ghost use Rattle.hotsync_looks.specs.Opening.{Opens, OpensAtMost};
 ghost use Rattle.hotsync_looks.specs.Printed.{IsPrinted, IsPrintedStatus};
 ghost use Rattle.hotsync_looks.specs.Served.{served_lines};
 ghost use Rattle.hotsync_looks.specs.Told.{sink_told};
-ghost use Rattle.hotsync_run.specs.Calls.{OfCall};
+ghost use Rattle.hotsync_run.specs.Calls.{OfCall, OfRun};
 ghost use Rattle.hotsync_run.specs.Emulations.{HadTalk, IsEmulation, IsSourceFailure, MayEmulate, TellsHand, talk_status};
-ghost use Rattle.hotsync_run.specs.Told.{call_told};
 
 use crate::answer::Answer;
 use crate::report::{Report, SessionEnd};
@@ -70,8 +69,7 @@ fn print_talk<O: Sink>(
     requires { status ≢ Status.OutWrite }
     ensures status { IsPrintedStatus status result }
     ensures printed { IsPrinted (λ text. text ≡ served_lines (length performed.now))
-        (sink_told O.taken O.paths O.faults out.old)
-        (sink_told O.taken O.paths O.faults out.new) result }
+        (sink_told O.Sink out.old) (sink_told O.Sink out.new) result }
 {
     match status {
         Status::Done => print_served(alloc, performed.len(), out),
@@ -88,9 +86,9 @@ fn judged_emulation<H: Folder, D: Folder, S: Source, T: Sink>(
     source: &mut S,
     sink: &mut T,
 ) -> Answer<H, D>
-    ensures ran { let told = call_told H.Folder D.Folder S.Source T.Sink in
-        MayEmulate (capture_view words.now) (told device desk source.old sink.old)
-        (told result.device result.desk source.new sink.new) result.status result.report }
+    ensures ran { OfRun (MayEmulate (capture_view words.now))
+        H.Folder D.Folder S.Source T.Sink device desk source.old sink.old
+        result source.new sink.new }
     ensures unprinted { result.status ≢ Status.OutWrite }
     ensures desk { result.desk ≡ desk }
 {
@@ -136,10 +134,9 @@ fn talk_over<H: Folder, D: Folder, S: Source, T: Sink>(
 ) -> Answer<H, D>
     requires sound { store.sound ≡ true }
     requires stands { Stands (H.contents store.folder) store.databases store.user }
-    ensures talk { let told = call_told H.Folder D.Folder S.Source T.Sink in
-        HadTalk (opened_device store.databases store.user)
-        (told store.folder desk source.old sink.old)
-        (told result.device result.desk source.new sink.new) result.status result.report }
+    ensures talk { OfRun (HadTalk (opened_device store.databases store.user))
+        H.Folder D.Folder S.Source T.Sink store.folder desk source.old sink.old
+        result source.new sink.new }
     ensures unprinted { result.status ≢ Status.OutWrite }
 
     ensures keeper { result.status ≡ Status.HandheldFolder → Rose (H.faults store.folder)

@@ -5,10 +5,9 @@ ghost use Rattle.palm_device.specs.Bounds.{IsBounded, IsBoundedDatabase};
 ghost use Rattle.pdb_values.specs.Heads.{is_read_only};
 ghost use Rattle.run_words.specs.Views.{between_view};
 ghost use Rattle.hotsync_looks.specs.Told.{sink_told};
-ghost use Rattle.hotsync_run.specs.Calls.{OfCall};
+ghost use Rattle.hotsync_run.specs.Calls.{OfCall, OfRun, OfSides};
 ghost use Rattle.hotsync_run.specs.Installs.{HasInstalled, IsInstall, IsInstallTalk};
 ghost use Rattle.hotsync_run.specs.Refusals.{BlamesSource};
-ghost use Rattle.hotsync_run.specs.Told.{call_told, sides_told};
 ghost use Rattle.hotsync_run.specs.Traces.{TracesReport};
 
 use crate::answer::Answer;
@@ -65,9 +64,9 @@ fn judged_install<H: Folder, D: Folder, S: Source, T: Sink>(
     source: &mut S,
     trace: &mut T,
 ) -> Answer<H, D>
-    ensures ran { let told = call_told H.Folder D.Folder S.Source T.Sink in
-        HasInstalled (between_view words.now) (told device desk source.old trace.old)
-        (told result.device result.desk source.new trace.new) result.status result.report }
+    ensures ran { OfRun (HasInstalled (between_view words.now))
+        H.Folder D.Folder S.Source T.Sink device desk source.old trace.old
+        result source.new trace.new }
     ensures unprinted { result.status ≢ Status.OutWrite }
     ensures source_first { BlamesSource result.status → result.device ≡ device }
     ensures desk { result.desk ≡ desk }
@@ -102,13 +101,11 @@ fn traced_install<H: Folder, D: Folder, T: Sink>(
     requires proper { IsBounded (opened_device store.databases store.user) }
     requires bounded { IsBoundedDatabase database }
     requires writable { is_read_only database.head.attributes ≡ false }
-    ensures talk { let told = sides_told H.Folder D.Folder in
-        IsInstallTalk (opened_device store.databases store.user) database
-        (told store.folder desk) (told result.device result.desk) result.status result.report }
+    ensures talk { OfSides (IsInstallTalk (opened_device store.databases store.user) database)
+        H.Folder D.Folder store.folder desk result }
     ensures unprinted { result.status ≢ Status.OutWrite }
     ensures traced { TracesReport (between_view words.now).trace result.report
-        (sink_told T.taken T.paths T.faults trace.old)
-        (sink_told T.taken T.paths T.faults trace.new) result.status }
+        (sink_told T.Sink trace.old) (sink_told T.Sink trace.new) result.status }
     ensures desk { result.desk ≡ desk }
     ensures trace { words.now.trace ≡ None → trace.new ≡ trace.old }
 {

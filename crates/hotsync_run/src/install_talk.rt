@@ -5,9 +5,9 @@ ghost use Rattle.line_world.specs.Logs.{no_log};
 ghost use Rattle.palm_device.specs.Bounds.{IsBounded, IsBoundedDatabase};
 ghost use Rattle.palm_device.specs.Handles.{no_handles};
 ghost use Rattle.pdb_values.specs.Heads.{is_read_only};
+ghost use Rattle.hotsync_run.specs.Calls.{OfSides};
 ghost use Rattle.hotsync_run.specs.Causes.{IsUnsaid};
 ghost use Rattle.hotsync_run.specs.Installs.{IsInstallTalk};
-ghost use Rattle.hotsync_run.specs.Told.{sides_told};
 
 use crate::answer::Answer;
 use crate::closing::{Closed, close_session};
@@ -35,9 +35,8 @@ pub fn install_talk<H: Folder, D: Folder>(
     requires proper { IsBounded (opened_device store.databases store.user) }
     requires bounded { IsBoundedDatabase database }
     requires writable { is_read_only database.head.attributes ≡ false }
-    ensures talk { let told = sides_told H.Folder D.Folder in
-        IsInstallTalk (opened_device store.databases store.user) database
-        (told store.folder desk) (told result.device result.desk) result.status result.report }
+    ensures talk { OfSides (IsInstallTalk (opened_device store.databases store.user) database)
+        H.Folder D.Folder store.folder desk result }
     ensures unsaid { IsUnsaid result.status }
     ensures desk { result.desk ≡ desk }
 {
@@ -67,10 +66,8 @@ fn install_over<H: Folder, D: Folder>(
     requires begun { world.begun ≡ false }
     requires cause { world.cause ≡ None }
     requires script { world.script ≡ [] }
-    ensures talk { let told = sides_told H.Folder D.Folder in
-        IsInstallTalk world.server.device database
-        (told world.server.folder desk) (told result.device result.desk)
-        result.status result.report }
+    ensures talk { OfSides (IsInstallTalk world.server.device database)
+        H.Folder D.Folder world.server.folder desk result }
     ensures unsaid { IsUnsaid result.status }
     ensures desk { result.desk ≡ desk }
 {

@@ -44,8 +44,7 @@ const EVERY_DATABASE: ChoiceWords<'static> = ChoiceWords {
 pub fn make<O: Sink>(alloc: Global, seed: u64, count: u32, out: &mut O) -> (Status, Report)
     requires { count ≤ 5000 }
     ensures { IsMake seed count
-        (sink_told O.taken O.paths O.faults out.old)
-        (sink_told O.taken O.paths O.faults out.new)
+        (sink_told O.Sink out.old) (sink_told O.Sink out.new)
         result.0 result.1 }
 {
     let (status, report) = made_session(alloc, seed, count);

@@ -170,7 +170,7 @@ fn run_untold<H: Folder, D: Folder, S: Source, T: Sink, O: Sink>(
 ) -> Ended<H, D>
     requires { AreUntold
         (call_told H.Folder D.Folder S.Source T.Sink device desk source.old trace.old)
-        (sink_told O.taken O.paths O.faults out.old) }
+        (sink_told O.Sink out.old) }
     ensures code { result.code ≡ code_of result.answer.status }
     ensures call { IsSystemCall (task_in now (drop 1 args.now))
         result.answer.status result.answer.report }

@@ -2,46 +2,38 @@
 //! call, and what else holds of calls. Each function here does nothing: its contract is the law.
 ghost use Rattle.std.specs.Prelude.{◌≡◌, ◌<◌, ℕ, List, [], ◌∷◌, None, Some, true};
 ghost use Rattle.std.specs.List.{AllByRecursion};
-ghost use Rattle.hs_folders.specs.Moments.{EachMomentSince};
-ghost use Rattle.std.specs.Option.{option_map};
 ghost use Rattle.line_script.specs.Rules.{RuleValue};
 ghost use Rattle.trace_check.specs.Judging.{IsProperTrace};
-ghost use Rattle.run_words.specs.Betweens.{Between};
-ghost use Rattle.run_words.specs.Captures.{Capture};
 ghost use Rattle.run_words.specs.Commands.{Backup, DryRun, Emulate, Categories, Install, LookAt, Make, Restore};
 ghost use Rattle.run_words.specs.declared.look.Look.{Look};
 ghost use Rattle.run_words.specs.Runs.{Run};
-ghost use Rattle.desk_journal.specs.Overlays.{finished};
 ghost use Rattle.desk_store.specs.Desks.{StaysOpenable};
-ghost use Rattle.session_plan.specs.Limits.{first_over};
 ghost use Rattle.session_plan.specs.Tasks.{Meeting};
-ghost use Rattle.category_mirror.specs.FilingEnds.{StandsFiled};
-ghost use Rattle.category_mirror.specs.Sides.{block_writes, filing_of};
 ghost use Rattle.front_laws.specs.Answered.{IsAnsweredExchange};
 ghost use Rattle.hotsync_run.specs.Again.{AllRan, AreOfOneKind, AreTold, EndsAsOne, IsRepeat};
-ghost use Rattle.hotsync_run.specs.Backups.{BackupLeft, BackupRan, backup_command};
+ghost use Rattle.hotsync_run.specs.Backups.{BackupLeft, backup_command};
 ghost use Rattle.hotsync_run.specs.Besides.{StandsBeside};
 ghost use Rattle.hotsync_run.specs.Calls.{Call, IsAnsweredCall, IsNothing};
 ghost use Rattle.hotsync_run.specs.Causes.{HasBegun};
 ghost use Rattle.hotsync_run.specs.Clean.{GoesThrough, HasNoLines};
-ghost use Rattle.hotsync_run.specs.DryRuns.{HoldTheSame};
 ghost use Rattle.hotsync_run.specs.Emulations.{SaysAll};
 ghost use Rattle.hotsync_run.specs.Equal.{EndsEqual};
 ghost use Rattle.hotsync_run.specs.FilingCalls.{IsSecondCall, StandsTogether};
-ghost use Rattle.hotsync_run.specs.Filings.{CategoriesRan, EndedFiling, StoppedFiling, categories_command};
+ghost use Rattle.hotsync_run.specs.Filings.{EndedFiling, StoppedFiling, categories_command};
 ghost use Rattle.hotsync_run.specs.Headline.{ActsOnce, FairStaysUp, Headline, IsAnsweredRun, IsWhatItSays, LeavesTheMerge, RunCall, TellsCause};
-ghost use Rattle.hotsync_run.specs.Installs.{EndedInstall, InstallRan, install_command};
+ghost use Rattle.hotsync_run.specs.Installs.{EndedInstall, install_command};
 ghost use Rattle.hotsync_run.specs.LineRuns.{exchanges_in, frames_in};
 ghost use Rattle.hotsync_looks.specs.Looks.{IsLook};
 ghost use Rattle.hotsync_run.specs.Meetings.{Meets};
 ghost use Rattle.hotsync_looks.specs.PrintedNames.{is_printable, printed_name};
-ghost use Rattle.hotsync_run.specs.Restores.{EndedRestore, RestoreRan, restore_command};
+ghost use Rattle.hotsync_run.specs.Promises.{BackupSession, EachCall, FilingSession, HandheldStays, IfCommitted, InstallSession, IsCalmRun, LeavesDesktop, PassesNoLimit, RestoreSession, RunsOverTheSame, filing_in};
+ghost use Rattle.hotsync_run.specs.Restores.{EndedRestore, restore_command};
 ghost use Rattle.hotsync_looks.specs.declared.status.Status.TheVariants.{Done};
-ghost use Rattle.hotsync_run.specs.Runs.{IsRun, run_command};
+ghost use Rattle.hotsync_run.specs.Runs.{run_command};
 ghost use Rattle.hotsync_run.specs.Scripts.{IsScripted};
 ghost use Rattle.hotsync_run.specs.SessionCalls.{SentNothing, StaysAsItWas};
 ghost use Rattle.hotsync_run.specs.Told.{CallTold, sides_of};
-ghost use Rattle.hotsync_run.specs.Undisturbed.{AreGood, EndsWell, IsCalm, IsUndisturbed};
+ghost use Rattle.hotsync_run.specs.Undisturbed.{AreGood, EndsWell, IsUndisturbed};
 ghost use Rattle.hotsync_run.specs.declared.report.SessionEnd.TheVariants.{Ended, NotStarted, Stopped};
 
 /// What is promised of each run whose session began, on one page.
@@ -100,12 +92,10 @@ pub fn what_a_run_leaves_can_be_opened()
     ensures after { (call : RunCall) → IsAnsweredRun call → AreGood call.before
         → AreGood call.after }
     ensures again { (call next : RunCall) → IsAnsweredRun call → AreGood call.before
-        → IsAnsweredRun next → IsRepeat call next
-        → IsCalm next.run next.before next.after next.out next.out_after next.report
+        → IsAnsweredRun next → IsRepeat call next → IsCalmRun next
         → EndsWell next.status next.report }
     ensures moments { (call : RunCall) → IsAnsweredRun call → AreGood call.before
-        → ((meeting : Meeting) → Meets call.run call.before meeting → first_over meeting ≡ None)
-        → let desk = call.after.desk in
+        → PassesNoLimit call → let desk = call.after.desk in
         StaysOpenable desk.contents call.before.desk.moments desk.moments }
 {}
 
@@ -137,17 +127,13 @@ pub fn stopped_runs_end_as_one()
 
 /// A dry run changes nothing: at each moment both folders hold what they held.
 pub fn a_dry_run_changes_nothing()
-    ensures { (call : Call) (run : Run) → IsAnsweredCall call → call.task ≡ Some (DryRun run)
-        → StaysAsItWas call.before.palm call.after.palm
-        × StaysAsItWas call.before.desk call.after.desk }
+    ensures { EachCall DryRun (λ call run. StaysAsItWas call.before.palm call.after.palm
+        × StaysAsItWas call.before.desk call.after.desk) }
 {}
 
 /// Status, report, trace and lines of a dry run are those of a run over folders that hold the same.
 pub fn a_dry_run_is_a_run_over_the_same()
-    ensures { (call : Call) (run : Run) → IsAnsweredCall call → call.task ≡ Some (DryRun run)
-        → (first : CallTold) × (last : CallTold) × HoldTheSame call.before call.after first
-        × (last.trace ≡ call.after.trace)
-        × IsRun run first last call.out call.out_after call.status call.report }
+    ensures { EachCall DryRun RunsOverTheSame }
 {}
 
 /// Every file that is looked at is read, or refused by the first rule of its format that it breaks.
@@ -185,80 +171,64 @@ pub fn a_run_is_never_refused()
 /// at each moment the handheld has its user and all other databases, and where there is room, of that one what it had, or nothing, or as
 /// much of the file's as came.
 pub fn an_install_keeps_what_it_promises()
-    ensures refused { (call : Call) (words : Between) → IsAnsweredCall call
-        → call.task ≡ Some (Install words) → call.report.end ≡ NotStarted
-        → SentNothing (install_command words) call.before call.after call.status call.report }
-    ensures through { (call : Call) (words : Between) → IsAnsweredCall call
-        → call.task ≡ Some (Install words) → HasBegun call.report.end
-        → GoesThrough call.status call.report }
-    ensures ended { (call : Call) (words : Between) → IsAnsweredCall call
-        → call.task ≡ Some (Install words) → call.report.end ≡ Ended
-        → (ran : InstallRan words call.before call.after call.status call.report)
-        × EndedInstall ran.device ran.database call.after.palm call.report }
-    ensures stopped { (call : Call) (words : Between) → IsAnsweredCall call
-        → call.task ≡ Some (Install words) → HasBegun call.report.end
-        → (ran : InstallRan words call.before call.after call.status call.report)
-        × EachMomentSince (StandsBeside ran.device (ran.database ∷ []))
-        call.before.palm.moments call.after.palm.moments }
+    ensures refused { EachCall Install (λ call words. call.report.end ≡ NotStarted
+        → SentNothing (install_command words) call.before call.after call.status call.report) }
+    ensures through { EachCall Install (λ call words. HasBegun call.report.end
+        → GoesThrough call.status call.report) }
+    ensures ended { EachCall Install (λ call words. call.report.end ≡ Ended
+        → (ran : InstallSession call words)
+        × EndedInstall ran.device ran.database call.after.palm call.report) }
+    ensures stopped { EachCall Install (λ call words. HasBegun call.report.end
+        → (ran : InstallSession call words)
+        × HandheldStays (StandsBeside ran.device (ran.database ∷ [])) call) }
 {}
 
 /// A backup that is refused before its session changes nothing. However it went, the handheld stands at each moment for what it
 /// was, and the folder has the files of a first part of its databases, each as the handheld has it, over those that were there. Once
 /// it ended, that is all of them.
 pub fn a_backup_keeps_what_it_promises()
-    ensures refused { (call : Call) (words : Between) → IsAnsweredCall call
-        → call.task ≡ Some (Backup words) → call.report.end ≡ NotStarted
-        → SentNothing (backup_command words) call.before call.after call.status call.report }
-    ensures left { (call : Call) (words : Between) → IsAnsweredCall call
-        → call.task ≡ Some (Backup words) → HasBegun call.report.end
-        → (ran : BackupRan words call.before call.after call.status call.report)
-        × BackupLeft ran.device (sides_of call.before) (sides_of call.after) call.report }
+    ensures refused { EachCall Backup (λ call words. call.report.end ≡ NotStarted
+        → SentNothing (backup_command words) call.before call.after call.status call.report) }
+    ensures left { EachCall Backup (λ call words. HasBegun call.report.end
+        → (ran : BackupSession call words)
+        × BackupLeft ran.device (sides_of call.before) (sides_of call.after) call.report) }
 {}
 
 /// A restore that is refused before its session changes nothing, and however it goes nothing in its folder is changed. Once it ended,
 /// the handheld has each database of the folder that is not read-only in place of the one of its name, and all else as it was. However
 /// it stopped, the handheld has its user and all databases that are not installed, and at each moment those in front of one are.
 pub fn a_restore_keeps_what_it_promises()
-    ensures refused { (call : Call) (words : Between) → IsAnsweredCall call
-        → call.task ≡ Some (Restore words) → call.report.end ≡ NotStarted
-        → SentNothing (restore_command words) call.before call.after call.status call.report }
-    ensures folder { (call : Call) (words : Between) → IsAnsweredCall call
-        → call.task ≡ Some (Restore words) → StaysAsItWas call.before.desk call.after.desk }
-    ensures ended { (call : Call) (words : Between) → IsAnsweredCall call
-        → call.task ≡ Some (Restore words) → call.report.end ≡ Ended
-        → (ran : RestoreRan words call.before call.after call.status call.report)
-        × EndedRestore ran.device ran.databases call.after.palm call.report }
-    ensures stopped { (call : Call) (words : Between) → IsAnsweredCall call
-        → call.task ≡ Some (Restore words) → HasBegun call.report.end
-        → (ran : RestoreRan words call.before call.after call.status call.report)
-        × EachMomentSince (StandsBeside ran.device ran.databases) call.before.palm.moments
-        call.after.palm.moments }
+    ensures refused { EachCall Restore (λ call words. call.report.end ≡ NotStarted
+        → SentNothing (restore_command words) call.before call.after call.status call.report) }
+    ensures folder { EachCall Restore (λ call words.
+        StaysAsItWas call.before.desk call.after.desk) }
+    ensures ended { EachCall Restore (λ call words. call.report.end ≡ Ended
+        → (ran : RestoreSession call words)
+        × EndedRestore ran.device ran.databases call.after.palm call.report) }
+    ensures stopped { EachCall Restore (λ call words. HasBegun call.report.end
+        → (ran : RestoreSession call words)
+        × HandheldStays (StandsBeside ran.device ran.databases) call) }
 {}
 
 /// A handheld over captured bytes whose talk ended said all that is to be said to their packets up to that, and no other byte; it did
 /// each of their requests once.
 pub fn a_handheld_says_what_is_to_be_said()
-    ensures { (call : Call) (capture : Capture) → IsAnsweredCall call
-        → call.task ≡ Some (Emulate capture) → call.status ≡ Done
-        → SaysAll call.before call.after call.report }
+    ensures { EachCall Emulate (λ call capture. call.status ≡ Done
+        → SaysAll call.before call.after call.report) }
 {}
 
 /// Categories that are refused before their session change nothing of the handheld, nor what the desktop's folder stands for. Once their
 /// session ended, both folders stand for what it makes of both sides; one that stopped left the desktop's folder standing for what it stood
 /// for, or for what the session makes of it.
 pub fn categories_keep_what_they_promise()
-    ensures refused { (call : Call) (words : Between) → IsAnsweredCall call
-        → call.task ≡ Some (Categories words) → call.report.end ≡ NotStarted
-        → SentNothing (categories_command words) call.before call.after call.status call.report }
-    ensures ended { (call : Call) (words : Between) → IsAnsweredCall call
-        → call.task ≡ Some (Categories words) → call.report.end ≡ Ended
-        → (ran : CategoriesRan words call.before call.after call.status call.report)
-        × EndedFiling (filing_of ran.device ran.slots) call.after.palm call.after.desk call.report }
-    ensures stopped { (call : Call) (words : Between) → IsAnsweredCall call
-        → call.task ≡ Some (Categories words) → call.report.end ≡ Stopped
-        → (ran : CategoriesRan words call.before call.after call.status call.report)
-        × StoppedFiling (filing_of ran.device ran.slots) call.before.desk call.after.desk
-        call.report }
+    ensures refused { EachCall Categories (λ call words. call.report.end ≡ NotStarted
+        → SentNothing (categories_command words) call.before call.after call.status call.report) }
+    ensures ended { EachCall Categories (λ call words. call.report.end ≡ Ended
+        → (ran : FilingSession call words)
+        × EndedFiling (filing_in ran) call.after.palm call.after.desk call.report) }
+    ensures stopped { EachCall Categories (λ call words. call.report.end ≡ Stopped
+        → (ran : FilingSession call words)
+        × StoppedFiling (filing_in ran) call.before.desk call.after.desk call.report) }
 {}
 
 /// Categories that were brought together stay as they are: a session behind one that ended, or that stopped behind the desktop's commit,
@@ -266,18 +236,13 @@ pub fn categories_keep_what_they_promise()
 /// that began, however that went, leaves both sides as the first alone would have left them, had it ended.
 pub fn categories_that_are_together_stay()
     ensures untouched { (first second : Call) → IsSecondCall first second
-        → first.report.end ≡ Ended → HasBegun second.report.end
-        → second.after.desk.contents ≡ option_map finished second.before.desk.contents }
+        → first.report.end ≡ Ended → HasBegun second.report.end → LeavesDesktop second }
     ensures committed { (first second : Call) → (is : IsSecondCall first second)
-        → (ran : CategoriesRan is.words first.before first.after first.status first.report)
-        → StandsFiled (filing_of ran.device ran.slots) first.after.desk.contents
-        → first.report.writes ≡ block_writes (filing_of ran.device ran.slots)
-        → HasBegun second.report.end
-        → second.after.desk.contents ≡ option_map finished second.before.desk.contents }
+        → (ran : FilingSession first is.words)
+        → IfCommitted (filing_in ran) first (HasBegun second.report.end → LeavesDesktop second) }
     ensures again { (first second : Call) → (is : IsSecondCall first second)
         → HasBegun first.report.end → second.report.end ≡ Ended
-        → (ran : CategoriesRan is.words first.before first.after first.status first.report)
-        × StandsTogether (filing_of ran.device ran.slots) second.after }
+        → (ran : FilingSession first is.words) × StandsTogether (filing_in ran) second.after }
 {}
 
 /// No two names of files are printed alike, and each is printed in ASCII from the space to `~`.

@@ -6,10 +6,9 @@ ghost use Rattle.palm_device.specs.Bounds.{IsBounded, IsBoundedDatabase};
 ghost use Rattle.pdb_values.specs.NamedDatabases.{NamesRise};
 ghost use Rattle.run_words.specs.Views.{between_view};
 ghost use Rattle.hotsync_looks.specs.Told.{sink_told};
-ghost use Rattle.hotsync_run.specs.Calls.{OfCall};
+ghost use Rattle.hotsync_run.specs.Calls.{OfCall, OfRun, OfSides};
 ghost use Rattle.hotsync_run.specs.Refusals.{BlamesHandheld, BlamesSource};
 ghost use Rattle.hotsync_run.specs.Restores.{HasRestored, IsRestore, IsRestoreTalk};
-ghost use Rattle.hotsync_run.specs.Told.{call_told, sides_told};
 ghost use Rattle.hotsync_run.specs.Traces.{TracesReport};
 
 use crate::answer::Answer;
@@ -72,9 +71,9 @@ fn judged_restore<H: Folder, D: Folder, S: Source, T: Sink>(
     source: &mut S,
     trace: &mut T,
 ) -> Answer<H, D>
-    ensures ran { let told = call_told H.Folder D.Folder S.Source T.Sink in
-        HasRestored (between_view words.now) (told device desk source.old trace.old)
-        (told result.device result.desk source.new trace.new) result.status result.report }
+    ensures ran { OfRun (HasRestored (between_view words.now))
+        H.Folder D.Folder S.Source T.Sink device desk source.old trace.old
+        result source.new trace.new }
     ensures unprinted { result.status ≢ Status.OutWrite }
     ensures source_first { BlamesSource result.status
         → (result.device ≡ device) × (result.desk ≡ desk) }
@@ -118,13 +117,12 @@ fn traced_restore<H: Folder, D: Folder, T: Sink>(
     requires proper { IsBounded (opened_device store.databases store.user) }
     requires order { NamesRise backups.databases.items }
     requires bounded { AllByRecursion IsBoundedDatabase backups.databases.items }
-    ensures talk { let told = sides_told H.Folder D.Folder in
-        IsRestoreTalk script (opened_device store.databases store.user) backups.databases.items
-        (told store.folder backups.folder) (told result.device result.desk) result.status result.report }
+    ensures talk { OfSides (IsRestoreTalk script (opened_device store.databases store.user)
+        backups.databases.items)
+        H.Folder D.Folder store.folder backups.folder result }
     ensures unprinted { result.status ≢ Status.OutWrite }
     ensures traced { TracesReport (between_view words.now).trace result.report
-        (sink_told T.taken T.paths T.faults trace.old)
-        (sink_told T.taken T.paths T.faults trace.new) result.status }
+        (sink_told T.Sink trace.old) (sink_told T.Sink trace.new) result.status }
     ensures desk { result.desk ≡ backups.folder }
     ensures trace { words.now.trace ≡ None → trace.new ≡ trace.old }
 {

@@ -6,9 +6,9 @@ ghost use Rattle.line_world.specs.Logs.{no_log};
 ghost use Rattle.palm_device.specs.Bounds.{IsBounded, IsBoundedDatabase};
 ghost use Rattle.palm_device.specs.Handles.{no_handles};
 ghost use Rattle.pdb_values.specs.NamedDatabases.{NamesRise};
+ghost use Rattle.hotsync_run.specs.Calls.{OfSides};
 ghost use Rattle.hotsync_run.specs.Causes.{IsUnsaid};
 ghost use Rattle.hotsync_run.specs.Restores.{IsRestoreTalk};
-ghost use Rattle.hotsync_run.specs.Told.{sides_told};
 
 use crate::answer::Answer;
 use crate::backups::Backups;
@@ -37,9 +37,9 @@ pub fn restore_talk<H: Folder, D: Folder>(
     requires proper { IsBounded (opened_device store.databases store.user) }
     requires order { NamesRise backups.databases.items }
     requires bounded { AllByRecursion IsBoundedDatabase backups.databases.items }
-    ensures talk { let told = sides_told H.Folder D.Folder in
-        IsRestoreTalk script (opened_device store.databases store.user) backups.databases.items
-        (told store.folder backups.folder) (told result.device result.desk) result.status result.report }
+    ensures talk { OfSides (IsRestoreTalk script (opened_device store.databases store.user)
+        backups.databases.items)
+        H.Folder D.Folder store.folder backups.folder result }
     ensures unsaid { IsUnsaid result.status }
     ensures desk { result.desk ≡ backups.folder }
 {
@@ -72,10 +72,8 @@ fn restore_over<H: Folder, D: Folder>(
     requires silent { world.log ≡ no_log }
     requires begun { world.begun ≡ false }
     requires cause { world.cause ≡ None }
-    ensures talk { let told = sides_told H.Folder D.Folder in
-        IsRestoreTalk world.script world.server.device backups.databases.items
-        (told world.server.folder backups.folder) (told result.device result.desk)
-        result.status result.report }
+    ensures talk { OfSides (IsRestoreTalk world.script world.server.device backups.databases.items)
+        H.Folder D.Folder world.server.folder backups.folder result }
     ensures unsaid { IsUnsaid result.status }
     ensures desk { result.desk ≡ backups.folder }
 {

@@ -7,9 +7,9 @@ ghost use Rattle.line_world.specs.Logs.{no_log};
 ghost use Rattle.palm_device.specs.Bounds.{IsBounded};
 ghost use Rattle.palm_device.specs.Handles.{no_handles};
 ghost use Rattle.run_words.specs.Views.{run_view};
+ghost use Rattle.hotsync_run.specs.Calls.{OfSides};
 ghost use Rattle.hotsync_run.specs.Causes.{IsUnsaid};
 ghost use Rattle.hotsync_run.specs.Talks.{IsRunTalk};
-ghost use Rattle.hotsync_run.specs.Told.{sides_told};
 ghost use Rattle.hotsync_run.specs.Wishes.{AsksFor};
 
 use crate::answer::Answer;
@@ -42,9 +42,9 @@ pub fn talk<H: Folder, D: Folder>(
     requires proper { IsBounded (opened_device store.databases store.user) }
     requires ordered { AreInOrder desk.slots }
     requires bounded { AreBounded desk.slots }
-    ensures talk { let told = sides_told H.Folder D.Folder in IsRunTalk (run_view words.now) script
-        (opened_device store.databases store.user) desk.slots (told store.folder desk.folder)
-        (told result.device result.desk) result.status result.report }
+    ensures talk { OfSides (IsRunTalk (run_view words.now) script
+        (opened_device store.databases store.user) desk.slots)
+        H.Folder D.Folder store.folder desk.folder result }
     ensures unsaid { IsUnsaid result.status }
 {
     let Ok(wishes) = wishes_of(alloc, words) else {
@@ -86,9 +86,9 @@ fn speak<H: Folder, D: Folder>(
     requires silent { world.log ≡ no_log }
     requires begun { world.begun ≡ false }
     requires cause { world.cause ≡ None }
-    ensures talk { let told = sides_told H.Folder D.Folder in IsRunTalk (run_view words.now)
-        world.script world.server.device desk.slots (told world.server.folder desk.folder)
-        (told result.device result.desk) result.status result.report }
+    ensures talk { OfSides (IsRunTalk (run_view words.now) world.script world.server.device
+        desk.slots)
+        H.Folder D.Folder world.server.folder desk.folder result }
     ensures unsaid { IsUnsaid result.status }
 {
     let outcome = run_session(alloc, world, desk, wishes);

@@ -63,8 +63,7 @@ pub fn write_frames<T: Sink>(
     requires { IsUnsaid status }
     ensures traces { TracesFrames (option_copied path.entry)
         (trace_text (map frame_value frames.now.items))
-        (sink_told T.taken T.paths T.faults trace.old)
-        (sink_told T.taken T.paths T.faults trace.new) status result }
+        (sink_told T.Sink trace.old) (sink_told T.Sink trace.new) status result }
     ensures untouched { path.entry ≡ None → trace.new ≡ trace.old }
     ensures silent { frames.now.items ≡ [] → trace.new ≡ trace.old }
 {
@@ -80,8 +79,8 @@ pub fn write_frames<T: Sink>(
 /// Writes the text of a trace, and says which status stands then.
 pub fn write_text<T: Sink>(status: Status, text: &[u8], trace: &mut T) -> Status
     requires { IsUnsaid status }
-    ensures { TracesText text.now (sink_told T.taken T.paths T.faults trace.old)
-        (sink_told T.taken T.paths T.faults trace.new) status result }
+    ensures { TracesText text.now
+        (sink_told T.Sink trace.old) (sink_told T.Sink trace.new) status result }
 {
     match trace.write_all(text) {
         Ok(()) => status,

@@ -11,8 +11,8 @@ use Rattle.port_device.specs.declared.port_end.PortEnd.{PortEnd}
 use Rattle.port_device.specs.Ends.{IsLong, IsOver, IsSudden, fault_of}
 use Rattle.port_device.specs.Vigils.{Step, Steps, Vigil}
 
--- what the port gave and took, where it tells it, the bytes that the reader holds, the hand, and all
--- that was said and heard
+-- what the port gave and took, where it tells it, the bytes that the reader holds, the hand, and
+-- all that was said and heard
 pub record Scene : Type 0 where
   pub given : Option (List (List ℕ))
   pub taken : Option (List ℕ)

@@ -2,3 +2,4 @@ pub mod Vigils
 pub mod Ends
 pub mod Courses
 pub mod Runs
+pub mod VigilScenes

@@ -12,8 +12,8 @@ use Rattle.port_device.specs.Ends.{IsLong, IsOver, fault_of}
 use Rattle.port_device.specs.Vigils.{Steps, waking}
 
 -- A run of a handheld with this device at a port, which gave and took so much before it and behind
--- it: the port gave what came, the packets are those of its bytes, the first of what came was taken,
--- and the port took the wake and what was said to these.
+-- it: the port gave what came, the packets are those of its bytes, the first of what came was
+-- taken, and the port took the wake and what was said to these.
 pub record IsPortRun (device : Device) (given given' : Option (List (List ℕ)))
     (taken taken' : Option (List ℕ)) (log : List EntryValue) (end : PortEnd) (course : Course)
     : Type 0 where

@@ -3,13 +3,10 @@ ghost use Rattle.std.specs.Prelude.{◌≡◌, ◌<◌, ◌∷◌, [], true, IfE
 ghost use Rattle.hs_folders.specs.Causes.{HasCause};
 ghost use Rattle.slp_frames.specs.PacketScan.{scan};
 ghost use Rattle.device_stream.specs.Courses.{IsReady, PerformsAny};
-ghost use Rattle.device_stream.specs.Runs.{IsReportOf, KeptFor};
 ghost use Rattle.port_link.specs.Desks.{Event};
-ghost use Rattle.port_link.specs.Logs.{log_entries};
-ghost use Rattle.port_device.specs.Courses.{Course, GoesOn, GoesOut, scene};
+ghost use Rattle.port_device.specs.Courses.{GoesOn, GoesOut};
 ghost use Rattle.port_device.specs.Ends.{IsSudden};
-ghost use Rattle.port_device.specs.Runs.{IsPortRun};
-ghost use Rattle.port_device.specs.Vigils.{vigil};
+ghost use Rattle.port_device.specs.VigilScenes.{LeavesPort, scene_of};
 
 use crate::ends::port_end;
 use crate::log::Log;
@@ -43,11 +40,7 @@ pub struct AtPort<F, P> {
 pub fn serve_at_port<F: Folder, P: Port>(alloc: Global, server: Server<F>, port: P) -> AtPort<F, P>
     requires { server.sound ≡ true }
     // The packets are those of the port's bytes, the report and the folder are what the talk made of them.
-    ensures run { (course : Course)
-        × IsPortRun server.device (P.given port) (P.given result.port)
-        (P.taken port) (P.taken result.port) (log_entries result.log) result.end course
-        × IsReportOf course.vigil.hand result.report
-        × KeptFor F.contents F.moments F.paths F.faults server result.folder course.vigil.hand }
+    ensures run { LeavesPort F.Folder P.Port server port result }
 
     // Who is to blame.
     ensures keeper { HasCause (F.faults server.folder) (F.faults result.folder)
@@ -104,10 +97,7 @@ pub fn serve_at_port<F: Folder, P: Port>(alloc: Global, server: Server<F>, port:
 fn wake<F: Folder, P: Port>(waits: &mut Vigil<F, P>, reader: &mut SlpReader, text: &[u8]) -> PortEnd
     requires { IsReady waits.old.talk }
     ensures goes { GoesOut text.now result
-        (scene (P.given waits.old.port) (P.taken waits.old.port) reader.old.held
-        (vigil waits.old.talk.hand waits.old.patience) (log_entries waits.old.log.entries))
-        (scene (P.given waits.new.port) (P.taken waits.new.port) reader.new.held
-        (vigil waits.new.talk.hand waits.new.patience) (log_entries waits.new.log.entries)) }
+        (scene_of P.Port waits.old reader.old.held) (scene_of P.Port waits.new reader.new.held) }
     ensures performs { PerformsAny F.contents F.moments F.paths F.faults
         waits.old.talk waits.new.talk }
     ensures keeper { HasCause (F.faults waits.old.talk.folder) (F.faults waits.new.talk.folder)
@@ -126,10 +116,7 @@ fn wake<F: Folder, P: Port>(waits: &mut Vigil<F, P>, reader: &mut SlpReader, tex
 fn listen<F: Folder, P: Port>(waits: &mut Vigil<F, P>, reader: &mut SlpReader) -> PortEnd
     requires { IsReady waits.old.talk }
     ensures goes { GoesOut [] result
-        (scene (P.given waits.old.port) (P.taken waits.old.port) reader.old.held
-        (vigil waits.old.talk.hand waits.old.patience) (log_entries waits.old.log.entries))
-        (scene (P.given waits.new.port) (P.taken waits.new.port) reader.new.held
-        (vigil waits.new.talk.hand waits.new.patience) (log_entries waits.new.log.entries)) }
+        (scene_of P.Port waits.old reader.old.held) (scene_of P.Port waits.new reader.new.held) }
     ensures performs { PerformsAny F.contents F.moments F.paths F.faults
         waits.old.talk waits.new.talk }
     ensures keeper { HasCause (F.faults waits.old.talk.folder) (F.faults waits.new.talk.folder)
@@ -151,16 +138,10 @@ fn listen<F: Folder, P: Port>(waits: &mut Vigil<F, P>, reader: &mut SlpReader) -
 fn step<F: Folder, P: Port>(waits: &mut Vigil<F, P>, reader: &mut SlpReader) -> Result<(), PortEnd>
     requires { IsReady waits.old.talk }
     ensures goes { OnOk result ((event : Event) × GoesOn (event ∷ [])
-        (scene (P.given waits.old.port) (P.taken waits.old.port) reader.old.held
-        (vigil waits.old.talk.hand waits.old.patience) (log_entries waits.old.log.entries))
-        (scene (P.given waits.new.port) (P.taken waits.new.port) reader.new.held
-        (vigil waits.new.talk.hand waits.new.patience) (log_entries waits.new.log.entries))) }
+        (scene_of P.Port waits.old reader.old.held) (scene_of P.Port waits.new reader.new.held)) }
     ensures ready { OnOk result (IsReady waits.new.talk) }
     ensures stops { IfErr result (λ end. GoesOut [] end
-        (scene (P.given waits.old.port) (P.taken waits.old.port) reader.old.held
-        (vigil waits.old.talk.hand waits.old.patience) (log_entries waits.old.log.entries))
-        (scene (P.given waits.new.port) (P.taken waits.new.port) reader.new.held
-        (vigil waits.new.talk.hand waits.new.patience) (log_entries waits.new.log.entries))) }
+        (scene_of P.Port waits.old reader.old.held) (scene_of P.Port waits.new reader.new.held)) }
     ensures sudden { IfErr result IsSudden }
     ensures performs { PerformsAny F.contents F.moments F.paths F.faults
         waits.old.talk waits.new.talk }
@@ -182,16 +163,10 @@ fn read<F: Folder, P: Port>(waits: &mut Vigil<F, P>, reader: &mut SlpReader) -> 
     requires none { scan reader.old.held ≡ [] }
     requires room { length reader.old.held < 1040 }
     ensures goes { OnOk result ((event : Event) × GoesOn (event ∷ [])
-        (scene (P.given waits.old.port) (P.taken waits.old.port) reader.old.held
-        (vigil waits.old.talk.hand waits.old.patience) (log_entries waits.old.log.entries))
-        (scene (P.given waits.new.port) (P.taken waits.new.port) reader.new.held
-        (vigil waits.new.talk.hand waits.new.patience) (log_entries waits.new.log.entries))) }
+        (scene_of P.Port waits.old reader.old.held) (scene_of P.Port waits.new reader.new.held)) }
     ensures ready { OnOk result (IsReady waits.new.talk) }
     ensures stops { IfErr result (λ end. GoesOut [] end
-        (scene (P.given waits.old.port) (P.taken waits.old.port) reader.old.held
-        (vigil waits.old.talk.hand waits.old.patience) (log_entries waits.old.log.entries))
-        (scene (P.given waits.new.port) (P.taken waits.new.port) reader.new.held
-        (vigil waits.new.talk.hand waits.new.patience) (log_entries waits.new.log.entries))) }
+        (scene_of P.Port waits.old reader.old.held) (scene_of P.Port waits.new reader.new.held)) }
     ensures sudden { IfErr result IsSudden }
     ensures performs { PerformsAny F.contents F.moments F.paths F.faults
         waits.old.talk waits.new.talk }

@@ -7,8 +7,7 @@ ghost use Rattle.device_stream.specs.Courses.{IsReady, PerformsAny};
 ghost use Rattle.port_link.specs.Courses.{Tells};
 ghost use Rattle.port_link.specs.Desks.{Came, Read};
 ghost use Rattle.port_link.specs.Logs.{log_entries, speech};
-ghost use Rattle.port_device.specs.Courses.{HasStepped, Stops};
-ghost use Rattle.port_device.specs.Vigils.{vigil};
+ghost use Rattle.port_device.specs.VigilScenes.{StepsBy, StopsBy};
 
 use crate::ends::{port_end, serving_end, talking_end};
 use crate::log::Log;
@@ -36,17 +35,11 @@ impl<F: Folder, P: Port> Vigil<F, P> {
     /// Takes a packet that came, and says what goes back.
     pub(crate) fn take(&mut self, packet: PacketLent<'_>) -> Result<(), PortEnd>
         requires { IsReady self.old.talk }
-        ensures stepped { OnOk result (HasStepped (Came (lent_value packet.entry))
-            (vigil self.old.talk.hand self.old.patience)
-            (vigil self.new.talk.hand self.new.patience)
-            (P.taken self.old.port) (P.taken self.new.port)
-            (log_entries self.old.log.entries) (log_entries self.new.log.entries)) }
+        ensures stepped { OnOk result (StepsBy P.Port (Came (lent_value packet.entry))
+            self.old self.new) }
         ensures ready { OnOk result (IsReady self.new.talk) }
-        ensures stops { IfErr result (λ end. Stops end (Came (lent_value packet.entry) ∷ [])
-            (vigil self.old.talk.hand self.old.patience)
-            (vigil self.new.talk.hand self.new.patience)
-            (P.taken self.old.port) (P.taken self.new.port)
-            (log_entries self.old.log.entries) (log_entries self.new.log.entries)) }
+        ensures stops { IfErr result (λ end. StopsBy P.Port end (Came (lent_value packet.entry) ∷ [])
+            self.old self.new) }
         ensures performs { PerformsAny F.contents F.moments F.paths F.faults
             self.old.talk self.new.talk }
         ensures keeper { HasCause (F.faults self.old.talk.folder) (F.faults self.new.talk.folder)
@@ -76,17 +69,9 @@ impl<F: Folder, P: Port> Vigil<F, P> {
     /// A tick brought nothing: says the piece that waits once more, and loses patience.
     pub(crate) fn tick(&mut self) -> Result<(), PortEnd>
         requires { IsReady self.old.talk }
-        ensures stepped { OnOk result (HasStepped (Read [])
-            (vigil self.old.talk.hand self.old.patience)
-            (vigil self.new.talk.hand self.new.patience)
-            (P.taken self.old.port) (P.taken self.new.port)
-            (log_entries self.old.log.entries) (log_entries self.new.log.entries)) }
+        ensures stepped { OnOk result (StepsBy P.Port (Read []) self.old self.new) }
         ensures ready { OnOk result (IsReady self.new.talk) }
-        ensures stops { IfErr result (λ end. Stops end (Read [] ∷ [])
-            (vigil self.old.talk.hand self.old.patience)
-            (vigil self.new.talk.hand self.new.patience)
-            (P.taken self.old.port) (P.taken self.new.port)
-            (log_entries self.old.log.entries) (log_entries self.new.log.entries)) }
+        ensures stops { IfErr result (λ end. StopsBy P.Port end (Read [] ∷ []) self.old self.new) }
         ensures performs { PerformsAny F.contents F.moments F.paths F.faults
             self.old.talk self.new.talk }
         ensures keeper { HasCause (F.faults self.old.talk.folder) (F.faults self.new.talk.folder)

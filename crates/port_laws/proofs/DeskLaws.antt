@@ -11,7 +11,7 @@ use Rattle.padp_link.specs.Neighbours.{session_id}
 use Rattle.slp_frames.specs.Histories.{Continues}
 use Rattle.slp_frames.specs.PacketScan.{scan}
 use Rattle.slp_frames.specs.PacketText.{PacketValue}
-use Rattle.port_laws.proofs.HandLaws.{packets_in-stamped}
+use Rattle.port_laws.proofs.HandLaws.{packets_in-parcels}
 use Rattle.port_laws.proofs.MoveLaws.{joined, moves_on, head_of, oldest_of}
 use Rattle.port_laws.specs.Palms.{Gives, Palm}
 use Rattle.port_laws.specs.Talking.{Asking, DeskTook, Greeting, IsAt, Resting, Stage, Stands, Waking, Woken, side, with_said}

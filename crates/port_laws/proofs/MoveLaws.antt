@@ -8,7 +8,7 @@ use Rattle.device_stream.specs.Talks.{Takes}
 use Rattle.padp_end.specs.Ends.{EndValue, end_takes, end_waits}
 use Rattle.padp_link.specs.Neighbours.{session_id}
 use Rattle.slp_frames.specs.PacketText.{PacketValue}
-use Rattle.port_laws.proofs.HandLaws.{hand_takes, packets_in-stamped, still_at}
+use Rattle.port_laws.proofs.HandLaws.{hand_takes, packets_in-parcels, still_at}
 use Rattle.port_laws.specs.Palms.{AllMove, HandStops, HandTakes, LosesBack, LosesOne, LosesToward, Moves, MovesOn, Palm, Repeats, Stops, TakesNext}
 use Rattle.port_laws.specs.Palms.{with_repeat}
 use Rattle.port_laws.specs.Talking.{IsAt, Stage, Stands, side}

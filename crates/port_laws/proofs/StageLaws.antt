@@ -13,7 +13,7 @@ use Rattle.padp_link.specs.Pieces.{piece_count}
 use Rattle.padp_link.specs.Senders.{waiting}
 use Rattle.slp_frames.specs.PacketScan.{scan}
 use Rattle.slp_frames.specs.PacketText.{PacketValue}
-use Rattle.port_laws.proofs.HandLaws.{packets_in-stamped}
+use Rattle.port_laws.proofs.HandLaws.{packets_in-parcels}
 use Rattle.port_laws.proofs.MoveLaws.{joined}
 use Rattle.port_laws.specs.Palms.{Palm, is_first, is_nil}
 use Rattle.port_laws.specs.Talking.{Asking, DeskTook, Greeting, IsAt, IsReplyOf, Resting, Stage, Stands, Waking, Woken, side, with_said}

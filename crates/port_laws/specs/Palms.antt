@@ -1,8 +1,8 @@
 -- A handheld behind a cable that keeps four rules. The cable loses and damages packets, and neither
 -- reorders nor doubles any; what is damaged fails a checksum, so that no packet comes that wasn't
 -- sent; the handheld knows a repeat, performs a whole request once and says its reply under the
--- request's transaction until it is acknowledged; it answers as its device's table says, and changes
--- by nothing but requests. It may break down at any request, which it leaves undone.
+-- request's transaction until it is acknowledged; it answers as its device's table says, and
+-- changes by nothing but requests. It may break down at any request, which it leaves undone.
 use Rattle.std.specs.Prelude.{◌≡◌, ◌≤◌, ℕ, Bool, true, false, ◌&&◌, not, nat_eq, is_none, List, [], ◌∷◌, ◌++◌, length, Option, Some, None, if◌then◌else◌}
 use Rattle.cable_laws.specs.Cables.{packets_of}
 use Rattle.device_stream.specs.Hands.{Hand, waited_by, with_end}
@@ -51,8 +51,8 @@ pub record HandTakes (old new : Palm) : Type 0 where
     part = old.part;
   }
 
--- The oldest packet comes to a handheld that breaks down: its end takes the packet, and nothing else
--- is done about it, so that a request that is whole with it is never performed.
+-- The oldest packet comes to a handheld that breaks down: its end takes the packet, and nothing
+-- else is done about it, so that a request that is whole with it is never performed.
 pub record HandStops (old new : Palm) : Type 0 where
   pub packet : PacketValue
   pub later : List PacketValue

@@ -1,13 +1,14 @@
--- A desktop's end over a handheld and a cable: what holds of both while no request was said yet, and
--- from a request on until its reply was taken.
-use Rattle.std.specs.Prelude.{◌≡◌, ◌⊎◌, ℕ, false, List, [], ◌∷◌, ◌++◌, length, Some, None}
+-- A desktop's end over a handheld and a cable: what holds of both while no request was said yet,
+-- and from a request on until its reply was taken.
+use Rattle.std.specs.Prelude.{◌≡◌, ◌⊎◌, ◌≤◌, ℕ, false, List, [], ◌∷◌, ◌++◌, length, Some, None}
 use Rattle.cable_laws.specs.Cables.{Cable, Count, IsOver, Side, Parcel, packets_in, packets_of}
 use Rattle.cable_laws.specs.Moments.{HeardRightly, StaysOn}
 use Rattle.device_stream.specs.Hands.{Hand}
 use Rattle.device_stream.specs.Laws.{DidNothing}
 use Rattle.dlp_commands.specs.DeviceSteps.{DeviceStep}
-use Rattle.padp_end.specs.Ends.{EndValue, end_takes}
+use Rattle.padp_end.specs.Ends.{EndValue, end_begins, end_takes}
 use Rattle.padp_end.specs.Outgoings.{OutgoingFragment}
+use Rattle.padp_end.specs.declared.heard.Heard.{Heard}
 use Rattle.padp_link.specs.Neighbours.{session_id}
 use Rattle.padp_link.specs.Receivers.{whole_of}
 use Rattle.padp_link.specs.Senders.{waiting}
@@ -114,7 +115,8 @@ pub record DeskTook (stage : Stage) (end : EndValue) (now : List ℕ) (palm : Pa
       (side (end_takes end packet).end stands.desk)
 
 -- and it was the reply to the request: the handheld performed exactly this request, once, by one
--- step of its device; its reply is the message that was taken whole, and all that was said was taken
+-- step of its device; its reply is the message that was taken whole, and all that was said was
+-- taken
 pub record IsReplyOf (was : Hand) (request : List ℕ) (end : EndValue) (now : List ℕ)
     (palm : Palm) (packet : PacketValue) : Type 0 where
   pub reply : List ℕ
@@ -125,3 +127,29 @@ pub record IsReplyOf (was : Hand) (request : List ℕ) (end : EndValue) (now : L
   pub quiet : waiting (end_takes end packet).end.sender ≡ None
   pub stands : Stands (Resting palm.hand) (end_takes end packet).end now
       (with_said palm (end_takes end packet).said)
+
+-- ---- what may happen
+
+-- at each packet that the desktop's end takes at this stage and hears this of, that follows
+abbrev pub EachHearing : Stage → Heard → (EndValue → List ℕ → Palm → PacketValue → Type 0) → Type 0
+EachHearing stage heard Fact =
+    (end : EndValue) (now : List ℕ) (palm : Palm) (packet : PacketValue)
+    → DeskTook stage end now palm packet → (end_takes end packet).heard ≡ heard
+    → Fact end now palm packet
+
+-- it stands at this stage behind the packet
+abbrev pub StandsBehind : Stage → EndValue → List ℕ → Palm → PacketValue → Type 0
+StandsBehind stage end now palm packet =
+    Stands stage (end_takes end packet).end now (with_said palm (end_takes end packet).said)
+
+-- it stands at this stage behind the beginning of a message
+abbrev pub StandsBegun : Stage → EndValue → List ℕ → Palm → ℕ → List ℕ → Type 0
+StandsBegun stage end held palm id message =
+    Stands stage (end_begins end id message).1 held (with_said palm (end_begins end id message).0)
+
+-- where nothing of the desktop's end waits, a request may begin, under another transaction than the
+-- message before it
+abbrev pub MayAsk : Hand → EndValue → List ℕ → Palm → ℕ → List ℕ → Type 0
+MayAsk was end held palm id request =
+    waiting end.sender ≡ None → ¬ (end.sender.id ≡ id) → length request ≤ 65535
+    → StandsBegun (Asking was request) end held palm id request

@@ -1,12 +1,11 @@
 //! What holds of a desktop's end over a handheld and a cable. Each function here does nothing: its
 //! contract is the law.
-ghost use Rattle.std.specs.Prelude.{◌≡◌, ◌≤◌, ◌++◌, ◌∷◌, [], ℕ, List, None, length, true};
+ghost use Rattle.std.specs.Prelude.{◌≡◌, ◌≤◌, ◌++◌, ◌∷◌, [], ℕ, List, length, true};
 ghost use Rattle.device_stream.specs.Hands.{Hand};
-ghost use Rattle.padp_end.specs.Ends.{EndValue, end_begins, end_expects, end_takes, end_waits, first_end};
+ghost use Rattle.padp_end.specs.Ends.{EndValue, end_expects, end_waits, first_end};
 ghost use Rattle.padp_end.specs.declared.heard.Heard.TheVariants.{Delivered, Message};
-ghost use Rattle.padp_link.specs.Senders.{waiting};
 ghost use Rattle.port_laws.specs.Palms.{Gives, MovesOn, Palm, is_first};
-ghost use Rattle.port_laws.specs.Talking.{Asking, DeskTook, Greeting, IsReplyOf, Resting, Stage, Stands, Waking, Woken, with_said};
+ghost use Rattle.port_laws.specs.Talking.{Asking, DeskTook, EachHearing, Greeting, MayAsk, IsReplyOf, Resting, Stage, Stands, StandsBegun, StandsBehind, Waking, Woken, with_said};
 ghost use Rattle.slp_frames.specs.Histories.{Continues};
 ghost use Rattle.slp_frames.specs.PacketScan.{scan};
 ghost use Rattle.slp_frames.specs.PacketText.{PacketValue};
@@ -26,9 +25,9 @@ pub fn a_palm_stands()
 
 /// So it does where bytes come to a reader that holds no packet.
 pub fn bytes_may_come()
-    ensures { (stage : Stage) (end : EndValue) (held now bytes : List ℕ) (old new : Palm)
-        → Stands stage end held old → scan held ≡ [] → Gives bytes old new
-        → Continues (held ++ bytes) [] now → Stands stage end now new }
+    ensures { (at : Stage) (end : EndValue) (held now bytes : List ℕ) (old new : Palm)
+        → Stands at end held old → scan held ≡ [] → Gives bytes old new
+        → Continues (held ++ bytes) [] now → Stands at end now new }
 {}
 
 /// And where the piece that waits is said once more.
@@ -47,26 +46,19 @@ pub fn packets_may_come()
 
 /// A first message is the handheld's wake.
 pub fn a_first_message_is_the_wake()
-    ensures { (was : Hand) (end : EndValue) (now : List ℕ) (palm : Palm) (packet : PacketValue)
-        → DeskTook (Waking was) end now palm packet → (end_takes end packet).heard ≡ Message
-        → Stands (Woken was) (end_takes end packet).end now
-        (with_said palm (end_takes end packet).said) }
+    ensures { (was : Hand) → EachHearing (Waking was) Message (StandsBehind (Woken was)) }
 {}
 
 /// An init that was delivered was taken by the handheld, which performed no request.
 pub fn an_init_is_no_request()
-    ensures { (was : Hand) (end : EndValue) (now : List ℕ) (palm : Palm) (packet : PacketValue)
-        → DeskTook (Greeting was) end now palm packet → (end_takes end packet).heard ≡ Delivered
-        → Stands (Resting was) (end_takes end packet).end now
-        (with_said palm (end_takes end packet).said) }
+    ensures { (was : Hand) → EachHearing (Greeting was) Delivered (StandsBehind (Resting was)) }
 {}
 
 /// A message that is heard behind a request is the reply of the device to exactly this request, which it
 /// performed once.
 pub fn a_reply_is_to_its_request()
-    ensures { (was : Hand) (request : List ℕ) (end : EndValue) (now : List ℕ) (palm : Palm)
-        (packet : PacketValue) → DeskTook (Asking was request) end now palm packet
-        → (end_takes end packet).heard ≡ Message → IsReplyOf was request end now palm packet }
+    ensures { (was : Hand) (request : List ℕ)
+        → EachHearing (Asking was request) Message (IsReplyOf was request) }
 {}
 
 /// Between two requests another message may be awaited.
@@ -79,16 +71,13 @@ pub fn a_reply_may_be_awaited()
 /// There a request may begin, under another transaction than the message before it.
 pub fn a_request_may_begin()
     ensures { (was : Hand) (end : EndValue) (held : List ℕ) (palm : Palm) (id : ℕ)
-        (request : List ℕ) → Stands (Resting was) end held palm → waiting end.sender ≡ None
-        → ¬ (end.sender.id ≡ id) → length request ≤ 65535
-        → Stands (Asking was request) (end_begins end id request).1 held
-        (with_said palm (end_begins end id request).0) }
+        (request : List ℕ) → Stands (Resting was) end held palm
+        → MayAsk was end held palm id request }
 {}
 
 /// Behind the wake the init may begin.
 pub fn an_init_may_begin()
     ensures { (was : Hand) (end : EndValue) (held : List ℕ) (palm : Palm) (id : ℕ)
         (init : List ℕ) → Stands (Woken was) end held palm → length init ≤ 65535
-        → Stands (Greeting was) (end_begins end id init).1 held
-        (with_said palm (end_begins end id init).0) }
+        → StandsBegun (Greeting was) end held palm id init }
 {}

@@ -38,8 +38,8 @@ abbrev pub palm_before : Hand → Palm
 palm_before hand = record { hand = hand; toward = []; back = []; part = [] }
 
 -- a handheld that didn't break down keeps its device in its folder
-pub record IsUp {F : Type 0} (contents : F → Option FileMap) (folder : F) (hand : Hand) (sound : Bool)
-    : Type 0 where
+pub record IsUp {F : Type 0} (contents : F → Option FileMap) (folder : F) (hand : Hand)
+    (sound : Bool) : Type 0 where
   pub sound_is : sound ≡ true
   pub stands : Stands (contents folder) hand.device.databases hand.device.user
 

@@ -115,8 +115,8 @@ pub record Lingers (old new : Scene) : Type 0 where
 
 -- ---- a link
 
--- what contracts see of a link: its scene, the port's paths and its count of faults, the transaction
--- of the last message, whether a handheld woke it, and why it answers no more
+-- what contracts see of a link: its scene, the port's paths and its count of faults, the
+-- transaction of the last message, whether a handheld woke it, and why it answers no more
 pub record LinkValue : Type 0 where
   pub scene : Scene
   pub paths : Option (List (List ℕ))

@@ -14,8 +14,8 @@ use Rattle.port_link.specs.Behind.{PalmsGo}
 use Rattle.port_link.specs.Desks.{Event, Awaits, Begins, Came, Read, desk_after, reacts}
 use Rattle.port_link.specs.Logs.{EntryValue, logged, spoken}
 
--- what the port gave and took and what stands behind it, where it tells it, the bytes that the reader
--- holds, the desktop's end, and all that was said and heard
+-- what the port gave and took and what stands behind it, where it tells it, the bytes that the
+-- reader holds, the desktop's end, and all that was said and heard
 pub record Scene : Type 0 where
   pub given : Option (List (List ℕ))
   pub taken : Option (List ℕ)

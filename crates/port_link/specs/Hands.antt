@@ -15,8 +15,8 @@ pub record HasOneMore (talk : Talk) (hand : Hand) : Type 0 where
       ≡ talk.exchanges ++ record { request = request; reply = reply } ∷ []
 
 -- Each request that the handheld performed is one step of its device, with its reply. Those that
--- the desktop's talk tells as answered were performed, each once and in order, with the replies that
--- were taken; and no other, but for one at most that was left without an answer.
+-- the desktop's talk tells as answered were performed, each once and in order, with the replies
+-- that were taken; and no other, but for one at most that was left without an answer.
 pub record HandRan (device : Device) (talk : Talk) (hand : Hand) : Type 0 where
   pub run : DeviceRun device hand.performed hand.replies hand.device
   pub device_is : talk.device ≡ hand.device

@@ -2,6 +2,7 @@ pub mod Desks
 pub mod Behind
 pub mod Logs
 pub mod Courses
+pub mod CableScenes
 pub mod Listening
 pub mod Causes
 pub mod Greetings

@@ -1,5 +1,5 @@
--- A link and the handheld behind its port, where it is told: what holds of both between two calls, and
--- what the link tells of its talk.
+-- A link and the handheld behind its port, where it is told: what holds of both between two calls,
+-- and what the link tells of its talk.
 use Rattle.std.specs.Prelude.{◌≡◌, ◌-◌, ℕ, Bool, true, false, List, [], length, take, nat_eq, Option, Some, None, if◌then◌else◌}
 use Rattle.std.specs.Option.{option_map}
 use Rattle.dlp_commands.specs.DeviceRuns.{Exchange, exchanged}
@@ -48,8 +48,8 @@ exchanges_of hand = exchanged hand.performed hand.replies
 abbrev pub but_last : List Exchange → List Exchange
 but_last exchanges = take (length exchanges - 1) exchanges
 
--- those that were answered where one request was left, under this transaction: the last one that was
--- performed is that one, where it bears it
+-- those that were answered where one request was left, under this transaction: the last one that
+-- was performed is that one, where it bears it
 abbrev pub answered_but : ℕ → Hand → List Exchange
 answered_but id hand =
     if nat_eq hand.end.sender.id id then but_last (exchanges_of hand) else exchanges_of hand

@@ -6,9 +6,9 @@ ghost use Rattle.cable_laws.specs.Cables.{packets_of};
 ghost use Rattle.port_laws.specs.Palms.{HearsOf, IsTold};
 ghost use Rattle.slp_frames.specs.PacketScan.{scan};
 ghost use Rattle.slp_frames.specs.PacketValues.{lent_value};
-ghost use Rattle.port_link.specs.Courses.{Course, Happens, Tells, scene};
+ghost use Rattle.port_link.specs.CableScenes.{CableTells};
 ghost use Rattle.port_link.specs.Desks.{Awaits, Begins, Came, reacts, silence};
-ghost use Rattle.port_link.specs.Logs.{EntryValue, log_entries, speech};
+ghost use Rattle.port_link.specs.Logs.{speech};
 ghost use Rattle.port_link.specs.Logs as entry;
 
 use crate::desk::Desk;
@@ -32,9 +32,7 @@ impl<P: Port> Cable<P> {
     pub(crate) fn begin(&mut self, id: u8, message: &[u8]) -> Result<(), PortFault>
         requires { length message.now ≤ 65535 }
         ensures desk { self.new.desk ≡ (reacts self.old.desk (Begins id message.now)).desk }
-        ensures tells { Tells (result_err result)
-            (P.taken self.old.port) (P.taken self.new.port)
-            (log_entries self.old.log.entries) (log_entries self.new.log.entries)
+        ensures tells { CableTells P.Port (result_err result) self.old self.new
             (entry.said_entries (reacts self.old.desk (Begins id message.now)).said) }
         ensures palm { IsTold (HearsOf (packets_of (reacts self.old.desk
             (Begins id message.now)).said)) (P.palm self.old.port) (P.palm self.new.port) }
@@ -54,9 +52,7 @@ impl<P: Port> Cable<P> {
             ≡ (reacts self.old.desk (Came (lent_value packet.entry))).desk }
         ensures turn { IfOk result (λ turn.
             turn ≡ (reacts self.old.desk (Came (lent_value packet.entry))).turn) }
-        ensures tells { Tells (result_err result)
-            (P.taken self.old.port) (P.taken self.new.port)
-            (log_entries self.old.log.entries) (log_entries self.new.log.entries)
+        ensures tells { CableTells P.Port (result_err result) self.old self.new
             (entry.entries_at self.old.desk (Came (lent_value packet.entry))) }
         ensures palm { IsTold (HearsOf (packets_of (reacts self.old.desk
             (Came (lent_value packet.entry))).said)) (P.palm self.old.port) (P.palm self.new.port) }
@@ -80,9 +76,7 @@ impl<P: Port> Cable<P> {
     pub(crate) fn tick(&mut self) -> Result<Turn, PortFault>
         ensures desk { self.new.desk ≡ (silence self.old.desk).desk }
         ensures turn { IfOk result (λ turn. turn ≡ (silence self.old.desk).turn) }
-        ensures tells { Tells (result_err result)
-            (P.taken self.old.port) (P.taken self.new.port)
-            (log_entries self.old.log.entries) (log_entries self.new.log.entries)
+        ensures tells { CableTells P.Port (result_err result) self.old self.new
             (entry.Silent ∷ entry.said_entries (silence self.old.desk).said) }
         ensures palm { IsTold (HearsOf (packets_of (silence self.old.desk).said))
             (P.palm self.old.port) (P.palm self.new.port) }
@@ -104,9 +98,7 @@ impl<P: Port> Cable<P> {
 
     // Keeps what is said, and writes it. Where nothing is, the port isn't asked.
     fn say(&mut self, text: &[u8]) -> Result<(), PortFault>
-        ensures tells { Tells (result_err result)
-            (P.taken self.old.port) (P.taken self.new.port)
-            (log_entries self.old.log.entries) (log_entries self.new.log.entries)
+        ensures tells { CableTells P.Port (result_err result) self.old self.new
             (speech text.now) }
         ensures desk { self.new.desk ≡ self.old.desk }
         ensures palm { IsTold (HearsOf (scan text.now)) (P.palm self.old.port)

@@ -2,9 +2,9 @@
 ghost use Rattle.std.specs.Prelude.{◌≡◌, ◌<◌, [], IsErrOf, length};
 ghost use Rattle.hs_folders.specs.Causes.{HasCause};
 ghost use Rattle.slp_frames.specs.PacketScan.{scan};
-ghost use Rattle.port_link.specs.Courses.{Happens, scene};
+ghost use Rattle.port_link.specs.CableScenes.{scene_of};
+ghost use Rattle.port_link.specs.Courses.{Happens};
 ghost use Rattle.port_link.specs.Listening.{Listens};
-ghost use Rattle.port_link.specs.Logs.{log_entries};
 
 use crate::awaited::{Awaited, ends};
 use crate::cable::Cable;
@@ -23,10 +23,7 @@ pub(crate) fn listen<P: Port>(
     awaited: Awaited,
 ) -> Result<Turn, PortFault>
     ensures listens { Listens awaited
-        (scene (P.given cable.old.port) (P.taken cable.old.port) (P.palm cable.old.port) reader.old.held
-        cable.old.desk (log_entries cable.old.log.entries))
-        (scene (P.given cable.new.port) (P.taken cable.new.port) (P.palm cable.new.port) reader.new.held
-        cable.new.desk (log_entries cable.new.log.entries)) result }
+        (scene_of P.Port cable.old reader.old.held) (scene_of P.Port cable.new reader.new.held) result }
     ensures paths { P.paths cable.new.port ≡ P.paths cable.old.port }
     ensures cause { HasCause (P.faults cable.old.port) (P.faults cable.new.port)
         (IsErrOf result PortFault.Failed) }
@@ -44,10 +41,7 @@ pub(crate) fn listen<P: Port>(
 // Takes a packet that the reader holds, or reads the port once.
 fn step<P: Port>(cable: &mut Cable<P>, reader: &mut SlpReader) -> Result<Turn, PortFault>
     ensures happens { Happens result
-        (scene (P.given cable.old.port) (P.taken cable.old.port) (P.palm cable.old.port) reader.old.held
-        cable.old.desk (log_entries cable.old.log.entries))
-        (scene (P.given cable.new.port) (P.taken cable.new.port) (P.palm cable.new.port) reader.new.held
-        cable.new.desk (log_entries cable.new.log.entries)) }
+        (scene_of P.Port cable.old reader.old.held) (scene_of P.Port cable.new reader.new.held) }
     ensures paths { P.paths cable.new.port ≡ P.paths cable.old.port }
     ensures cause { HasCause (P.faults cable.old.port) (P.faults cable.new.port)
         (IsErrOf result PortFault.Failed) }
@@ -63,10 +57,7 @@ fn read<P: Port>(cable: &mut Cable<P>, reader: &mut SlpReader) -> Result<Turn, P
     requires none { scan reader.old.held ≡ [] }
     requires room { length reader.old.held < 1040 }
     ensures happens { Happens result
-        (scene (P.given cable.old.port) (P.taken cable.old.port) (P.palm cable.old.port) reader.old.held
-        cable.old.desk (log_entries cable.old.log.entries))
-        (scene (P.given cable.new.port) (P.taken cable.new.port) (P.palm cable.new.port) reader.new.held
-        cable.new.desk (log_entries cable.new.log.entries)) }
+        (scene_of P.Port cable.old reader.old.held) (scene_of P.Port cable.new reader.new.held) }
     ensures paths { P.paths cable.new.port ≡ P.paths cable.old.port }
     ensures cause { HasCause (P.faults cable.old.port) (P.faults cable.new.port)
         (IsErrOf result PortFault.Failed) }

@@ -4,10 +4,9 @@ ghost use Rattle.std.specs.Option.{unwrap_or};
 ghost use Rattle.std.specs.Result.{result_err};
 ghost use Rattle.hs_folders.specs.Causes.{HasCause};
 ghost use Rattle.padp_link.specs.Receivers.{whole_of};
+ghost use Rattle.port_link.specs.CableScenes.{scene_of};
 ghost use Rattle.port_link.specs.Calls.{Converses, GoesOnFrom, Greets, Lingers, Says, is_quiet};
-ghost use Rattle.port_link.specs.Courses.{scene};
 ghost use Rattle.port_link.specs.Desks.{Awaits, Begins};
-ghost use Rattle.port_link.specs.Logs.{log_entries};
 
 use crate::awaited::Awaited;
 use crate::cable::Cable;
@@ -26,10 +25,7 @@ const TICKS: u32 = 10;
 /// Awaits a wake and says the init until it is acknowledged. Answers the wake's rate.
 pub(crate) fn greet<P: Port>(cable: &mut Cable<P>, reader: &mut SlpReader) -> Result<u32, PortCause>
     ensures greets { Greets
-        (scene (P.given cable.old.port) (P.taken cable.old.port) (P.palm cable.old.port) reader.old.held
-        cable.old.desk (log_entries cable.old.log.entries))
-        (scene (P.given cable.new.port) (P.taken cable.new.port) (P.palm cable.new.port) reader.new.held
-        cable.new.desk (log_entries cable.new.log.entries)) result }
+        (scene_of P.Port cable.old reader.old.held) (scene_of P.Port cable.new reader.new.held) result }
     ensures paths { P.paths cable.new.port ≡ P.paths cable.old.port }
     ensures cause { HasCause (P.faults cable.old.port) (P.faults cable.new.port)
         (result_err result ≡ Some PortCause.PortFailed) }
@@ -44,10 +40,7 @@ pub(crate) fn greet<P: Port>(cable: &mut Cable<P>, reader: &mut SlpReader) -> Re
 // A first message is whole: where it is a wake the init is said until it is acknowledged.
 fn answer_wake<P: Port>(cable: &mut Cable<P>, reader: &mut SlpReader) -> Result<u32, PortCause>
     ensures goes_on { GoesOnFrom None
-        (scene (P.given cable.old.port) (P.taken cable.old.port) (P.palm cable.old.port) reader.old.held
-        cable.old.desk (log_entries cable.old.log.entries))
-        (scene (P.given cable.new.port) (P.taken cable.new.port) (P.palm cable.new.port) reader.new.held
-        cable.new.desk (log_entries cable.new.log.entries)) result }
+        (scene_of P.Port cable.old reader.old.held) (scene_of P.Port cable.new reader.new.held) result }
     ensures paths { P.paths cable.new.port ≡ P.paths cable.old.port }
     ensures cause { HasCause (P.faults cable.old.port) (P.faults cable.new.port)
         (result_err result ≡ Some PortCause.PortFailed) }
@@ -73,10 +66,8 @@ pub(crate) fn converse<P: Port>(
 ) -> Result<(), PortCause>
     ensures short { length request.now ≤ 65535 }
     ensures converses { Converses id request.now reply.new
-        (scene (P.given cable.old.port) (P.taken cable.old.port) (P.palm cable.old.port) reader.old.held
-        cable.old.desk (log_entries cable.old.log.entries))
-        (scene (P.given cable.new.port) (P.taken cable.new.port) (P.palm cable.new.port) reader.new.held
-        cable.new.desk (log_entries cable.new.log.entries)) (result_err result) }
+        (scene_of P.Port cable.old reader.old.held) (scene_of P.Port cable.new reader.new.held)
+        (result_err result) }
     ensures paths { P.paths cable.new.port ≡ P.paths cable.old.port }
     ensures cause { HasCause (P.faults cable.old.port) (P.faults cable.new.port)
         (result_err result ≡ Some PortCause.PortFailed) }
@@ -96,10 +87,7 @@ pub(crate) fn converse<P: Port>(
 /// all.
 pub(crate) fn linger<P: Port>(cable: &mut Cable<P>, reader: &mut SlpReader)
     ensures lingers { Lingers
-        (scene (P.given cable.old.port) (P.taken cable.old.port) (P.palm cable.old.port) reader.old.held
-        cable.old.desk (log_entries cable.old.log.entries))
-        (scene (P.given cable.new.port) (P.taken cable.new.port) (P.palm cable.new.port) reader.new.held
-        cable.new.desk (log_entries cable.new.log.entries)) }
+        (scene_of P.Port cable.old reader.old.held) (scene_of P.Port cable.new reader.new.held) }
     ensures paths { P.paths cable.new.port ≡ P.paths cable.old.port }
     ensures later { P.faults cable.old.port ≤ P.faults cable.new.port }
 {
@@ -128,10 +116,7 @@ fn say<P: Port>(
 ) -> Result<Turn, PortFault>
     requires { length message.now ≤ 65535 }
     ensures says { Says awaited (Begins id message.now ∷ [])
-        (scene (P.given cable.old.port) (P.taken cable.old.port) (P.palm cable.old.port) reader.old.held
-        cable.old.desk (log_entries cable.old.log.entries))
-        (scene (P.given cable.new.port) (P.taken cable.new.port) (P.palm cable.new.port) reader.new.held
-        cable.new.desk (log_entries cable.new.log.entries)) result }
+        (scene_of P.Port cable.old reader.old.held) (scene_of P.Port cable.new reader.new.held) result }
     ensures paths { P.paths cable.new.port ≡ P.paths cable.old.port }
     ensures cause { HasCause (P.faults cable.old.port) (P.faults cable.new.port)
         (IsErrOf result PortFault.Failed) }

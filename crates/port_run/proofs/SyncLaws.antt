@@ -146,7 +146,7 @@ pub record AreOpened (cable : Cable) (slots : List SlotValue) (before : SyncTold
   pub trace_later : before.trace.faults ≤ trace.faults
 
 module _ {cable : Cable} {slots : List SlotValue} (before after : SyncTold) {port : PortTold} {desk : FolderTold} {trace : SinkTold} {status : Status}
-    {report : CableReport} (opened : AreOpened cable slots before port desk trace) (talk : TracesTalk cable slots port desk trace after status report) where
+    {report : CableReport} (opened : AreOpened cable slots before port desk trace) (talk : TracesTalk cable slots (record { port = port; desk = desk; trace = trace }) after status report) where
   silent_sync : KeptSilent port after.port desk after.desk talk.said report → SentNothing cable before after status report
   silent_sync kept =
       let memory = traced_memory talk.said status talk.traces.stands.status_is kept.memory in

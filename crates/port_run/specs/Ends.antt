@@ -110,8 +110,8 @@ pub record LeftFor (cable : Cable) (device : Device) (slots : List SlotValue)
   pub palm_is : after ≡ Some palm
   pub left : SessionLeft (meeting_of device slots wishes) talk palm.hand desk desk_after report
 
--- The meeting of what both sides hold, by what the words ask: this handheld, and the desktop's slots
--- once a journal that was left in a folder of these files is finished, with the slot of the
+-- The meeting of what both sides hold, by what the words ask: this handheld, and the desktop's
+-- slots once a journal that was left in a folder of these files is finished, with the slot of the
 -- handheld's user picked.
 pub record Meets (cable : Cable) (device : Device) (kept : Option FileMap) (meeting : Meeting)
     : Type 0 where

@@ -10,8 +10,8 @@ use Rattle.hotsync_looks.specs.declared.status.Status.TheVariants.{PortFailed, N
 abbrev pub IsPortRefusal : Status → Type 0
 IsPortRefusal refusal = (refusal ≡ PortFailed) ⊎ (refusal ≡ NoMemory)
 
--- the port is opened first, then the desktop's folder is judged, whose files are these, and last the
--- trace is opened
+-- the port is opened first, then the desktop's folder is judged, whose files are these, and last
+-- the trace is opened
 abbrev pub IsRefused : Cable → Option FileMap → Status → Type 0
 IsRefused cable kept refusal =
     IsPortRefusal refusal

@@ -20,7 +20,6 @@ use Rattle.hotsync_run.specs.Causes.{ByEnd, HasBegun, IsTracedStatus}
 use Rattle.hotsync_run.specs.Refusals.{HasDesktop, LeavesDesktopUnread}
 use Rattle.hotsync_run.specs.Runs.{StandsAsItDid}
 use Rattle.hotsync_run.specs.SessionCalls.{StaysAsItWas}
-use Rattle.hotsync_run.specs.Told.{FolderTold}
 use Rattle.hotsync_run.specs.Traces.{TakesTrace, TracesFrames}
 use Rattle.hotsync_run.specs.declared.report.SessionEnd.{SessionEnd}
 use Rattle.port_run.specs.Ends.{BothLeft}
@@ -54,8 +53,8 @@ pub record TellsSession (report : CableReport) (status : Status) : Type 0 where
   pub traced : IsTracedStatus said status
 
 -- What was said over the port that was opened, what became of the desktop's folder, what the status
--- says of both, and what the trace took; and where the opened port tells a handheld on which nothing
--- is open, what is left of both sides.
+-- says of both, and what the trace took; and where the opened port tells a handheld on which
+-- nothing is open, what is left of both sides.
 pub record SessionRan (cable : Cable) (before after : SyncTold) (status : Status)
     (report : CableReport) : Type 0 where
   pub desktop : HasDesktop before.desk.contents
@@ -70,15 +69,14 @@ pub record SessionRan (cable : Cable) (before after : SyncTold) (status : Status
   pub both : IfSome opened.palm (λ (palm : Palm). IsAtRest palm.hand.device
       → BothLeft cable palm.hand.device after.port.palm before.desk after.desk link.last report)
 
--- a session over an opened port with a desktop of these slots, whose trace was to be written then
-pub record TracesTalk (cable : Cable) (slots : List SlotValue) (port : PortTold)
-    (desk : FolderTold) (trace : SinkTold) (after : SyncTold) (status : Status)
-    (report : CableReport) : Type 0 where
+-- a session over opened objects, with a desktop of these slots, whose trace was to be written then
+pub record TracesTalk (cable : Cable) (slots : List SlotValue) (opened after : SyncTold)
+    (status : Status) (report : CableReport) : Type 0 where
   pub said : Status
-  pub talked : HasTalked cable slots port after.port desk after.desk said report
-  pub traces : TracesFrames cable.trace (cable_text (log_entries report.log)) trace after.trace said
-      status
-  pub silent : report.log.items ≡ [] → after.trace.taken ≡ trace.taken
+  pub talked : HasTalked cable slots opened.port after.port opened.desk after.desk said report
+  pub traces : TracesFrames cable.trace (cable_text (log_entries report.log)) opened.trace
+      after.trace said status
+  pub silent : report.log.items ≡ [] → after.trace.taken ≡ opened.trace.taken
 
 -- ---- every call
 
@@ -116,8 +114,8 @@ pub record IsSync (cable : Cable) (before after : SyncTold) (out out_after : Sin
   pub status_is : IsPrintedStatus found status
   pub printed : IsPrinted (λ text. text ≡ done_lines report.databases.items) out out_after status
 
--- words out of the form give the usage line, with the word at fault behind it where it is named, and
--- nothing is done
+-- words out of the form give the usage line, with the word at fault behind it where it is named,
+-- and nothing is done
 pub record IsNothing (before after : SyncTold) (out out_after : SinkTold) (status : Status)
     (report : CableReport) : Type 0 where
   pub ended : IsMisuse status ⊎ (status ≡ NoMemory)

@@ -33,7 +33,8 @@ pub record StaysUnsaid (before after : PortTold) : Type 0 where
 -- The desktop's folder, whose files are these once a journal that was left is finished, was changed
 -- once at most, whatever came over the port: an ended session has put some files over the others,
 -- all of one slot or the information file. One that stopped left it standing for what it stood for
--- at first, or for that. At each moment it stood for the one, and from some moment on for the other.
+-- at first, or for that. At each moment it stood for the one, and from some moment on for the
+-- other.
 pub record DesktopRan (opened : Option FileMap) (before after : FolderTold) (end : SessionEnd)
     : Type 0 where
   pub entries : List EntryValue

@@ -57,7 +57,7 @@ fn serve_untold<H: Folder + Drop, P: Port + Drop, T: Sink, O: Sink>(
     out: &mut O,
 ) -> u8
     requires { AreDockUntold (dock_told H.Folder P.Port T.Sink device port trace.old)
-        (sink_told O.taken O.paths O.faults out.old) }
+        (sink_told O.Sink out.old) }
     ensures { IsSystemDock (docking_of (map string_bytes words.now)) result }
 {
     let Docked { status, .. } = serve_port(alloc, words, device, port, trace, out);

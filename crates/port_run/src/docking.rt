@@ -6,7 +6,7 @@ ghost use Rattle.hotsync_looks.specs.Served.{served_lines};
 ghost use Rattle.hotsync_looks.specs.Told.{sink_told};
 ghost use Rattle.port_run.specs.DockTalks.{HasDockTalk};
 ghost use Rattle.port_run.specs.Docks.{HasDocked, IsDockCall, dock_status};
-ghost use Rattle.port_run.specs.Told.{dock_told};
+ghost use Rattle.port_run.specs.Told.{OfDock, OfDockCall};
 ghost use Rattle.run_words.specs.Docks.{docking_of};
 ghost use Rattle.run_words.specs.Views.{dock_view};
 
@@ -38,11 +38,9 @@ pub fn serve_port<H: Folder, P: Port, T: Sink, O: Sink>(
     trace: &mut T,
     out: &mut O,
 ) -> Docked<H, P>
-    ensures call { IsDockCall (docking_of (map string_bytes words.now))
-        (dock_told H.Folder P.Port T.Sink device port trace.old)
-        (dock_told H.Folder P.Port T.Sink result.device result.port trace.new)
-        (sink_told O.taken O.paths O.faults out.old) (sink_told O.taken O.paths O.faults out.new)
-        result.status result.report }
+    ensures call { OfDockCall (IsDockCall (docking_of (map string_bytes words.now)))
+        H.Folder P.Port T.Sink O.Sink device port trace.old out.old
+        result trace.new out.new }
 
     // Words out of the form touch nothing, and the trace is touched only where one is named.
     ensures untraced { IfSome (docking_of (map string_bytes words.now)) (λ dock.
@@ -80,8 +78,7 @@ fn print_dock<O: Sink>(
     requires { status ≢ Status.OutWrite }
     ensures status { IsPrintedStatus status result }
     ensures printed { IsPrinted (λ text. text ≡ served_lines (length performed.now))
-        (sink_told O.taken O.paths O.faults out.old)
-        (sink_told O.taken O.paths O.faults out.new) result }
+        (sink_told O.Sink out.old) (sink_told O.Sink out.new) result }
 {
     match status {
         Status::Done => print_served(alloc, performed.len(), out),
@@ -97,10 +94,8 @@ fn judged_dock<H: Folder, P: Port, T: Sink>(
     port: P,
     trace: &mut T,
 ) -> Docked<H, P>
-    ensures ran { HasDocked (dock_view dock.now)
-        (dock_told H.Folder P.Port T.Sink device port trace.old)
-        (dock_told H.Folder P.Port T.Sink result.device result.port trace.new)
-        result.status result.report }
+    ensures ran { OfDock (HasDocked (dock_view dock.now))
+        H.Folder P.Port T.Sink device port trace.old result trace.new }
     ensures unprinted { result.status ≢ Status.OutWrite }
     ensures untraced { dock.now.trace ≡ None → trace.new ≡ trace.old }
 {
@@ -130,11 +125,9 @@ fn traced_dock<H: Folder, P: Port, T: Sink>(
 ) -> Docked<H, P>
     requires sound { store.sound ≡ true }
     requires stands { Stands (H.contents store.folder) store.databases store.user }
-    ensures talked { HasDockTalk (dock_view dock.now)
-        (opened_device store.databases store.user)
-        (dock_told H.Folder P.Port T.Sink store.folder port trace.old)
-        (dock_told H.Folder P.Port T.Sink result.device result.port trace.new)
-        result.status result.report }
+    ensures talked { OfDock (HasDockTalk (dock_view dock.now)
+        (opened_device store.databases store.user))
+        H.Folder P.Port T.Sink store.folder port trace.old result trace.new }
     ensures unprinted { result.status ≢ Status.OutWrite }
     ensures untraced { dock.now.trace ≡ None → trace.new ≡ trace.old }
 {

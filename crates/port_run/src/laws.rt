@@ -1,20 +1,17 @@
 //! What holds of every session over a cable. Each function here does nothing: its contract is the law.
-ghost use Rattle.std.specs.Prelude.{◌≡◌, IfSome};
+ghost use Rattle.std.specs.Prelude.{◌≡◌};
 ghost use Rattle.hotsync_looks.specs.declared.status.Status.{Status};
 ghost use Rattle.hotsync_run.specs.declared.report.SessionEnd.TheVariants.{Ended};
-ghost use Rattle.port_laws.specs.Palms.{Palm};
-ghost use Rattle.port_run.specs.Equal.{EndsEqual};
+ghost use Rattle.port_run.specs.Equal.{LeavesEqual};
 ghost use Rattle.port_run.specs.Syncs.{SessionRan};
 ghost use Rattle.port_run.specs.Told.{SyncTold};
 ghost use Rattle.port_run.specs.declared.synced.CableReport.{CableReport};
 ghost use Rattle.run_words.specs.Cables.{Cable};
-ghost use Rattle.session_parts.specs.Rests.{IsAtRest};
 
 /// An ended session over a cable leaves both sides equal, where the opened port told a handheld on which
 /// nothing was open.
 pub fn an_ended_session_over_a_cable_leaves_both_sides_equal()
     ensures { (cable : Cable) (before after : SyncTold) (status : Status) (report : CableReport)
         → (ran : SessionRan cable before after status report) → report.end ≡ Ended
-        → IfSome ran.opened.palm (λ (palm : Palm). IsAtRest palm.hand.device
-        → EndsEqual cable palm.hand.device after.port.palm before.desk after.desk) }
+        → LeavesEqual ran }
 {}

@@ -65,7 +65,7 @@ fn sync_untold<P: Port + Drop, D: Folder + Drop, T: Sink, O: Sink>(
     out: &mut O,
 ) -> u8
     requires { AreUntold (sync_told P.Port D.Folder T.Sink port desk trace.old)
-        (sink_told O.taken O.paths O.faults out.old) }
+        (sink_told O.Sink out.old) }
     ensures { IsSystemSync (sync_of now (map string_bytes words.now)) result }
 {
     let Synced { status, .. } = sync(alloc, now, words, port, desk, trace, out);

@@ -3,10 +3,9 @@ ghost use Rattle.std.specs.Prelude.{◌≡◌, ◌≢◌, IfSome, None, map, str
 ghost use Rattle.desk_store.specs.Bounds.{AreBounded};
 ghost use Rattle.desk_store.specs.Shelves.{AreInOrder};
 ghost use Rattle.hotsync_looks.specs.Misuses.{TellsFault};
-ghost use Rattle.hotsync_looks.specs.Told.{sink_told};
 ghost use Rattle.port_laws.specs.Palms.{IsFirstTold};
 ghost use Rattle.port_run.specs.Syncs.{HasSynced, IsSyncCall, TracesTalk};
-ghost use Rattle.port_run.specs.Told.{desk_told, port_told, sync_told};
+ghost use Rattle.port_run.specs.Told.{OfSync, OfSyncCall};
 ghost use Rattle.run_words.specs.Cables.{sync_of};
 ghost use Rattle.run_words.specs.Faults.{fault_of as fault_in_words};
 ghost use Rattle.run_words.specs.Views.{cable_view};
@@ -36,11 +35,9 @@ pub fn sync<P: Port, D: Folder, T: Sink, O: Sink>(
     trace: &mut T,
     out: &mut O,
 ) -> Synced<P, D>
-    ensures call { IsSyncCall (sync_of now (map string_bytes words.now))
-        (sync_told P.Port D.Folder T.Sink port desk trace.old)
-        (sync_told P.Port D.Folder T.Sink result.port result.desk trace.new)
-        (sink_told O.taken O.paths O.faults out.old) (sink_told O.taken O.paths O.faults out.new)
-        result.status result.report }
+    ensures call { OfSyncCall (IsSyncCall (sync_of now (map string_bytes words.now)))
+        P.Port D.Folder T.Sink O.Sink port desk trace.old out.old
+        result trace.new out.new }
 
     // Words out of the form touch nothing, and the trace is touched only where one is named.
     ensures untraced { IfSome (sync_of now (map string_bytes words.now)) (λ cable.
@@ -80,10 +77,8 @@ fn judged<P: Port, D: Folder, T: Sink>(
     desk: D,
     trace: &mut T,
 ) -> Synced<P, D>
-    ensures ran { HasSynced (cable_view words.now)
-        (sync_told P.Port D.Folder T.Sink port desk trace.old)
-        (sync_told P.Port D.Folder T.Sink result.port result.desk trace.new)
-        result.status result.report }
+    ensures ran { OfSync (HasSynced (cable_view words.now))
+        P.Port D.Folder T.Sink port desk trace.old result trace.new }
     ensures unprinted { result.status ≢ Status.OutWrite }
     ensures untraced { words.now.trace ≡ None → trace.new ≡ trace.old }
 {
@@ -112,10 +107,8 @@ fn traced_talk<P: Port, D: Folder, T: Sink>(
     requires first { IsFirstTold (P.palm port) }
     requires ordered { AreInOrder desk.slots }
     requires bounded { AreBounded desk.slots }
-    ensures talked { TracesTalk (cable_view words.now) desk.slots (port_told P.Port port)
-        (desk_told D.Folder desk.folder) (sink_told T.taken T.paths T.faults trace.old)
-        (sync_told P.Port D.Folder T.Sink result.port result.desk trace.new)
-        result.status result.report }
+    ensures talked { OfSync (TracesTalk (cable_view words.now) desk.slots)
+        P.Port D.Folder T.Sink port desk.folder trace.old result trace.new }
     ensures unprinted { result.status ≢ Status.OutWrite }
     ensures untraced { words.now.trace ≡ None → trace.new ≡ trace.old }
 {

@@ -25,9 +25,9 @@ pub fn trace_log<T: Sink>(
     trace: &mut T,
 ) -> Status
     requires { IsUnsaid status }
-    ensures traces { TracesFrames (option_copied path.entry) (log_text own.now other.now (map entry_value log.now))
-        (sink_told T.taken T.paths T.faults trace.old)
-        (sink_told T.taken T.paths T.faults trace.new) status result }
+    ensures traces { TracesFrames (option_copied path.entry)
+        (log_text own.now other.now (map entry_value log.now))
+        (sink_told T.Sink trace.old) (sink_told T.Sink trace.new) status result }
     ensures untouched { path.entry ≡ None → trace.new ≡ trace.old }
     ensures silent { log.now ≡ [] → trace.new ≡ trace.old }
 {

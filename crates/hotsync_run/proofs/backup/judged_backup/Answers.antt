@@ -13,14 +13,14 @@ returns-in-Err-open_files-clause-ran g c =
     let before : CallTold = record {
       palm = folder_told g.H.Folder.contents g.H.Folder.moments g.H.Folder.paths g.H.Folder.faults c.args.device;
       desk = folder_told g.D.Folder.contents g.D.Folder.moments g.D.Folder.paths g.D.Folder.faults c.args.desk;
-      source = source_told g.S.Source.left g.S.Source.paths g.S.Source.faults c.args.source.now;
-      trace = sink_told g.T.Sink.taken g.T.Sink.paths g.T.Sink.faults c.args.trace.now;
+      source = source_told g.S.Source c.args.source.now;
+      trace = sink_told g.T.Sink c.args.trace.now;
     } in
     let after : CallTold = record {
       palm = folder_told g.H.Folder.contents g.H.Folder.moments g.H.Folder.paths g.H.Folder.faults c.in-Ok-open_handheld.store.folder;
       desk = folder_told g.D.Folder.contents g.D.Folder.moments g.D.Folder.paths g.D.Folder.faults c.in-Err-open_files.desk;
-      source = source_told g.S.Source.left g.S.Source.paths g.S.Source.faults c.script_of.new.source;
-      trace = sink_told g.T.Sink.taken g.T.Sink.paths g.T.Sink.faults c.args.trace.now;
+      source = source_told g.S.Source c.script_of.new.source;
+      trace = sink_told g.T.Sink c.args.trace.now;
     } in
     let end = c.not_started-in-Err-open_files.ensures in
     rw (end.status, end.device, end.desk, c.into_folder.ensures)
@@ -38,14 +38,14 @@ returns-in-Ok-open_trace-clause-ran g c =
     let before : CallTold = record {
       palm = folder_told g.H.Folder.contents g.H.Folder.moments g.H.Folder.paths g.H.Folder.faults c.args.device;
       desk = folder_told g.D.Folder.contents g.D.Folder.moments g.D.Folder.paths g.D.Folder.faults c.args.desk;
-      source = source_told g.S.Source.left g.S.Source.paths g.S.Source.faults c.args.source.now;
-      trace = sink_told g.T.Sink.taken g.T.Sink.paths g.T.Sink.faults c.args.trace.now;
+      source = source_told g.S.Source c.args.source.now;
+      trace = sink_told g.T.Sink c.args.trace.now;
     } in
     let after : CallTold = record {
       palm = folder_told g.H.Folder.contents g.H.Folder.moments g.H.Folder.paths g.H.Folder.faults c.traced_backup.result.device;
       desk = folder_told g.D.Folder.contents g.D.Folder.moments g.D.Folder.paths g.D.Folder.faults c.traced_backup.result.desk;
-      source = source_told g.S.Source.left g.S.Source.paths g.S.Source.faults c.script_of.new.source;
-      trace = sink_told g.T.Sink.taken g.T.Sink.paths g.T.Sink.faults c.traced_backup.new.trace;
+      source = source_told g.S.Source c.script_of.new.source;
+      trace = sink_told g.T.Sink c.traced_backup.new.trace;
     } in
     by_backup before after (record {
       scripted = c.in-Ok.ensures.script;
@@ -72,14 +72,14 @@ returns-in-Err-open_trace-clause-ran g c =
     let before : CallTold = record {
       palm = folder_told g.H.Folder.contents g.H.Folder.moments g.H.Folder.paths g.H.Folder.faults c.args.device;
       desk = folder_told g.D.Folder.contents g.D.Folder.moments g.D.Folder.paths g.D.Folder.faults c.args.desk;
-      source = source_told g.S.Source.left g.S.Source.paths g.S.Source.faults c.args.source.now;
-      trace = sink_told g.T.Sink.taken g.T.Sink.paths g.T.Sink.faults c.args.trace.now;
+      source = source_told g.S.Source c.args.source.now;
+      trace = sink_told g.T.Sink c.args.trace.now;
     } in
     let after : CallTold = record {
       palm = folder_told g.H.Folder.contents g.H.Folder.moments g.H.Folder.paths g.H.Folder.faults c.in-Ok-open_handheld.store.folder;
       desk = folder_told g.D.Folder.contents g.D.Folder.moments g.D.Folder.paths g.D.Folder.faults c.in-Ok-open_files.files;
-      source = source_told g.S.Source.left g.S.Source.paths g.S.Source.faults c.script_of.new.source;
-      trace = sink_told g.T.Sink.taken g.T.Sink.paths g.T.Sink.faults c.open_trace.new.trace;
+      source = source_told g.S.Source c.script_of.new.source;
+      trace = sink_told g.T.Sink c.open_trace.new.trace;
     } in
     let end = c.not_started-in-Err-open_trace.ensures in
     rw (end.status, end.device, end.desk, c.into_folder-in-Err-open_trace.ensures)
@@ -96,14 +96,14 @@ returns-in-Err-clause-ran g c =
     let before : CallTold = record {
       palm = folder_told g.H.Folder.contents g.H.Folder.moments g.H.Folder.paths g.H.Folder.faults c.args.device;
       desk = folder_told g.D.Folder.contents g.D.Folder.moments g.D.Folder.paths g.D.Folder.faults c.args.desk;
-      source = source_told g.S.Source.left g.S.Source.paths g.S.Source.faults c.args.source.now;
-      trace = sink_told g.T.Sink.taken g.T.Sink.paths g.T.Sink.faults c.args.trace.now;
+      source = source_told g.S.Source c.args.source.now;
+      trace = sink_told g.T.Sink c.args.trace.now;
     } in
     let after : CallTold = record {
       palm = folder_told g.H.Folder.contents g.H.Folder.moments g.H.Folder.paths g.H.Folder.faults c.args.device;
       desk = folder_told g.D.Folder.contents g.D.Folder.moments g.D.Folder.paths g.D.Folder.faults c.args.desk;
-      source = source_told g.S.Source.left g.S.Source.paths g.S.Source.faults c.script_of.new.source;
-      trace = sink_told g.T.Sink.taken g.T.Sink.paths g.T.Sink.faults c.args.trace.now;
+      source = source_told g.S.Source c.script_of.new.source;
+      trace = sink_told g.T.Sink c.args.trace.now;
     } in
     let end = c.not_started.ensures in
     rw (end.status, end.device, end.desk)
@@ -115,14 +115,14 @@ returns-in-Err-open_handheld-clause-ran g c =
     let before : CallTold = record {
       palm = folder_told g.H.Folder.contents g.H.Folder.moments g.H.Folder.paths g.H.Folder.faults c.args.device;
       desk = folder_told g.D.Folder.contents g.D.Folder.moments g.D.Folder.paths g.D.Folder.faults c.args.desk;
-      source = source_told g.S.Source.left g.S.Source.paths g.S.Source.faults c.args.source.now;
-      trace = sink_told g.T.Sink.taken g.T.Sink.paths g.T.Sink.faults c.args.trace.now;
+      source = source_told g.S.Source c.args.source.now;
+      trace = sink_told g.T.Sink c.args.trace.now;
     } in
     let after : CallTold = record {
       palm = folder_told g.H.Folder.contents g.H.Folder.moments g.H.Folder.paths g.H.Folder.faults c.in-Err-open_handheld.device;
       desk = folder_told g.D.Folder.contents g.D.Folder.moments g.D.Folder.paths g.D.Folder.faults c.args.desk;
-      source = source_told g.S.Source.left g.S.Source.paths g.S.Source.faults c.script_of.new.source;
-      trace = sink_told g.T.Sink.taken g.T.Sink.paths g.T.Sink.faults c.args.trace.now;
+      source = source_told g.S.Source c.script_of.new.source;
+      trace = sink_told g.T.Sink c.args.trace.now;
     } in
     let end = c.not_started-in-Err-open_handheld.ensures in
     rw (end.status, end.device, end.desk)

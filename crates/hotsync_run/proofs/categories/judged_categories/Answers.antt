@@ -13,14 +13,14 @@ returns-in-Err-open_desktop-clause-ran g c =
     let before : CallTold = record {
       palm = folder_told g.H.Folder.contents g.H.Folder.moments g.H.Folder.paths g.H.Folder.faults c.args.device;
       desk = folder_told g.D.Folder.contents g.D.Folder.moments g.D.Folder.paths g.D.Folder.faults c.args.desk;
-      source = source_told g.S.Source.left g.S.Source.paths g.S.Source.faults c.args.source.now;
-      trace = sink_told g.T.Sink.taken g.T.Sink.paths g.T.Sink.faults c.args.trace.now;
+      source = source_told g.S.Source c.args.source.now;
+      trace = sink_told g.T.Sink c.args.trace.now;
     } in
     let after : CallTold = record {
       palm = folder_told g.H.Folder.contents g.H.Folder.moments g.H.Folder.paths g.H.Folder.faults c.in-Ok-open_handheld.store.folder;
       desk = folder_told g.D.Folder.contents g.D.Folder.moments g.D.Folder.paths g.D.Folder.faults c.in-Err-open_desktop.desk;
-      source = source_told g.S.Source.left g.S.Source.paths g.S.Source.faults c.script_of.new.source;
-      trace = sink_told g.T.Sink.taken g.T.Sink.paths g.T.Sink.faults c.args.trace.now;
+      source = source_told g.S.Source c.script_of.new.source;
+      trace = sink_told g.T.Sink c.args.trace.now;
     } in
     let end = c.not_started-in-Err-open_desktop.ensures in
     rw (end.status, end.device, end.desk, c.into_folder.ensures)
@@ -38,14 +38,14 @@ returns-in-Ok-open_trace-clause-ran g c =
     let before : CallTold = record {
       palm = folder_told g.H.Folder.contents g.H.Folder.moments g.H.Folder.paths g.H.Folder.faults c.args.device;
       desk = folder_told g.D.Folder.contents g.D.Folder.moments g.D.Folder.paths g.D.Folder.faults c.args.desk;
-      source = source_told g.S.Source.left g.S.Source.paths g.S.Source.faults c.args.source.now;
-      trace = sink_told g.T.Sink.taken g.T.Sink.paths g.T.Sink.faults c.args.trace.now;
+      source = source_told g.S.Source c.args.source.now;
+      trace = sink_told g.T.Sink c.args.trace.now;
     } in
     let after : CallTold = record {
       palm = folder_told g.H.Folder.contents g.H.Folder.moments g.H.Folder.paths g.H.Folder.faults c.traced_categories.result.device;
       desk = folder_told g.D.Folder.contents g.D.Folder.moments g.D.Folder.paths g.D.Folder.faults c.traced_categories.result.desk;
-      source = source_told g.S.Source.left g.S.Source.paths g.S.Source.faults c.script_of.new.source;
-      trace = sink_told g.T.Sink.taken g.T.Sink.paths g.T.Sink.faults c.traced_categories.new.trace;
+      source = source_told g.S.Source c.script_of.new.source;
+      trace = sink_told g.T.Sink c.traced_categories.new.trace;
     } in
     by_filing {words = words} before after (record {
       scripted = c.in-Ok.ensures.script;
@@ -73,14 +73,14 @@ returns-in-Err-open_trace-clause-ran g c =
     let before : CallTold = record {
       palm = folder_told g.H.Folder.contents g.H.Folder.moments g.H.Folder.paths g.H.Folder.faults c.args.device;
       desk = folder_told g.D.Folder.contents g.D.Folder.moments g.D.Folder.paths g.D.Folder.faults c.args.desk;
-      source = source_told g.S.Source.left g.S.Source.paths g.S.Source.faults c.args.source.now;
-      trace = sink_told g.T.Sink.taken g.T.Sink.paths g.T.Sink.faults c.args.trace.now;
+      source = source_told g.S.Source c.args.source.now;
+      trace = sink_told g.T.Sink c.args.trace.now;
     } in
     let after : CallTold = record {
       palm = folder_told g.H.Folder.contents g.H.Folder.moments g.H.Folder.paths g.H.Folder.faults c.in-Ok-open_handheld.store.folder;
       desk = folder_told g.D.Folder.contents g.D.Folder.moments g.D.Folder.paths g.D.Folder.faults c.in-Ok-open_desktop.desk.folder;
-      source = source_told g.S.Source.left g.S.Source.paths g.S.Source.faults c.script_of.new.source;
-      trace = sink_told g.T.Sink.taken g.T.Sink.paths g.T.Sink.faults c.open_trace.new.trace;
+      source = source_told g.S.Source c.script_of.new.source;
+      trace = sink_told g.T.Sink c.open_trace.new.trace;
     } in
     let end = c.not_started-in-Err-open_trace.ensures in
     rw (end.status, end.device, end.desk, c.into_folder-in-Err-open_trace.ensures, c.into_folder-in-Err-open_trace-2.ensures)
@@ -97,14 +97,14 @@ returns-in-Err-clause-ran g c =
     let before : CallTold = record {
       palm = folder_told g.H.Folder.contents g.H.Folder.moments g.H.Folder.paths g.H.Folder.faults c.args.device;
       desk = folder_told g.D.Folder.contents g.D.Folder.moments g.D.Folder.paths g.D.Folder.faults c.args.desk;
-      source = source_told g.S.Source.left g.S.Source.paths g.S.Source.faults c.args.source.now;
-      trace = sink_told g.T.Sink.taken g.T.Sink.paths g.T.Sink.faults c.args.trace.now;
+      source = source_told g.S.Source c.args.source.now;
+      trace = sink_told g.T.Sink c.args.trace.now;
     } in
     let after : CallTold = record {
       palm = folder_told g.H.Folder.contents g.H.Folder.moments g.H.Folder.paths g.H.Folder.faults c.args.device;
       desk = folder_told g.D.Folder.contents g.D.Folder.moments g.D.Folder.paths g.D.Folder.faults c.args.desk;
-      source = source_told g.S.Source.left g.S.Source.paths g.S.Source.faults c.script_of.new.source;
-      trace = sink_told g.T.Sink.taken g.T.Sink.paths g.T.Sink.faults c.args.trace.now;
+      source = source_told g.S.Source c.script_of.new.source;
+      trace = sink_told g.T.Sink c.args.trace.now;
     } in
     let end = c.not_started.ensures in
     rw (end.status, end.device, end.desk)
@@ -116,14 +116,14 @@ returns-in-Err-open_handheld-clause-ran g c =
     let before : CallTold = record {
       palm = folder_told g.H.Folder.contents g.H.Folder.moments g.H.Folder.paths g.H.Folder.faults c.args.device;
       desk = folder_told g.D.Folder.contents g.D.Folder.moments g.D.Folder.paths g.D.Folder.faults c.args.desk;
-      source = source_told g.S.Source.left g.S.Source.paths g.S.Source.faults c.args.source.now;
-      trace = sink_told g.T.Sink.taken g.T.Sink.paths g.T.Sink.faults c.args.trace.now;
+      source = source_told g.S.Source c.args.source.now;
+      trace = sink_told g.T.Sink c.args.trace.now;
     } in
     let after : CallTold = record {
       palm = folder_told g.H.Folder.contents g.H.Folder.moments g.H.Folder.paths g.H.Folder.faults c.in-Err-open_handheld.device;
       desk = folder_told g.D.Folder.contents g.D.Folder.moments g.D.Folder.paths g.D.Folder.faults c.args.desk;
-      source = source_told g.S.Source.left g.S.Source.paths g.S.Source.faults c.script_of.new.source;
-      trace = sink_told g.T.Sink.taken g.T.Sink.paths g.T.Sink.faults c.args.trace.now;
+      source = source_told g.S.Source c.script_of.new.source;
+      trace = sink_told g.T.Sink c.args.trace.now;
     } in
     let end = c.not_started-in-Err-open_handheld.ensures in
     rw (end.status, end.device, end.desk)

@@ -25,11 +25,11 @@ returns-in-Err-NoMemory-clause-run g c =
     let before : CallTold = record {
       palm = folder_told g.H.Folder.contents g.H.Folder.moments g.H.Folder.paths g.H.Folder.faults c.args.device;
       desk = folder_told g.D.Folder.contents g.D.Folder.moments g.D.Folder.paths g.D.Folder.faults c.args.desk;
-      source = source_told g.S.Source.left g.S.Source.paths g.S.Source.faults c.args.source.now;
-      trace = sink_told g.T.Sink.taken g.T.Sink.paths g.T.Sink.faults c.args.trace.now;
+      source = source_told g.S.Source c.args.source.now;
+      trace = sink_told g.T.Sink c.args.trace.now;
     } in
-    let out = sink_told g.O.Sink.taken g.O.Sink.paths g.O.Sink.faults c.args.out.now in
-    let out_after = sink_told g.O.Sink.taken g.O.Sink.paths g.O.Sink.faults c.print_refusal-status.new.out in
+    let out = sink_told g.O.Sink c.args.out.now in
+    let out_after = sink_told g.O.Sink c.print_refusal-status.new.out in
     let said = c.print_refusal-status in
     let end = c.not_started-in-Err-NoMemory in
     let memory = only_memory said.ensures.status in

@@ -12,8 +12,8 @@ pub returns-clause-run : goal.returns-clause-run
 returns-clause-run g c =
     let run = run_view c.args.words.now in
     let answer = c.judged_dry_run-answer.result in
-    let out = sink_told g.O.Sink.taken g.O.Sink.paths g.O.Sink.faults c.args.out.now in
-    let out_after = sink_told g.O.Sink.taken g.O.Sink.paths g.O.Sink.faults c.print_status-status.new.out in
+    let out = sink_told g.O.Sink c.args.out.now in
+    let out_after = sink_told g.O.Sink c.print_status-status.new.out in
     let printed = c.print_status-status.ensures.printed in
     let status = c.print_status-status.result in
     dry_printed status c.print_status-status.ensures.status (λ first last has.

@@ -16,14 +16,14 @@ returns-in-Err-clause-ran g c =
     let before : CallTold = record {
       palm = folder_told g.H.Folder.contents g.H.Folder.moments g.H.Folder.paths g.H.Folder.faults c.args.device;
       desk = folder_told g.D.Folder.contents g.D.Folder.moments g.D.Folder.paths g.D.Folder.faults c.args.desk;
-      source = source_told g.S.Source.left g.S.Source.paths g.S.Source.faults c.args.source.now;
-      trace = sink_told g.T.Sink.taken g.T.Sink.paths g.T.Sink.faults c.args.trace.now;
+      source = source_told g.S.Source c.args.source.now;
+      trace = sink_told g.T.Sink c.args.trace.now;
     } in
     let after : CallTold = record {
       palm = folder_told g.H.Folder.contents g.H.Folder.moments g.H.Folder.paths g.H.Folder.faults c.args.device;
       desk = folder_told g.D.Folder.contents g.D.Folder.moments g.D.Folder.paths g.D.Folder.faults c.args.desk;
-      source = source_told g.S.Source.left g.S.Source.paths g.S.Source.faults c.script_of.new.source;
-      trace = sink_told g.T.Sink.taken g.T.Sink.paths g.T.Sink.faults c.args.trace.now;
+      source = source_told g.S.Source c.script_of.new.source;
+      trace = sink_told g.T.Sink c.args.trace.now;
     } in
     let end = c.not_started.ensures in
     let still : StaysAsItWas before.palm after.palm = record { contents = refl; moments = refl } in
@@ -37,14 +37,14 @@ returns-in-Err-copy_handheld-clause-ran g c =
     let before : CallTold = record {
       palm = folder_told g.H.Folder.contents g.H.Folder.moments g.H.Folder.paths g.H.Folder.faults c.args.device;
       desk = folder_told g.D.Folder.contents g.D.Folder.moments g.D.Folder.paths g.D.Folder.faults c.args.desk;
-      source = source_told g.S.Source.left g.S.Source.paths g.S.Source.faults c.args.source.now;
-      trace = sink_told g.T.Sink.taken g.T.Sink.paths g.T.Sink.faults c.args.trace.now;
+      source = source_told g.S.Source c.args.source.now;
+      trace = sink_told g.T.Sink c.args.trace.now;
     } in
     let after : CallTold = record {
       palm = folder_told g.H.Folder.contents g.H.Folder.moments g.H.Folder.paths g.H.Folder.faults c.copy_handheld.new.device;
       desk = folder_told g.D.Folder.contents g.D.Folder.moments g.D.Folder.paths g.D.Folder.faults c.args.desk;
-      source = source_told g.S.Source.left g.S.Source.paths g.S.Source.faults c.script_of.new.source;
-      trace = sink_told g.T.Sink.taken g.T.Sink.paths g.T.Sink.faults c.args.trace.now;
+      source = source_told g.S.Source c.script_of.new.source;
+      trace = sink_told g.T.Sink c.args.trace.now;
     } in
     let end = c.not_started-in-Err-copy_handheld.ensures in
     let copied = c.in-Err-copy_handheld.ensures in
@@ -59,14 +59,14 @@ returns-in-Err-open_handheld-clause-ran g c =
     let before : CallTold = record {
       palm = folder_told g.H.Folder.contents g.H.Folder.moments g.H.Folder.paths g.H.Folder.faults c.args.device;
       desk = folder_told g.D.Folder.contents g.D.Folder.moments g.D.Folder.paths g.D.Folder.faults c.args.desk;
-      source = source_told g.S.Source.left g.S.Source.paths g.S.Source.faults c.args.source.now;
-      trace = sink_told g.T.Sink.taken g.T.Sink.paths g.T.Sink.faults c.args.trace.now;
+      source = source_told g.S.Source c.args.source.now;
+      trace = sink_told g.T.Sink c.args.trace.now;
     } in
     let after : CallTold = record {
       palm = folder_told g.H.Folder.contents g.H.Folder.moments g.H.Folder.paths g.H.Folder.faults c.copy_handheld.new.device;
       desk = folder_told g.D.Folder.contents g.D.Folder.moments g.D.Folder.paths g.D.Folder.faults c.args.desk;
-      source = source_told g.S.Source.left g.S.Source.paths g.S.Source.faults c.script_of.new.source;
-      trace = sink_told g.T.Sink.taken g.T.Sink.paths g.T.Sink.faults c.args.trace.now;
+      source = source_told g.S.Source c.script_of.new.source;
+      trace = sink_told g.T.Sink c.args.trace.now;
     } in
     let palm = copy_told c.in-Ok-copy_handheld.palm in
     let copied = c.in-Ok-copy_handheld.ensures in
@@ -89,14 +89,14 @@ returns-in-Err-copy_desktop-clause-ran g c =
     let before : CallTold = record {
       palm = folder_told g.H.Folder.contents g.H.Folder.moments g.H.Folder.paths g.H.Folder.faults c.args.device;
       desk = folder_told g.D.Folder.contents g.D.Folder.moments g.D.Folder.paths g.D.Folder.faults c.args.desk;
-      source = source_told g.S.Source.left g.S.Source.paths g.S.Source.faults c.args.source.now;
-      trace = sink_told g.T.Sink.taken g.T.Sink.paths g.T.Sink.faults c.args.trace.now;
+      source = source_told g.S.Source c.args.source.now;
+      trace = sink_told g.T.Sink c.args.trace.now;
     } in
     let after : CallTold = record {
       palm = folder_told g.H.Folder.contents g.H.Folder.moments g.H.Folder.paths g.H.Folder.faults c.copy_handheld.new.device;
       desk = folder_told g.D.Folder.contents g.D.Folder.moments g.D.Folder.paths g.D.Folder.faults c.copy_desktop.new.desk;
-      source = source_told g.S.Source.left g.S.Source.paths g.S.Source.faults c.script_of.new.source;
-      trace = sink_told g.T.Sink.taken g.T.Sink.paths g.T.Sink.faults c.args.trace.now;
+      source = source_told g.S.Source c.script_of.new.source;
+      trace = sink_told g.T.Sink c.args.trace.now;
     } in
     let palm = copy_told c.in-Ok-copy_handheld.palm in
     let copied = c.in-Ok-copy_handheld.ensures in
@@ -123,14 +123,14 @@ returns-in-Err-open_desktop-clause-ran g c =
     let before : CallTold = record {
       palm = folder_told g.H.Folder.contents g.H.Folder.moments g.H.Folder.paths g.H.Folder.faults c.args.device;
       desk = folder_told g.D.Folder.contents g.D.Folder.moments g.D.Folder.paths g.D.Folder.faults c.args.desk;
-      source = source_told g.S.Source.left g.S.Source.paths g.S.Source.faults c.args.source.now;
-      trace = sink_told g.T.Sink.taken g.T.Sink.paths g.T.Sink.faults c.args.trace.now;
+      source = source_told g.S.Source c.args.source.now;
+      trace = sink_told g.T.Sink c.args.trace.now;
     } in
     let after : CallTold = record {
       palm = folder_told g.H.Folder.contents g.H.Folder.moments g.H.Folder.paths g.H.Folder.faults c.copy_handheld.new.device;
       desk = folder_told g.D.Folder.contents g.D.Folder.moments g.D.Folder.paths g.D.Folder.faults c.copy_desktop.new.desk;
-      source = source_told g.S.Source.left g.S.Source.paths g.S.Source.faults c.script_of.new.source;
-      trace = sink_told g.T.Sink.taken g.T.Sink.paths g.T.Sink.faults c.args.trace.now;
+      source = source_told g.S.Source c.script_of.new.source;
+      trace = sink_told g.T.Sink c.args.trace.now;
     } in
     let palm = copy_told c.in-Ok-copy_handheld.palm in
     let copied = c.in-Ok-copy_handheld.ensures in
@@ -160,14 +160,14 @@ returns-in-Err-open_trace-clause-ran g c =
     let before : CallTold = record {
       palm = folder_told g.H.Folder.contents g.H.Folder.moments g.H.Folder.paths g.H.Folder.faults c.args.device;
       desk = folder_told g.D.Folder.contents g.D.Folder.moments g.D.Folder.paths g.D.Folder.faults c.args.desk;
-      source = source_told g.S.Source.left g.S.Source.paths g.S.Source.faults c.args.source.now;
-      trace = sink_told g.T.Sink.taken g.T.Sink.paths g.T.Sink.faults c.args.trace.now;
+      source = source_told g.S.Source c.args.source.now;
+      trace = sink_told g.T.Sink c.args.trace.now;
     } in
     let after : CallTold = record {
       palm = folder_told g.H.Folder.contents g.H.Folder.moments g.H.Folder.paths g.H.Folder.faults c.copy_handheld.new.device;
       desk = folder_told g.D.Folder.contents g.D.Folder.moments g.D.Folder.paths g.D.Folder.faults c.copy_desktop.new.desk;
-      source = source_told g.S.Source.left g.S.Source.paths g.S.Source.faults c.script_of.new.source;
-      trace = sink_told g.T.Sink.taken g.T.Sink.paths g.T.Sink.faults c.open_trace.new.trace;
+      source = source_told g.S.Source c.script_of.new.source;
+      trace = sink_told g.T.Sink c.open_trace.new.trace;
     } in
     let palm = copy_told c.in-Ok-copy_handheld.palm in
     let copied = c.in-Ok-copy_handheld.ensures in
@@ -199,14 +199,14 @@ returns-in-Ok-open_trace-clause-ran g c =
     let before : CallTold = record {
       palm = folder_told g.H.Folder.contents g.H.Folder.moments g.H.Folder.paths g.H.Folder.faults c.args.device;
       desk = folder_told g.D.Folder.contents g.D.Folder.moments g.D.Folder.paths g.D.Folder.faults c.args.desk;
-      source = source_told g.S.Source.left g.S.Source.paths g.S.Source.faults c.args.source.now;
-      trace = sink_told g.T.Sink.taken g.T.Sink.paths g.T.Sink.faults c.args.trace.now;
+      source = source_told g.S.Source c.args.source.now;
+      trace = sink_told g.T.Sink c.args.trace.now;
     } in
     let after : CallTold = record {
       palm = folder_told g.H.Folder.contents g.H.Folder.moments g.H.Folder.paths g.H.Folder.faults c.copy_handheld.new.device;
       desk = folder_told g.D.Folder.contents g.D.Folder.moments g.D.Folder.paths g.D.Folder.faults c.copy_desktop.new.desk;
-      source = source_told g.S.Source.left g.S.Source.paths g.S.Source.faults c.script_of.new.source;
-      trace = sink_told g.T.Sink.taken g.T.Sink.paths g.T.Sink.faults c.traced_talk-answer.new.trace;
+      source = source_told g.S.Source c.script_of.new.source;
+      trace = sink_told g.T.Sink c.traced_talk-answer.new.trace;
     } in
     let palm = copy_told c.in-Ok-copy_handheld.palm in
     let copied = c.in-Ok-copy_handheld.ensures in

@@ -11,14 +11,14 @@ returns-in-Err-clause-ran g c =
     let before : CallTold = record {
       palm = folder_told g.H.Folder.contents g.H.Folder.moments g.H.Folder.paths g.H.Folder.faults c.args.device;
       desk = folder_told g.D.Folder.contents g.D.Folder.moments g.D.Folder.paths g.D.Folder.faults c.args.desk;
-      source = source_told g.S.Source.left g.S.Source.paths g.S.Source.faults c.args.source.now;
-      trace = sink_told g.T.Sink.taken g.T.Sink.paths g.T.Sink.faults c.args.sink.now;
+      source = source_told g.S.Source c.args.source.now;
+      trace = sink_told g.T.Sink c.args.sink.now;
     } in
     let after : CallTold = record {
       palm = folder_told g.H.Folder.contents g.H.Folder.moments g.H.Folder.paths g.H.Folder.faults c.in-Err.device;
       desk = folder_told g.D.Folder.contents g.D.Folder.moments g.D.Folder.paths g.D.Folder.faults c.args.desk;
-      source = source_told g.S.Source.left g.S.Source.paths g.S.Source.faults c.args.source.now;
-      trace = sink_told g.T.Sink.taken g.T.Sink.paths g.T.Sink.faults c.args.sink.now;
+      source = source_told g.S.Source c.args.source.now;
+      trace = sink_told g.T.Sink c.args.sink.now;
     } in
     let end = c.not_started.ensures in
     rw (end.status, end.device, end.desk)
@@ -31,14 +31,14 @@ returns-in-Err-open_source-clause-ran g c =
     let before : CallTold = record {
       palm = folder_told g.H.Folder.contents g.H.Folder.moments g.H.Folder.paths g.H.Folder.faults c.args.device;
       desk = folder_told g.D.Folder.contents g.D.Folder.moments g.D.Folder.paths g.D.Folder.faults c.args.desk;
-      source = source_told g.S.Source.left g.S.Source.paths g.S.Source.faults c.args.source.now;
-      trace = sink_told g.T.Sink.taken g.T.Sink.paths g.T.Sink.faults c.args.sink.now;
+      source = source_told g.S.Source c.args.source.now;
+      trace = sink_told g.T.Sink c.args.sink.now;
     } in
     let after : CallTold = record {
       palm = folder_told g.H.Folder.contents g.H.Folder.moments g.H.Folder.paths g.H.Folder.faults c.in-Ok.store.folder;
       desk = folder_told g.D.Folder.contents g.D.Folder.moments g.D.Folder.paths g.D.Folder.faults c.args.desk;
-      source = source_told g.S.Source.left g.S.Source.paths g.S.Source.faults c.open_source.new.source;
-      trace = sink_told g.T.Sink.taken g.T.Sink.paths g.T.Sink.faults c.args.sink.now;
+      source = source_told g.S.Source c.open_source.new.source;
+      trace = sink_told g.T.Sink c.args.sink.now;
     } in
     let end = c.not_started-in-Err-open_source.ensures in
     rw (end.status, end.device, end.desk, c.into_folder.ensures)
@@ -64,14 +64,14 @@ returns-in-Err-open_named-clause-ran g c =
     let before : CallTold = record {
       palm = folder_told g.H.Folder.contents g.H.Folder.moments g.H.Folder.paths g.H.Folder.faults c.args.device;
       desk = folder_told g.D.Folder.contents g.D.Folder.moments g.D.Folder.paths g.D.Folder.faults c.args.desk;
-      source = source_told g.S.Source.left g.S.Source.paths g.S.Source.faults c.args.source.now;
-      trace = sink_told g.T.Sink.taken g.T.Sink.paths g.T.Sink.faults c.args.sink.now;
+      source = source_told g.S.Source c.args.source.now;
+      trace = sink_told g.T.Sink c.args.sink.now;
     } in
     let after : CallTold = record {
       palm = folder_told g.H.Folder.contents g.H.Folder.moments g.H.Folder.paths g.H.Folder.faults c.in-Ok.store.folder;
       desk = folder_told g.D.Folder.contents g.D.Folder.moments g.D.Folder.paths g.D.Folder.faults c.args.desk;
-      source = source_told g.S.Source.left g.S.Source.paths g.S.Source.faults c.open_source.new.source;
-      trace = sink_told g.T.Sink.taken g.T.Sink.paths g.T.Sink.faults c.open_named.new.trace;
+      source = source_told g.S.Source c.open_source.new.source;
+      trace = sink_told g.T.Sink c.open_named.new.trace;
     } in
     let end = c.not_started-in-Err-open_named.ensures in
     rw (end.status, end.device, end.desk, c.into_folder-in-Err-open_named.ensures)
@@ -96,20 +96,20 @@ returns-in-Ok-open_named-clause-ran g c =
     let before : CallTold = record {
       palm = folder_told g.H.Folder.contents g.H.Folder.moments g.H.Folder.paths g.H.Folder.faults c.args.device;
       desk = folder_told g.D.Folder.contents g.D.Folder.moments g.D.Folder.paths g.D.Folder.faults c.args.desk;
-      source = source_told g.S.Source.left g.S.Source.paths g.S.Source.faults c.args.source.now;
-      trace = sink_told g.T.Sink.taken g.T.Sink.paths g.T.Sink.faults c.args.sink.now;
+      source = source_told g.S.Source c.args.source.now;
+      trace = sink_told g.T.Sink c.args.sink.now;
     } in
     let opened : CallTold = record {
       palm = folder_told g.H.Folder.contents g.H.Folder.moments g.H.Folder.paths g.H.Folder.faults c.in-Ok.store.folder;
       desk = folder_told g.D.Folder.contents g.D.Folder.moments g.D.Folder.paths g.D.Folder.faults c.args.desk;
-      source = source_told g.S.Source.left g.S.Source.paths g.S.Source.faults c.open_source.new.source;
-      trace = sink_told g.T.Sink.taken g.T.Sink.paths g.T.Sink.faults c.open_named.new.trace;
+      source = source_told g.S.Source c.open_source.new.source;
+      trace = sink_told g.T.Sink c.open_named.new.trace;
     } in
     let after : CallTold = record {
       palm = folder_told g.H.Folder.contents g.H.Folder.moments g.H.Folder.paths g.H.Folder.faults c.talk_over.result.device;
       desk = folder_told g.D.Folder.contents g.D.Folder.moments g.D.Folder.paths g.D.Folder.faults c.talk_over.result.desk;
-      source = source_told g.S.Source.left g.S.Source.paths g.S.Source.faults c.talk_over.new.source;
-      trace = sink_told g.T.Sink.taken g.T.Sink.paths g.T.Sink.faults c.talk_over.new.sink;
+      source = source_told g.S.Source c.talk_over.new.source;
+      trace = sink_told g.T.Sink c.talk_over.new.sink;
     } in
     by_talk (capture_view c.args.words.now) before opened after (record {
       stays = record { contents = c.in-Ok.ensures.contents; moments = c.in-Ok.ensures.moments };

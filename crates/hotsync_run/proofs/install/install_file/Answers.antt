@@ -14,18 +14,18 @@ returns-clause-install g c =
     let before : CallTold = record {
       palm = folder_told g.H.Folder.contents g.H.Folder.moments g.H.Folder.paths g.H.Folder.faults c.args.device;
       desk = folder_told g.D.Folder.contents g.D.Folder.moments g.D.Folder.paths g.D.Folder.faults c.args.desk;
-      source = source_told g.S.Source.left g.S.Source.paths g.S.Source.faults c.args.source.now;
-      trace = sink_told g.T.Sink.taken g.T.Sink.paths g.T.Sink.faults c.args.trace.now;
+      source = source_told g.S.Source c.args.source.now;
+      trace = sink_told g.T.Sink c.args.trace.now;
     } in
     let answer = c.judged_install-answer.result in
     let after : CallTold = record {
       palm = folder_told g.H.Folder.contents g.H.Folder.moments g.H.Folder.paths g.H.Folder.faults answer.device;
       desk = folder_told g.D.Folder.contents g.D.Folder.moments g.D.Folder.paths g.D.Folder.faults answer.desk;
-      source = source_told g.S.Source.left g.S.Source.paths g.S.Source.faults c.judged_install-answer.new.source;
-      trace = sink_told g.T.Sink.taken g.T.Sink.paths g.T.Sink.faults c.judged_install-answer.new.trace;
+      source = source_told g.S.Source c.judged_install-answer.new.source;
+      trace = sink_told g.T.Sink c.judged_install-answer.new.trace;
     } in
-    let out = sink_told g.O.Sink.taken g.O.Sink.paths g.O.Sink.faults c.args.out.now in
-    let out_after = sink_told g.O.Sink.taken g.O.Sink.paths g.O.Sink.faults c.print_status-status.new.out in
+    let out = sink_told g.O.Sink c.args.out.now in
+    let out_after = sink_told g.O.Sink c.print_status-status.new.out in
     let printed = c.print_status-status.ensures.printed in
     let status = c.print_status-status.result in
     let ran = install_printed c.judged_install-answer.ensures.ran status c.print_status-status.ensures.status in

@@ -8,8 +8,8 @@ use Rattle.hotsync_run.proofs.make.make.Goals as goal
 
 pub returns : goal.returns
 returns g c =
-    let out = sink_told g.O.Sink.taken g.O.Sink.paths g.O.Sink.faults c.args.out.now in
-    let out_after = sink_told g.O.Sink.taken g.O.Sink.paths g.O.Sink.faults c.print_status-status.new.out in
+    let out = sink_told g.O.Sink c.args.out.now in
+    let out_after = sink_told g.O.Sink c.print_status-status.new.out in
     let status = c.made_session-status.result.0 in
     let report = c.made_session-status.result.1 in
     let printed = c.print_status-status in

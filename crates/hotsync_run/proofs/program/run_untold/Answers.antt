@@ -8,8 +8,8 @@ returns-clause-call g c =
     record {
       before = call_told g.H.Folder g.D.Folder g.S.Source g.T.Sink c.args.device c.args.desk c.args.source.now c.args.trace.now;
       after = call_told g.H.Folder g.D.Folder g.S.Source g.T.Sink answer.device answer.desk c.run_program.new.source c.run_program.new.trace;
-      out = sink_told g.O.Sink.taken g.O.Sink.paths g.O.Sink.faults c.args.out.now;
-      out_after = sink_told g.O.Sink.taken g.O.Sink.paths g.O.Sink.faults c.run_program.new.out;
+      out = sink_told g.O.Sink c.args.out.now;
+      out_after = sink_told g.O.Sink c.run_program.new.out;
       untold = c.requires;
       called = c.run_program.ensures.run;
     }

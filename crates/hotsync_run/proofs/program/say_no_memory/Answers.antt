@@ -20,8 +20,8 @@ returns-clause-call g c =
     rw c.not_started.ensures.status (record {
       before = told;
       after = told;
-      out = sink_told g.O.Sink.taken g.O.Sink.paths g.O.Sink.faults c.args.out.now;
-      out_after = sink_told g.O.Sink.taken g.O.Sink.paths g.O.Sink.faults c.print_refusal-status.new.out;
+      out = sink_told g.O.Sink c.args.out.now;
+      out_after = sink_told g.O.Sink c.print_refusal-status.new.out;
       untold = record { palm = refl; desk = refl; source = refl; trace = refl; printed = c.requires };
       called = record { ended = inr (only_memory c.print_refusal-status.ensures.status); printed = c.print_refusal-status.ensures.printed };
     })
