@@ -1,6 +1,6 @@
 -- The records that are exported of a database (Palm File Format Specification; pilot-link's todo.h
 -- and datebook.h).
-use Rattle.std.specs.Prelude.{◌≡◌, ℕ, ◌&&◌, Bool, true, not, List, [], codes, filter, map, Option, None, Result, Ok, Err, if◌then◌else◌}
+use Rattle.std.specs.Prelude.{◌≡◌, ℕ, ◌&&◌, Bool, true, not, List, [], codes, filter, map, Option, None, Some, Result, Ok, Err, if◌then◌else◌}
 use Rattle.std.specs.List.{flat_map}
 use Rattle.std.specs.Result.{result_err}
 use Rattle.std.specs.Str.{bytes_eq}
@@ -14,7 +14,7 @@ use Rattle.palm_events.specs.Events.{EventValue, event_in}
 use Rattle.export_choice.specs.declared.choice.BrokenRecords.{BrokenRecords}
 use Rattle.export_choice.specs.declared.choice.BrokenRecords.TheVariants as broken
 use Rattle.export_choice.specs.declared.choice.Privacy.{Privacy}
-use Rattle.export_choice.specs.Choices.{BadItem, is_exported, shown_label}
+use Rattle.export_choice.specs.Choices.{BadItem, first_bad, is_exported, shown_label}
 use Rattle.content_lines.specs.Lines.{lines_text}
 use Rattle.calendar_export.specs.declared.export.Bad.{Bad}
 use Rattle.calendar_export.specs.declared.kind.Kind.{Kind}
@@ -107,3 +107,10 @@ exported_fault kind wanted item = if is_exported wanted item then fault_of kind 
 -- a record that is out of its form
 abbrev pub bad_value : Bad → BadItem
 bad_value bad = record { index = bad.index; place = bad.place }
+
+-- the record of this number is the first one that is exported and out of the form of its kind,
+-- broken at this place, and such records are not kept
+abbrev pub IsRefusedAt : Kind → Privacy → BrokenRecords → DatabaseValue → ℕ → ℕ → Type 0
+IsRefusedAt kind wanted how database index place =
+    (how ≡ broken.Refused) × (first_bad (fault_of kind) wanted 0 database.records
+    ≡ Some (record { index = index; place = place }))

@@ -8,7 +8,7 @@ ghost use Rattle.content_lines.specs.Lines.{lines_text};
 ghost use Rattle.calendar_export.specs.ContentLines.{is_plain};
 ghost use Rattle.calendar_export.specs.Components.{IsOrigin, origin_value, source_value};
 ghost use Rattle.calendar_export.specs.Items.{IsContent, IsItem, Item, calendar_text, content_lines};
-ghost use Rattle.calendar_export.specs.Exports.{IsSaid, bad_value, content_in, creator_of, exported, exported_fault, fault_of, is_of_kind, item_text, items_text, origin_of, place_in, refused, source_of};
+ghost use Rattle.calendar_export.specs.Exports.{IsRefusedAt, IsSaid, bad_value, content_in, creator_of, exported, exported_fault, fault_of, is_of_kind, item_text, items_text, origin_of, place_in, refused, source_of};
 ghost use Rattle.calendar_export.specs.declared.kind.Kind.TheVariants.{Dates, Tasks};
 
 use crate::component::{Origin, Source, push_closing, push_journal, push_opening};
@@ -46,8 +46,7 @@ pub fn tasks_text(
     ensures kind { IsErrOf result ExportFault.CannotExport
         ↔ (is_of_kind Tasks database.now.head ≡ false) }
     ensures bad { (index place : ℕ) → IsErrOf result (ExportFault.BadRecord index place)
-        → (broken ≡ Refused) × (first_bad (fault_of Tasks) privacy 0 database.now.records
-        ≡ Some (record { index = index; place = place })) }
+        → IsRefusedAt Tasks privacy broken database.now index place }
     ensures read { IfOk result (λ _. broken ≡ Refused
         → first_bad (fault_of Tasks) privacy 0 database.now.records ≡ None) }
 {
@@ -82,8 +81,7 @@ pub fn dates_text(
     ensures kind { IsErrOf result ExportFault.CannotExport
         ↔ (is_of_kind Dates database.now.head ≡ false) }
     ensures bad { (index place : ℕ) → IsErrOf result (ExportFault.BadRecord index place)
-        → (broken ≡ Refused) × (first_bad (fault_of Dates) privacy 0 database.now.records
-        ≡ Some (record { index = index; place = place })) }
+        → IsRefusedAt Dates privacy broken database.now index place }
     ensures read { IfOk result (λ _. broken ≡ Refused
         → first_bad (fault_of Dates) privacy 0 database.now.records ≡ None) }
 {

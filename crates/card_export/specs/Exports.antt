@@ -139,6 +139,13 @@ fault_of item = result_err (address_in item.content.bytes)
 abbrev pub first_bad_address : Privacy → DatabaseValue → Option BadItem
 first_bad_address wanted database = first_bad fault_of wanted 0 database.records
 
+-- there are no cards of a database of addresses, since the record of this number is the first such
+-- one, broken at this place, and such records are not kept
+abbrev pub IsRefusedAt : Privacy → BrokenRecords → DatabaseValue → ℕ → ℕ → Type 0
+IsRefusedAt wanted broken database index place =
+    (holds_addresses database.head ≡ true) × (broken ≡ Refused)
+    × (first_bad_address wanted database ≡ Some (record { index = index; place = place }))
+
 -- what an answer says of a record with this number
 abbrev pub refusal_at : ℕ → Option ℕ → Result Unit ExportFault
 refusal_at index None = Ok tt

@@ -1,11 +1,11 @@
 // The addresses of a database as cards.
-ghost use Rattle.std.specs.Prelude.{◌≡◌, ◌↔◌, ◌++◌, All, IfOk, IsErrOf, List, None, OnOk, Some, chars, false, string_bytes, true, ℕ};
+ghost use Rattle.std.specs.Prelude.{◌≡◌, ◌↔◌, ◌++◌, All, IfOk, IsErrOf, List, None, OnOk, chars, false, string_bytes, ℕ};
 ghost use Rattle.std.specs.Option.{option_copied};
 ghost use Rattle.std.specs.Str.{IsUtf8};
 ghost use Rattle.pdb_values.specs.Stems.{stem_of};
 ghost use Rattle.export_choice.specs.declared.choice.BrokenRecords.TheVariants.{Refused};
 ghost use Rattle.card_export.specs.Cards.{CardValue, IsCard};
-ghost use Rattle.card_export.specs.Exports.{IsItem, exported_cards, fault_of, first_bad_address, holds_addresses, item_text, items_text, refusal, refusal_at};
+ghost use Rattle.card_export.specs.Exports.{IsItem, IsRefusedAt, exported_cards, fault_of, first_bad_address, holds_addresses, item_text, items_text, refusal, refusal_at};
 ghost use Rattle.card_export.specs.Properties.{cards_text};
 
 use crate::card::push_card;
@@ -29,8 +29,7 @@ pub fn cards_text(
     ensures kind { IsErrOf result ExportFault.CannotExport
         ↔ (holds_addresses database.now.head ≡ false) }
     ensures bad { (index place : ℕ) → IsErrOf result (ExportFault.BadRecord index place)
-        ↔ ((holds_addresses database.now.head ≡ true) × (broken ≡ Refused)
-        × (first_bad_address privacy database.now ≡ Some (record { index = index; place = place }))) }
+        ↔ IsRefusedAt privacy broken database.now index place }
     ensures read { IfOk result (λ _. broken ≡ Refused → first_bad_address privacy database.now ≡ None) }
 {
     if !holds_addresses(database.head()) {

@@ -3,7 +3,7 @@ use Rattle.std.specs.Prelude.{◌≡◌, ◌⊎◌, ℕ, Bool, List, [], Option,
 use Rattle.std.specs.Cmp.Lexicographic.{slice_cmp}
 use Rattle.std.specs.FinMap as finmap
 use Rattle.std.specs.List.{list_any}
-use Rattle.std.specs.Option.{option_map_or}
+use Rattle.std.specs.Option.{option_map, option_map_or}
 use Rattle.std.specs.Ordering.{eq_by_cmp, nat_cmp}
 use Rattle.hs_folders.specs.Causes.{Rose}
 use Rattle.hs_folders.specs.FileMaps.{FileMap}
@@ -22,6 +22,11 @@ TellsPaths before now paths = (paths ≡ Some []) ⊎ ((paths ≡ None) × Rose 
 abbrev pub with_file : FileMap → List ℕ → FileMap → FileMap
 with_file held name files =
     option_map_or (λ bytes. finmap.insert files name bytes) (finmap.get held name) files
+
+-- where a folder told these files, a copy tells that one of them beside those that it told
+abbrev pub CopiesFile : List ℕ → Option FileMap → Option FileMap → Option FileMap → Type 0
+CopiesFile name told copied copied_after =
+    IfSome told (λ held. copied_after ≡ option_map (with_file held name) copied)
 
 -- a name is one of these
 abbrev pub is_named : List (List ℕ) → List ℕ → Bool

@@ -1,11 +1,11 @@
 // How a folder is copied.
-ghost use Rattle.std.specs.Prelude.{◌≡◌, ◌≤◌, ◌⊎◌, ◌++◌, ◌∷◌, [], Some, None, false, map, string_bytes, true, IfOk, IfSome, OnErr, OnOk};
+ghost use Rattle.std.specs.Prelude.{◌≡◌, ◌≤◌, ◌⊎◌, ◌++◌, ◌∷◌, [], Some, None, false, map, string_bytes, true, IfOk, IfSome, OnOk};
 ghost use Rattle.std.specs.Option.{option_map};
 ghost use Rattle.hs_folders.specs.Causes.{Rose};
 ghost use Rattle.hs_folders.specs.Moments.{OnlyRead};
 ghost use Rattle.hs_folders.specs.Opens.{IsBlamedOpen};
 ghost use Rattle.folder_copies.specs.declared.copied_folder.CopiedFolder.{CopiedFolder as Copy};
-ghost use Rattle.folder_copies.specs.Copies.{HoldsNamed, IsCopy, TellsPaths, with_file};
+ghost use Rattle.folder_copies.specs.Copies.{CopiesFile, HoldsNamed, IsCopy, TellsPaths};
 
 use crate::copied_folder::CopiedFolder;
 use hs_folders::{Folder, FolderFault, FolderOpenFault, MemFolder};
@@ -90,8 +90,8 @@ fn copy_file<F: Folder>(
     copy: &mut CopiedFolder,
 ) -> Result<(), AllocError>
     ensures copied { OnOk result (copy.new.failed ≡ false
-        → IfSome (F.contents folder.old) (λ held. ⟦<MemFolder as Folder>⟧.contents copy.new.held
-        ≡ option_map (with_file held name.now) (⟦<MemFolder as Folder>⟧.contents copy.old.held))) }
+        → CopiesFile name.now (F.contents folder.old) (⟦<MemFolder as Folder>⟧.contents copy.old.held)
+        (⟦<MemFolder as Folder>⟧.contents copy.new.held)) }
     ensures unopened { OnOk result (copy.new.failed ≡ false → ⟦<MemFolder as Folder>⟧.paths
         copy.new.held ≡ ⟦<MemFolder as Folder>⟧.paths copy.old.held) }
     ensures stays_failed { OnOk result (copy.new.failed ≡ false → copy.old.failed ≡ false) }

@@ -54,7 +54,8 @@ has_head head =
 
 -- the packed bytes have a name and both blocks in front
 abbrev pub has_front : HsHead → List ℕ → Bool
-has_front head packed = nat_le (front_length head) (length packed) && is_name (take head.name packed)
+has_front head packed =
+    nat_le (front_length head) (length packed) && is_name (take head.name packed)
 
 -- an entry may stand in front of a record
 abbrev pub is_record_entry : HsEntry → Bool
@@ -111,6 +112,16 @@ record_in entry bytes = record_of (record { attributes = entry.attributes; id = 
 unfoldable pub resource_in : HsEntry → List ℕ → Resource
 resource_in entry bytes =
     record { kind = record { 0 = big_bytes 4 entry.kind }; id = entry.id; bytes = bytes }
+
+-- a database with these entries and their bytes in place of its own
+abbrev pub with_entries : DatabaseValue → List HsEntry → List ℕ → DatabaseValue
+with_entries database entries packed =
+    record database {
+      records = if holds_resources database.head.attributes then []
+          else items_in record_in entries packed;
+      resources = if holds_resources database.head.attributes
+          then items_in resource_in entries packed else [];
+    }
 
 -- the database of these parts
 unfoldable pub database_in : HsHead → List HsEntry → List ℕ → DatabaseValue

@@ -187,6 +187,12 @@ RefusesMerge handheld rows base archive how (Fault NoMemory) = ⊤
 RefusesMerge handheld rows base archive how (Fault fault) =
     IsLeftAlone handheld rows base archive how fault
 
+-- it refuses so, and where the files end is as it was
+abbrev pub RefusesAll : List ℕ → List ℕ → List ℕ → List ℕ → HsHow → HsEnds → HsEnds
+    → MergeRefusal → Type 0
+RefusesAll handheld rows base archive how ends ends_after refusal =
+    RefusesMerge handheld rows base archive how refusal × (ends_after ≡ ends)
+
 -- ---- the room
 
 -- the whole text and behind it what stood there before; where it doesn't fit all stays

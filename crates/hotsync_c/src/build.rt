@@ -1,12 +1,12 @@
 //! A database's file of its parts.
 
-ghost use Rattle.std.specs.Prelude.{◌≡◌, ◌≤◌, ◌<◌, ◌==◌, ◌++◌, ◌∷◌, [], IfErr, IfOk, OnOk, bit_and, false, if◌then◌else◌, length, not, true};
+ghost use Rattle.std.specs.Prelude.{◌≡◌, ◌≤◌, ◌<◌, ◌==◌, ◌++◌, ◌∷◌, [], IfErr, IfOk, OnOk, bit_and, false, length, not, true};
 ghost use Rattle.std.specs.List.{list_all};
 ghost use Rattle.byteorder.specs.Endian.{big_bytes};
 ghost use Rattle.pdb_values.specs.Blocks.{block_of};
 ghost use Rattle.pdb_values.specs.Heads.{holds_resources};
 ghost use Rattle.hotsync_c.specs.Answers.{Answers};
-ghost use Rattle.hotsync_c.specs.Building.{IsBuilt, RefusesParts, are_parts, block_in, database_in, front_length, front_size, head_in, is_block, is_cut, is_entry, is_name, items_in, record_in, resource_in};
+ghost use Rattle.hotsync_c.specs.Building.{IsBuilt, RefusesParts, are_parts, block_in, database_in, front_length, front_size, head_in, is_cut, is_entry, is_name, items_in, record_in, resource_in, with_entries};
 
 use crate::fit::{are_parts, front_length, front_size};
 use crate::parts::{ABSENT, HsEntry, HsHead};
@@ -146,12 +146,8 @@ fn push_entries(
     requires each { list_all (is_entry (holds_resources database.old.head.attributes)) entries.now
         ≡ true }
     requires cut { is_cut entries.now packed.now ≡ true }
-    ensures { OnOk result (database.new ≡ record database.old {
-      records = if holds_resources database.old.head.attributes then []
-          else items_in record_in entries.now packed.now;
-      resources = if holds_resources database.old.head.attributes
-          then items_in resource_in entries.now packed.now else [];
-    }) }
+    ensures { OnOk result (database.new
+        ≡ with_entries database.old entries.now packed.now) }
 {
     if database.head().holds_resources() {
         push_resources(alloc, database, entries, packed)

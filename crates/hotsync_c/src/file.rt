@@ -7,7 +7,7 @@ ghost use Rattle.hotsync_c.specs.Files.{IsChecked, RefusesFile, ShowsFile, Unrea
 use crate::refusal::Refusal;
 use crate::room::put;
 use file_text::show_text;
-use pdb_files::{BadKind, FileFault, entry_count, read_database};
+use pdb_files::{BadKind, FileFault, count_entries, read_database};
 use std::alloc::Global;
 
 /// How many entries the database of a file has: records or resources.
@@ -21,8 +21,8 @@ pub extern "C" fn hs_check(alloc: Global, file: &[u8], kind: &mut u32, place: &m
 {
     *kind = 0;
     *place = 0;
-    match read_database(alloc, file) {
-        Ok(database) => entry_count(&database) as i64,
+    match count_entries(alloc, file) {
+        Ok(count) => i64::from(count.entries),
         Err(fault) => {
             if let Some((bad, at)) = fault.bad_file() {
                 *kind = kind_number(bad);

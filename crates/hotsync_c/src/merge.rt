@@ -2,7 +2,7 @@
 
 ghost use Rattle.std.specs.Prelude.{◌≡◌, ◌++◌, IfErr, IfOk, OnOk, length};
 ghost use Rattle.std.specs.Option.{option_copied};
-ghost use Rattle.hotsync_c.specs.Merges.{AnswersWhole, IsMergeOf, PutsWhole, RefusesMerge, action_of, ends_of, side_text, sides_text, wishes_of};
+ghost use Rattle.hotsync_c.specs.Merges.{AnswersWhole, IsMergeOf, PutsWhole, RefusesAll, RefusesMerge, action_of, ends_of, side_text, sides_text, wishes_of};
 
 use crate::merge_refusal::MergeRefusal;
 use crate::sides::read_sides;
@@ -67,8 +67,7 @@ pub extern "C" fn hs_merge(
 ) -> i64
     ensures { AnswersWhole
         (IsMergeOf handheld.now rows.now base.now archive.now how.now ends.new)
-        (λ refusal. RefusesMerge handheld.now rows.now base.now archive.now how.now refusal
-        × (ends.new ≡ ends.old))
+        (RefusesAll handheld.now rows.now base.now archive.now how.now ends.old ends.new)
         room.old room.new result }
 {
     match merged(alloc, handheld, rows, base, archive, how) {

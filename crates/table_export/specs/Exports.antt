@@ -1,6 +1,6 @@
 -- The tables of databases: a head row with the names of the columns, and a row for each record that
 -- is exported.
-use Rattle.std.specs.Prelude.{ℕ, ◌&&◌, Bool, not, List, [], ◌∷◌, ◌++◌, codes, filter, map, replicate, Option, Result, Ok, Err, if◌then◌else◌}
+use Rattle.std.specs.Prelude.{◌≡◌, ℕ, ◌&&◌, Bool, true, not, List, [], ◌∷◌, ◌++◌, codes, filter, map, replicate, Option, Some, Result, Ok, Err, if◌then◌else◌}
 use Rattle.std.specs.Int.{bytes_high_first}
 use Rattle.std.specs.List.{flat_map}
 use Rattle.std.specs.Result.{result_err}
@@ -12,6 +12,8 @@ use Rattle.pdb_values.specs.Databases.{DatabaseValue}
 use Rattle.pdb_values.specs.Heads.{holds_resources}
 use Rattle.palm_records.specs.Addresses.{AddressValue, address_in}
 use Rattle.palm_records.specs.Tasks.{TaskValue, task_in}
+use Rattle.export_choice.specs.declared.choice.BrokenRecords.{BrokenRecords}
+use Rattle.export_choice.specs.declared.choice.BrokenRecords.TheVariants.{Refused}
 use Rattle.export_choice.specs.declared.choice.Privacy.{Privacy}
 use Rattle.export_choice.specs.Choices.{BadItem, first_bad, is_exported, shown_label}
 use Rattle.csv.specs.Writing.{row_text}
@@ -45,6 +47,13 @@ fault_of kind item = place_in kind item.content.bytes
 -- the first record that is exported and out of its form, if any is
 abbrev pub first_bad_item : Kind → Privacy → DatabaseValue → Option BadItem
 first_bad_item kind wanted database = first_bad (fault_of kind) wanted 0 database.records
+
+-- there is no table of a database of the kind, since the record of this number is the first such
+-- one, broken at this place, and such records are not kept
+abbrev pub IsRefusedAt : Kind → Privacy → BrokenRecords → DatabaseValue → ℕ → ℕ → Type 0
+IsRefusedAt kind wanted broken database index place =
+    (is_of_kind kind database.head ≡ true) × (broken ≡ Refused)
+    × (first_bad_item kind wanted database ≡ Some (record { index = index; place = place }))
 
 -- the id in six hexadecimal digits
 abbrev pub id_digits : ℕ → List ℕ

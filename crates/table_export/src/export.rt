@@ -1,8 +1,8 @@
 // The addresses and the tasks of a database as tables.
-ghost use Rattle.std.specs.Prelude.{◌≡◌, ◌↔◌, All, IfOk, IsErrOf, List, None, Some, false, string_bytes, true, ℕ};
+ghost use Rattle.std.specs.Prelude.{◌≡◌, ◌↔◌, All, IfOk, IsErrOf, List, None, Some, false, string_bytes, ℕ};
 ghost use Rattle.export_choice.specs.declared.choice.BrokenRecords.TheVariants.{Refused};
 ghost use Rattle.card_export.specs.Exports.{refusal, refusal_at};
-ghost use Rattle.table_export.specs.Exports.{creator_of, exported_rows, fault_of, first_bad_item, is_of_kind, place_in};
+ghost use Rattle.table_export.specs.Exports.{IsRefusedAt, creator_of, exported_rows, fault_of, first_bad_item, is_of_kind, place_in};
 ghost use Rattle.table_export.specs.Tables.{IsRow, rows_in, table_text};
 ghost use Rattle.table_export.specs.declared.kind.Kind.TheVariants.{Addresses, Tasks};
 
@@ -33,9 +33,7 @@ pub fn addresses_table(
     ensures kind { IsErrOf result ExportFault.CannotExport
         ↔ (is_of_kind Addresses database.now.head ≡ false) }
     ensures bad { (index place : ℕ) → IsErrOf result (ExportFault.BadRecord index place)
-        ↔ ((is_of_kind Addresses database.now.head ≡ true) × (broken ≡ Refused)
-        × (first_bad_item Addresses privacy database.now
-        ≡ Some (record { index = index; place = place }))) }
+        ↔ IsRefusedAt Addresses privacy broken database.now index place }
     ensures read { IfOk result (λ _. broken ≡ Refused
         → first_bad_item Addresses privacy database.now ≡ None) }
 {
@@ -65,9 +63,7 @@ pub fn tasks_table(
     ensures kind { IsErrOf result ExportFault.CannotExport
         ↔ (is_of_kind Tasks database.now.head ≡ false) }
     ensures bad { (index place : ℕ) → IsErrOf result (ExportFault.BadRecord index place)
-        ↔ ((is_of_kind Tasks database.now.head ≡ true) × (broken ≡ Refused)
-        × (first_bad_item Tasks privacy database.now
-        ≡ Some (record { index = index; place = place }))) }
+        ↔ IsRefusedAt Tasks privacy broken database.now index place }
     ensures read { IfOk result (λ _. broken ≡ Refused
         → first_bad_item Tasks privacy database.now ≡ None) }
 {

@@ -1,10 +1,9 @@
 // Whether the frames of a direction come in order.
-ghost use Rattle.std.specs.Prelude.{◌≡◌, ◌↔◌, ◌∷◌, List, IsTrue, map, true, false};
-ghost use Rattle.std.specs.Bool.{MatchBool};
+ghost use Rattle.std.specs.Prelude.{◌≡◌, ◌↔◌, IsTrue, map, true, false};
 ghost use Rattle.trace_text.specs.Fates as fates;
 ghost use Rattle.trace_text.specs.Fates.{fate_value};
-ghost use Rattle.trace_text.specs.TraceLines.{FrameValue, frame_value};
-ghost use Rattle.trace_check.specs.Closing.{ComeBehind, is_closed, closed_by};
+ghost use Rattle.trace_text.specs.TraceLines.{frame_value};
+ghost use Rattle.trace_check.specs.Closing.{PassesFrame, is_closed, closed_by};
 ghost use Rattle.trace_check.specs.Judging.{Keeps};
 ghost use Rattle.trace_check.specs.declared.rule.Rule.TheVariants.{C};
 
@@ -36,10 +35,7 @@ pub(crate) fn come_in_order(frames: &[Frame]) -> bool
 impl Closed {
     // Passes a frame, if it may come or not as it did.
     fn pass(&mut self, frame: &Frame) -> bool
-        ensures { MatchBool result
-            ((later : List FrameValue) → ComeBehind self.old (frame_value frame.now ∷ later)
-            ↔ ComeBehind self.new later)
-            ((later : List FrameValue) → ¬ (ComeBehind self.old (frame_value frame.now ∷ later))) }
+        ensures { PassesFrame result self.old (frame_value frame.now) self.new }
     {
         let arrives = arrives(&frame.fate);
         if frame.came {

@@ -1,7 +1,7 @@
 -- Traces of a session between two empty folders on 2001-09-09 at 01:46:40, computed by hand from
 -- the formats: over a line that loses nothing, and over one
 -- that loses the acknowledgement of the first request and the first reply to it.
-use Rattle.std.specs.Prelude.{ℕ, ◌+◌, ◌*◌, ◌-◌, ◌||◌, nat_eq, nat_lt, codes, if◌then◌else◌, Bool, true, false, List, [], ◌∷◌}
+use Rattle.std.specs.Prelude.{ℕ, ◌+◌, ◌*◌, ◌-◌, ◌||◌, nat_eq, nat_lt, codes, if◌then◌else◌, Bool, true, false, List, [], ◌∷◌, ◌++◌}
 use Rattle.trace_text.specs.declared.frame.End.{End}
 use Rattle.trace_text.specs.declared.frame.End.TheVariants.{Handheld, Desktop}
 use Rattle.trace_text.specs.Fates.{FateValue, Untouched, Lost}
@@ -57,6 +57,12 @@ quiet number = Untouched
 abbrev pub losing : ℕ → FateValue
 losing number = if nat_eq number 6 || nat_eq number 7 then Lost else Untouched
 
+-- the packet with the reply about the user
+abbrev pub user_packet : List ℕ
+user_packet =
+    codes "beefed030302002801cb01c0002490010000201e000000000000"
+    ++ codes "000000000000000000000000000000000000000000000000ed6b"
+
 -- the trace of the line that loses nothing
 abbrev pub quiet_frames : List FrameValue
 quiet_frames =
@@ -66,7 +72,7 @@ quiet_frames =
     ∷ frame 4 Handheld Untouched true (codes "beefed0303020004ffa502c0000a1a85")
     ∷ frame 5 Desktop Untouched true (codes "beefed030302000601a901c0000210000e37")
     ∷ frame 6 Handheld Untouched true (codes "beefed030302000401a702c00002ce11")
-    ∷ frame 7 Handheld Untouched true (codes "beefed030302002801cb01c0002490010000201e000000000000000000000000000000000000000000000000000000000000ed6b")
+    ∷ frame 7 Handheld Untouched true user_packet
     ∷ frame 8 Desktop Untouched true (codes "beefed030302000401a702c000248ab5")
     ∷ frame 9 Desktop Untouched true (codes "beefed030302000602aa01c000022e00385a")
     ∷ frame 10 Handheld Untouched true (codes "beefed030302000402a802c000026508")
@@ -102,9 +108,9 @@ losing_frames =
     ∷ frame 4 Handheld Untouched true (codes "beefed0303020004ffa502c0000a1a85")
     ∷ frame 5 Desktop Untouched true (codes "beefed030302000601a901c0000210000e37")
     ∷ frame 6 Handheld Lost false (codes "beefed030302000401a702c00002ce11")
-    ∷ frame 7 Handheld Lost false (codes "beefed030302002801cb01c0002490010000201e000000000000000000000000000000000000000000000000000000000000ed6b")
+    ∷ frame 7 Handheld Lost false user_packet
     ∷ frame 8 Desktop Untouched true (codes "beefed030302000601a901c0000210000e37")
-    ∷ frame 9 Handheld Untouched true (codes "beefed030302002801cb01c0002490010000201e000000000000000000000000000000000000000000000000000000000000ed6b")
+    ∷ frame 9 Handheld Untouched true user_packet
     ∷ frame 10 Handheld Untouched true (codes "beefed030302000401a702c00002ce11")
     ∷ frame 11 Desktop Untouched true (codes "beefed030302000401a702c000248ab5")
     ∷ frame 12 Desktop Untouched true (codes "beefed030302000602aa01c000022e00385a")
@@ -140,7 +146,7 @@ changed_frames =
     ∷ frame 4 Handheld Untouched true (codes "beefed0303020004ffa502c0000a1a85")
     ∷ frame 5 Desktop Untouched true (codes "beefed030302000601a901c0000210000e36")
     ∷ frame 6 Handheld Untouched true (codes "beefed030302000401a702c00002ce11")
-    ∷ frame 7 Handheld Untouched true (codes "beefed030302002801cb01c0002490010000201e000000000000000000000000000000000000000000000000000000000000ed6b")
+    ∷ frame 7 Handheld Untouched true user_packet
     ∷ frame 8 Desktop Untouched true (codes "beefed030302000401a702c000248ab5")
     ∷ frame 9 Desktop Untouched true (codes "beefed030302000602aa01c000022e00385a")
     ∷ frame 10 Handheld Untouched true (codes "beefed030302000402a802c000026508")
