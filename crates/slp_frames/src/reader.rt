@@ -96,6 +96,14 @@ impl SlpReader {
         self.passed = 0;
     }
 
+    /// The bytes that were taken, and are neither in a packet that was handed out nor passed by. A new reader that is fed with
+    /// them goes on as this one does.
+    pub fn held(&self) -> &[u8]
+        ensures { result.now ≡ self.now.held }
+    {
+        &self.buffer.as_slice()[self.passed..]
+    }
+
     /// The bytes that were taken and the packets that were handed out since the reader was made.
     pub fn tally(&self) -> Tally
         ensures { result ≡ self.now.tally }
