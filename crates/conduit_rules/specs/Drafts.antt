@@ -1,13 +1,15 @@
 -- A plan in the making: its lists without the adds and without the rows that have no base row, and
 -- the new records of the
 -- handheld and of the table, which decide the adds.
-use Rattle.std.specs.Prelude.{◌≡◌, ℕ, ◌++◌, Option, option_to_list, map}
+use Rattle.std.specs.Prelude.{◌≡◌, ℕ, ◌++◌, List, Option, option_to_list, map}
 use Rattle.pdb_values.specs.Contents.{ContentValue}
+use Rattle.pdb_values.specs.declared.record.Record.{Record}
 use Rattle.conduit_rules.specs.ById.{each_id, with_id}
-use Rattle.conduit_rules.specs.Choices.{Sides, fate_for, choice_for, partners_for}
-use Rattle.conduit_rules.specs.Fates.{Fate}
+use Rattle.conduit_rules.specs.Choices.{Sides, fate_for, choice_for, loose_for, partners_for, partner_under}
+use Rattle.conduit_rules.specs.Fates.{Fate, fate_under}
+use Rattle.conduit_rules.specs.News.{live_contents, archived_records}
 use Rattle.conduit_rules.specs.Plans.{kept_rows, replaced_rows, gone_rows, purged_ids, replacement, lost, purged_at}
-use Rattle.conduit_rules.specs.States.{SideState}
+use Rattle.conduit_rules.specs.States.{BaseState, SideState}
 use Rattle.conduit_rules.specs.declared.action.Action.{Action}
 use Rattle.conduit_rules.specs.declared.draft.Draft.{Draft}
 
@@ -32,3 +34,16 @@ pub record Grew (d e : Draft) (i : ℕ) (f : Fate) (h : SideState)
   pub purge : e.purge.items ≡ d.purge.items ++ purged_at f.keep h i
   pub partners : e.partners.items ≡ d.partners.items ++ option_to_list mate
   pub news : e.news.items ≡ d.news.items ++ option_to_list f.news
+
+-- the lists with what one id gives under an action, by what the base has, what the handheld holds
+-- and what the desktop holds
+abbrev pub GrewUnder : Draft → Draft → ℕ → Action → BaseState → SideState → SideState → Type 0
+GrewUnder old new i a base handheld desktop =
+    Grew old new i (fate_under a base handheld desktop) handheld (partner_under a base handheld)
+
+-- a fact that holds where these rows are those of a database without a base row, as far as an
+-- action counts them
+abbrev pub IfLoose : Action → Sides → List Record → Type 0 → Type 0
+IfLoose a s rows P =
+    live_contents rows ≡ loose_for a s.loose_live
+    → archived_records rows ≡ loose_for a s.loose_archived → P

@@ -3,11 +3,10 @@ ghost use Rattle.std.specs.Prelude.{◌≡◌, ◌++◌, ◌<◌, ◌≤◌, [],
 ghost use Rattle.std.specs.Option.{option_copied};
 ghost use Rattle.conduit_rules.specs.Borrowed.{based_of, fate_of, held_of};
 ghost use Rattle.conduit_rules.specs.ById.{with_id};
-ghost use Rattle.conduit_rules.specs.Choices.{Sides, loose_for, partner_under};
+ghost use Rattle.conduit_rules.specs.Choices.{Sides};
 ghost use Rattle.conduit_rules.specs.Plans.{replacement, lost, purged_at, IsPlan};
-ghost use Rattle.conduit_rules.specs.Drafts.{IsDraft, Grew};
-ghost use Rattle.conduit_rules.specs.Fates.{fate_under};
-ghost use Rattle.conduit_rules.specs.News.{live_contents, archived_records, found_in};
+ghost use Rattle.conduit_rules.specs.Drafts.{IfLoose, IsDraft, GrewUnder};
+ghost use Rattle.conduit_rules.specs.News.{found_in};
 ghost use Rattle.conduit_rules.specs.declared.action.Action.{Action};
 
 use crate::action::Action;
@@ -103,11 +102,8 @@ impl Draft {
         handheld: Holding<'_>,
         desktop: Holding<'_>,
     ) -> Result<(), AllocError>
-        ensures grows { OnOk result (next ≤ id → Grew self.old self.new id
-            (fate_under action (based_of basis.entry) (held_of handheld.entry)
-            (held_of desktop.entry))
-            (held_of handheld.entry)
-            (partner_under action (based_of basis.entry) (held_of handheld.entry))) }
+        ensures grows { OnOk result (next ≤ id → GrewUnder self.old self.new id action
+            (based_of basis.entry) (held_of handheld.entry) (held_of desktop.entry)) }
         ensures stays { id < next → self.new ≡ self.old }
     {
         if id.number() < next {
@@ -121,10 +117,8 @@ impl Draft {
     // The plan of the database that this is the draft of, with its rows without a base row at their places.
     pub fn finished(self, alloc: Global, slots: &[Option<&Record>]) -> Result<Plan, AllocError>
         ensures { (a : Action) (s : Sides) → IsDraft a s self
-            → let rows = found_in (map option_copied slots.now) in
-            live_contents rows ≡ loose_for a s.loose_live
-            → archived_records rows ≡ loose_for a s.loose_archived
-            → IfOk result (λ plan. IsPlan a s plan) }
+            → IfLoose a s (found_in (map option_copied slots.now))
+            (IfOk result (λ plan. IsPlan a s plan)) }
     {
         let Draft {
             kept,

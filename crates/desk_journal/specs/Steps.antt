@@ -61,6 +61,10 @@ commit_steps [] told = []
 commit_steps (entry ∷ []) told = with_entry entry told ∷ []
 commit_steps entries told = by_journal entries told
 
+-- the steps of a commit of these entries over these files: those of the entries that change a file
+abbrev pub steps_over : FileMap → List EntryValue → List (Option FileMap)
+steps_over held entries = commit_steps (changed_in held entries) (Some held)
+
 -- ---- how far a call went
 
 -- what is told after these steps

@@ -5,7 +5,7 @@ ghost use Rattle.hs_folders.specs.Causes.{HasCause};
 ghost use Rattle.hs_folders.specs.Moments.{EachMomentSince};
 ghost use Rattle.desk_journal.specs.Entries.{IsJournal, entry_values};
 ghost use Rattle.desk_journal.specs.Overlays.{FinishesAs, HasNoJournal, StandsAs, put_all};
-ghost use Rattle.desk_journal.specs.Steps.{GoesThrough, GoesThroughAll, by_journal, changed_in, commit_steps};
+ghost use Rattle.desk_journal.specs.Steps.{GoesThrough, GoesThroughAll, by_journal, commit_steps, steps_over};
 
 use crate::change::changed_entries;
 use crate::entry::Entry;
@@ -48,10 +48,10 @@ pub fn commit_files<F: Folder>(
 
     // The moments of the call: it writes no file that has its bytes already, and each other one in the order of the entries.
     ensures steps { IfSome (F.contents folder.old) (λ held. GoesThrough
-        (commit_steps (changed_in held (entry_values entries.items)) (Some held)) (Some held)
+        (steps_over held (entry_values entries.items)) (Some held)
         (F.contents folder.new) (F.moments folder.old) (F.moments folder.new)) }
     ensures all { OnOk result (IfSome (F.contents folder.old) (λ held. GoesThroughAll
-        (commit_steps (changed_in held (entry_values entries.items)) (Some held))
+        (steps_over held (entry_values entries.items))
         (F.moments folder.old) (F.moments folder.new))) }
 
     ensures cause { HasCause (F.faults folder.old) (F.faults folder.new)

@@ -43,8 +43,8 @@ greeted users add first second =
 -- A greeting answered the fault of the link, or what both replies say. Where the link has no fault,
 -- the first reply is the device's to ReadUserInfo, and the second, which is asked for where the
 -- user has a slot, its reply to OpenConduit.
-pub record AnswersGreeting (users : List ℕ) (add : Bool) (talk : Option Talk) (fault : Option LinkFault)
-    (answer : Result UserInfo SessionFault) : Type 0 where
+pub record AnswersGreeting (users : List ℕ) (add : Bool) (talk : Option Talk)
+    (fault : Option LinkFault) (answer : Result UserInfo SessionFault) : Type 0 where
   pub first : List ℕ
   pub second : List ℕ
   pub is : answer ≡ answer_by fault (greeted users add first second)

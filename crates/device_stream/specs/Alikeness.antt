@@ -1,5 +1,5 @@
 -- Hands that differ in what they performed alone, and say the same.
-use Rattle.std.specs.Prelude.{◌≡◌, ◌+◌, List, length}
+use Rattle.std.specs.Prelude.{◌≡◌, ◌+◌, ◌++◌, List, length}
 use Rattle.padp_end.specs.Outgoings.{OutgoingFragment}
 use Rattle.padp_link.specs.Neighbours.{session_id}
 use Rattle.slp_frames.specs.PacketText.{PacketValue}
@@ -33,3 +33,10 @@ pub record TalksAlike (hand : Hand) (packets : List PacketValue) (said : List Ou
   pub other : Hand
   pub talks : Talks hand packets said other
   pub alike : Alike new other
+
+-- Whatever a hand talks over from here on, another hand that talked over these packets before would
+-- talk over them all.
+abbrev pub GoesOnFrom : Hand → List PacketValue → List OutgoingFragment → Hand → Type 0
+GoesOnFrom first packets said made =
+    (later : List PacketValue) (more : List OutgoingFragment) (new : Hand)
+    → Talks made later more new → TalksAlike first (packets ++ later) (said ++ more) new

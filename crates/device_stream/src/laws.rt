@@ -1,10 +1,10 @@
 //! What holds of every talk. Each function here does nothing: its contract is the law.
-ghost use Rattle.std.specs.Prelude.{◌≡◌, ◌++◌, List, true};
+ghost use Rattle.std.specs.Prelude.{◌≡◌, List, true};
 ghost use Rattle.dlp_commands.specs.DeviceRuns.{DeviceRun};
 ghost use Rattle.padp_end.specs.Outgoings.{OutgoingFragment};
 ghost use Rattle.palm_device.specs.Devices.{Device};
 ghost use Rattle.slp_frames.specs.PacketText.{PacketValue};
-ghost use Rattle.device_stream.specs.Alikeness.{Alike, SaysAlike, TakesAlike, TalksAlike};
+ghost use Rattle.device_stream.specs.Alikeness.{Alike, GoesOnFrom, SaysAlike, TakesAlike, TalksAlike};
 ghost use Rattle.device_stream.specs.Hands.{Hand, waited_by, woken};
 ghost use Rattle.device_stream.specs.Laws.{DidOnce, DoesNothingAgain};
 ghost use Rattle.device_stream.specs.Parts.{SameTalkParts, are_talk_parts, hand_of};
@@ -48,9 +48,9 @@ pub fn alikeness_is_an_equivalence()
 
 /// A talk that is taken apart between two packets, and made again, is one talk.
 pub fn a_talk_made_again_goes_on()
-    ensures { (first apart made new : Hand) (packets later : List PacketValue)
-        (said more : List OutgoingFragment) → Talks first packets said apart → Alike apart made
-        → Talks made later more new → TalksAlike first (packets ++ later) (said ++ more) new }
+    ensures { (first apart made : Hand) (packets : List PacketValue)
+        (said : List OutgoingFragment) → Talks first packets said apart → Alike apart made
+        → GoesOnFrom first packets said made }
 {}
 
 /// A talk has one form of parts.

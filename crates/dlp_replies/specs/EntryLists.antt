@@ -32,7 +32,19 @@ row_of item =
             head.kind.0,
             (
               head.creator.0,
-              (head.version, (head.modnum, (wire_date head.created, (wire_date head.modified, (wire_date head.backup, (item.0, (head.name, tt))))))),
+              (
+                head.version,
+                (
+                  head.modnum,
+                  (
+                    wire_date head.created,
+                    (
+                      wire_date head.modified,
+                      (wire_date head.backup, (item.0, (head.name, tt))),
+                    ),
+                  ),
+                ),
+              ),
             ),
           ),
         ),

@@ -35,16 +35,31 @@ frame (ReadUserInfo user viewer pc good last name password) = With 0x10 user_inf
   user,
   (viewer, (pc, (wire_date good, (wire_date last, ((name_text name, password), tt))))),
 )
-frame (ReadSysInfo rom locale product) = With 0x12 sys_info (rom, (locale, (tt, (length product, (product, tt)))))
-frame (ReadDbList last flags entries) = With 0x16 db_list (last, (flags, (length entries, (entries_text entries, tt))))
+frame (ReadSysInfo rom locale product) = With 0x12 sys_info (
+  rom,
+  (locale, (tt, (length product, (product, tt)))),
+)
+frame (ReadDbList last flags entries) = With 0x16 db_list (
+  last,
+  (flags, (length entries, (entries_text entries, tt))),
+)
 frame (OpenDb handle) = With 0x17 handle_alone (handle, tt)
 frame (CreateDb handle) = With 0x18 handle_alone (handle, tt)
 frame (ReadAppBlock bytes) = With 0x1B block (bytes, tt)
 frame (ReadSortBlock bytes) = With 0x1D block (bytes, tt)
-frame (ReadNextModifiedRec id index size attributes category bytes) = With 0x1F record_reply (id, (index, (size, (attributes, (category, (bytes, tt))))))
-frame (ReadRecord id index size attributes category bytes) = With 0x20 record_reply (id, (index, (size, (attributes, (category, (bytes, tt))))))
+frame (ReadNextModifiedRec id index size attributes category bytes) = With 0x1F record_reply (
+  id,
+  (index, (size, (attributes, (category, (bytes, tt))))),
+)
+frame (ReadRecord id index size attributes category bytes) = With 0x20 record_reply (
+  id,
+  (index, (size, (attributes, (category, (bytes, tt))))),
+)
 frame (WriteRecord id) = With 0x21 id_alone (id, tt)
-frame (ReadResource kind id index size bytes) = With 0x23 resource_reply (kind, (id, (index, (size, (bytes, tt)))))
+frame (ReadResource kind id index size bytes) = With 0x23 resource_reply (
+  kind,
+  (id, (index, (size, (bytes, tt)))),
+)
 frame (ReadOpenDbInfo count) = With 0x2B count_alone (count, tt)
 frame (ReadRecordIdList ids) = With 0x31 id_list (length ids, (ids_text ids, tt))
 frame WriteUserInfo = Alone 0x11

@@ -24,8 +24,8 @@ measured_in kinds sizes content =
     option_and_then (λ v. if sizes v then Some v else None) (fields_in kinds content)
 
 -- the same where its values are some; the content begins at this place
-unfoldable pub valid_in : (kinds : List CellKind) → (Fields kinds → Bool) → (Fields kinds → Checks) → ℕ
-    → List ℕ → Result (Fields kinds) ReplyFault
+unfoldable pub valid_in : (kinds : List CellKind) → (Fields kinds → Bool)
+    → (Fields kinds → Checks) → ℕ → List ℕ → Result (Fields kinds) ReplyFault
 valid_in kinds sizes checks place content =
     or_size (measured_in kinds sizes content) >>= λ v. or_value place (first_bad (checks v)) v
 

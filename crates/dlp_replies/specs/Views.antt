@@ -49,7 +49,10 @@ reply_value lent.EndOfSync = EndOfSync
 
 -- the cells of a record reply
 abbrev pub record_fields : RecordCells → Fields record_reply
-record_fields cells = (cells.id, (cells.index, (cells.size, (cells.attributes, (cells.category, (cells.bytes.now, tt))))))
+record_fields cells = (
+  cells.id,
+  (cells.index, (cells.size, (cells.attributes, (cells.category, (cells.bytes.now, tt))))),
+)
 
 -- the cells of an entry
 abbrev pub entry_row : EntryCells → Row
@@ -63,7 +66,16 @@ entry_row cells = (
         cells.kind.0,
         (
           cells.creator.0,
-          (cells.version, (cells.modnum, (cells.created, (cells.modified, (cells.backup, (cells.index, (cells.name.now, tt))))))),
+          (
+            cells.version,
+            (
+              cells.modnum,
+              (
+                cells.created,
+                (cells.modified, (cells.backup, (cells.index, (cells.name.now, tt)))),
+              ),
+            ),
+          ),
         ),
       ),
     ),

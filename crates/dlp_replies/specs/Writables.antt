@@ -13,7 +13,8 @@ abbrev pub HasNoSeed : ℕ × DbHead → Type 0
 HasNoSeed item = item.1.seed ≡ 0
 
 -- the code is not 0; names of at most 40 bytes, without a zero, and passwords of as many; a
--- product's id of at most 255 bytes; at most 255 entries, without seeds; blocks, records and resources of at most 65,500 bytes
+-- product's id of at most 255 bytes; at most 255 entries, without seeds; blocks, records and
+-- resources of at most 65,500 bytes
 abbrev pub KeepsBounds : ReplyValue → Type 0
 KeepsBounds (Refused number code) = 0 < code
 KeepsBounds (ReadUserInfo user viewer pc good last name password) =

@@ -26,7 +26,16 @@ device_forms =
 
 -- what they say of a user
 abbrev pub device_values : UserInfo → Values device_forms
-device_values info = (tt, (info.user, (info.viewer, (info.pc, (info.good, (info.last, (info.name, (info.password, tt))))))))
+device_values info = (
+  tt,
+  (
+    info.user,
+    (
+      info.viewer,
+      (info.pc, (info.good, (info.last, (info.name, (info.password, tt))))),
+    ),
+  ),
+)
 
 -- the user of whom they say this
 abbrev pub device_of : Values device_forms → UserInfo

@@ -58,8 +58,8 @@ part_now side = fragment_of side.message (piece_of side.id (length side.message)
 -- each data frame of its newest fragment bears this part
 abbrev pub AllBear : End → List PastFrame → List ℕ → Type 0
 AllBear X past bytes =
-    (n : ℕ) (frame : PastFrame) (older : List PastFrame) → n ≤ length past → at n past ≡ frame ∷ older
-    → IsDataOf X frame
+    (n : ℕ) (frame : PastFrame) (older : List PastFrame) → n ≤ length past
+    → at n past ≡ frame ∷ older → IsDataOf X frame
     → length (said X (frame ∷ older)) ≡ length (said X past) → frame.bytes ≡ bytes
 
 -- an end that sends

@@ -70,7 +70,8 @@ HaltsBy (Down end) cursor frames = AllGo 1 frames × IsSpent end cursor (past_no
 
 -- both ends said and took their messages by the rules of a proper trace, and the cursors stand
 -- within it
-pub record HasProperPast (X Y : End) (talk : Talk) (cursor : End → ℕ) (past : List PastFrame) : Type 0 where
+pub record HasProperPast (X Y : End) (talk : Talk) (cursor : End → ℕ)
+    (past : List PastFrame) : Type 0 where
   pub faults : RepeatsHaveFaults past
   pub x_speaks : SpeaksProperly X Y talk (came_by cursor past) past
   pub y_speaks : SpeaksProperly Y X talk (came_by cursor past) past

@@ -34,8 +34,8 @@ abbrev pub alone : Topic → List (List ℕ) → Option Topic
 alone topic [] = Some topic
 alone topic (word ∷ words) = None
 
--- the help that the words behind `help` ask for: that of the program, or of the command that the one
--- word names
+-- the help that the words behind `help` ask for: that of the program, or of the command that the
+-- one word names
 abbrev pub help_behind : List (List ℕ) → Option Topic
 help_behind [] = Some Program
 help_behind (word ∷ []) =

@@ -45,8 +45,8 @@ pub record AreStarts (messages : List (List ℕ)) (said : ℕ) (starts : List �
   pub behind : 0 < begun → pieces_before messages (begun - 1) < said
 
 -- that is what is known of X behind this past
-pub record IsSide (X Y : End) (talk : Talk) (came : ℕ → Bool) (past : List PastFrame) (side : SideValue)
-    : Type 0 where
+pub record IsSide (X Y : End) (talk : Talk) (came : ℕ → Bool) (past : List PastFrame)
+    (side : SideValue) : Type 0 where
   pub starts_are : AreStarts (messages_of X talk) (length (said X past)) side.starts
   pub said_all : length side.arrivals ≡ length (said X past)
   pub arrivals_are : (j : ℕ) → j < length (said X past)

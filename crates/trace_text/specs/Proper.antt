@@ -68,7 +68,8 @@ pub record AnswersNewest (X Y : End) (talk : Talk) (past : List PastFrame) (n : 
   pub bears : BearsNumber Y past n frame (pieces_before (messages_of Y talk) answer + 1)
 
 -- a frame that says to X that its newest fragment was taken reached what is sent behind this past
-pub record IsKnown (X Y : End) (talk : Talk) (came : ℕ → Bool) (past : List PastFrame) : Type 0 where
+pub record IsKnown (X Y : End) (talk : Talk) (came : ℕ → Bool)
+    (past : List PastFrame) : Type 0 where
   pub n : ℕ
   pub reaches : Reaches came n past
   pub cause : AcksNewest X Y past n reaches.frame ⊎ AnswersNewest X Y talk past n reaches.frame
