@@ -6,9 +6,10 @@ use Rattle.pdb_values.specs.declared.record.Record.{Record}
 use Rattle.conduit_rules.specs.ById.{put}
 use Rattle.conduit_rules.specs.Choices.{sides_of}
 use Rattle.conduit_rules.specs.News.{loose, live_contents, archived_records}
-use Rattle.conduit_rules.specs.States.{SideState, nothing, live, held, first, no_base, row, base_at, has_row}
+use Rattle.conduit_rules.specs.States.{SideState, nothing, live, held, first, row, base_at, has_row}
 use Rattle.conduit_rules.specs.Views.{view_held}
 use Rattle.conduit_rules.specs.declared.view.Seen.{Seen}
+use Rattle.conduit_rules.proofs.DraftLaws.{base_at-none}
 use Rattle.conduit_rules.proofs.SettledLaws.{IsAgreed, IsEmptyPlan, agreed_plan}
 
 -- a record stands in a list
@@ -58,9 +59,6 @@ row_of : (records : List Record) (gone_counts : Bool) (i : ℕ) (r : Record) →
     → base_at records gone_counts i ≡ row r.content
 row_of records gone_counts i r e is_live named = grind arith
 
-no_row : (records : List Record) (gone_counts : Bool) (i : ℕ) → first i records ≡ None → base_at records gone_counts i ≡ no_base
-no_row records gone_counts i e = grind (arith, e)
-
 live_at : (records : List Record) (i : ℕ) (r : Record) → first i records ≡ Some r → r.deleted ≡ false → held records i ≡ live r.content
 live_at records i r e is_live = grind (arith, e, is_live)
 
@@ -73,7 +71,7 @@ content_where (Some r) = Some r.content
 
 agreed_at : (records : List Record) (gone_counts : Bool) (i : ℕ) (o : Option Record) (h : SideState) → AreRows records → first i records ≡ o → h ≡ held records i
     → IsAgreed (content_where o) (base_at records gone_counts i) h (held records i)
-agreed_at records gone_counts i None h rows e shows = (no_row records gone_counts i e, shows ∙ none_at records i e)
+agreed_at records gone_counts i None h rows e shows = (base_at-none records gone_counts i e, shows ∙ none_at records i e)
 agreed_at records gone_counts i (Some r) h rows e shows =
     let found = first-in i records r e in
     let is = rows r found.0 in

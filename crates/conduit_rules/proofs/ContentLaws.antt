@@ -1,18 +1,11 @@
 -- Equal contents: the test decides equality.
 use Rattle.std.proofs.Common.{◌≡◌, ◌↔◌, ℕ, List, Bool, true, false, IsTrue, refl, arith}
-use Rattle.std.specs.Prelude.{bytes_eq}
 use Rattle.std.specs.Bool.{beq}
-use Rattle.std.proofs.lemmas.Slice.Eq.{bytes_eq-Decides}
 use Rattle.pdb_values.specs.Contents.{ContentValue}
+use Rattle.pdb_values.proofs.NamedLaws.{bytes_eq-is, bytes_eq-own}
 use Rattle.conduit_rules.specs.Contents.{same_content}
 use Rattle.std.proofs.lemmas.Grind.{common_steps}
 use Rattle.std.proofs.lemmas.Bool.Decides.{nat_tests}
-
-bytes_same : (xs : List ℕ) → bytes_eq xs xs ≡ true
-bytes_same xs = grind (arith, bytes_eq-Decides xs xs)
-
-bytes_is : (xs ys : List ℕ) → bytes_eq xs ys ≡ true → xs ≡ ys
-bytes_is xs ys e = grind (arith, bytes_eq-Decides xs ys)
 
 beq_same : (b : Bool) → beq b b ≡ true
 beq_same true = refl
@@ -25,14 +18,14 @@ beq_is a b e = refl
 
 pub same_content-same : (a : ContentValue) → same_content a a ≡ true
 unfolding same_content
-same_content-same a = grind (arith, bytes_same a.bytes, beq_same a.secret)
+same_content-same a = grind (arith, bytes_eq-own a.bytes, beq_same a.secret)
 
 pub same_content-is : (a b : ContentValue) → same_content a b ≡ true → a ≡ b
 unfolding same_content
 same_content-is a b e =
     let category : a.category ≡ b.category = grind arith in
     let secret : a.secret ≡ b.secret = beq_is a.secret b.secret (grind arith) in
-    let bytes : a.bytes ≡ b.bytes = bytes_is a.bytes b.bytes (grind arith) in
+    let bytes : a.bytes ≡ b.bytes = bytes_eq-is a.bytes b.bytes (grind arith) in
     λ k. record { category = category k; secret = secret k; bytes = bytes k }
 
 other : (r : Bool) (a b : ContentValue) → same_content a b ≡ r → (a ≡ b → IsTrue false) → false ≡ r

@@ -3,7 +3,7 @@ use Rattle.std.proofs.lemmas.Bool.Decides.{nat_tests}
 use Rattle.std.proofs.lemmas.Grind.{common_steps}
 use Rattle.std.proofs.Common.{◌≡◌, ℕ, zero, suc, ◌+◌, ◌^◌, ◌<◌, ◌≤◌, Bool, true, false, cond, eqb, ltb, List, [], ◌∷◌, ◌++◌, length, take, drop, get_or, Option}
 use Rattle.std.proofs.Common.{Some, None, Result, Ok, Err, refl, sym, ap, subst, ◌∙◌, arith}
-use Rattle.std.specs.Prelude.{◌&&◌, ◌||◌, not, bytes_eq, option_and_then, IfOk}
+use Rattle.std.specs.Prelude.{◌&&◌, ◌||◌, not, option_and_then, IfOk}
 use Rattle.std.specs.Global.{Vec}
 use Rattle.std.specs.Int.{w16, w32, from_be_bytes, to_be_bytes}
 use Rattle.std.specs.List.{flat_map, starts_with}
@@ -13,7 +13,7 @@ use Rattle.std.proofs.lemmas.Bool.{ltb-false, le-ltb}
 use Rattle.std.proofs.lemmas.List.{append_assoc, append-nil, drop-drop, drop_at, take-append-drop, length-append, length-take, length-drop, get_or-drop}
 use Rattle.std.proofs.lemmas.Nat.{be_bytes_2, be_bytes_4, from_be_bytes-to_be_bytes_2, from_be_bytes-to_be_bytes_4}
 use Rattle.std.proofs.lemmas.Str.{IsUtf8-from_is_utf8, is_utf8-from_IsUtf8}
-use Rattle.std.proofs.lemmas.Slice.Eq.{bytes_eq-Decides}
+use Rattle.folder_files.proofs.HexLaws.{bytes_is}
 use Rattle.folder_files.specs.FileNames.{is_kept_file}
 use Rattle.desk_journal.specs.declared.bad_journal.BadJournal.{BadJournal}
 use Rattle.desk_journal.specs.declared.entry.Entry.{Entry}
@@ -43,9 +43,6 @@ both_true a b e = grind arith
 
 neither : (a b : Bool) → (a || not b) ≡ false → (a ≡ false) × (b ≡ true)
 neither a b e = grind arith
-
-bytes_is : (xs ys : List ℕ) → bytes_eq xs ys ≡ true → xs ≡ ys
-bytes_is xs ys e = grind (arith, e, bytes_eq-Decides xs ys)
 
 -- ---- bytes
 

@@ -28,9 +28,6 @@ both_pass [] back e = (refl, e)
 both_pass ((place, true) ∷ front) back e = both_pass front back e
 both_pass ((place, false) ∷ front) back e = absurd cc
 
-pub kept : {A : Type 0} (b : Bool) (x y : A) → cond b (Some x) None ≡ Some y → (b ≡ true) × (x ≡ y)
-kept b x y e = grind arith
-
 -- ---- places
 
 pub from_place : {A : Type 0} (xs : List A) (place : ℕ) (x : A) → slice_get xs place ≡ Some x → drop place xs ≡ x ∷ drop (place + 1) xs

@@ -1,5 +1,6 @@
 -- The values in replies, and their tests (pilot-link, `dlp.c`).
 use Rattle.std.specs.Prelude.{ℕ, Bool, ◌&&◌, List, [], ◌∷◌, length, Option, Some, None, is_some, nat_le, if◌then◌else◌}
+use Rattle.pdb_values.specs.Bounds.{greatest_id, most_bytes}
 use Rattle.pdb_values.specs.PalmDates.{read_wire}
 use Rattle.dlp_args.specs.Fields.{Fields}
 use Rattle.dlp_args.specs.CellReading.{short_text_in}
@@ -16,7 +17,7 @@ first_bad [] = None
 first_bad (check ∷ checks) = if check.1 then first_bad checks else Some check.0
 
 abbrev pub is_id : ℕ → Bool
-is_id number = nat_le number 16777215
+is_id number = nat_le number greatest_id
 
 abbrev pub is_category : ℕ → Bool
 is_category number = nat_le number 15
@@ -49,7 +50,10 @@ user_checks v = (12, is_date v.1.1.1.0) ∷ (20, is_date v.1.1.1.1.0) ∷ []
 -- the id, the category, and at most 65,500 bytes
 abbrev pub record_checks : Fields record_reply → Checks
 record_checks v =
-    (0, is_id v.0) ∷ (9, is_category v.1.1.1.1.0) ∷ (10, nat_le (length v.1.1.1.1.1.0) 65500) ∷ []
+    (0, is_id v.0)
+    ∷ (9, is_category v.1.1.1.1.0)
+    ∷ (10, nat_le (length v.1.1.1.1.1.0) most_bytes)
+    ∷ []
 
 abbrev pub id_checks : Fields id_alone → Checks
 id_checks v = (0, is_id v.0) ∷ []

@@ -3,6 +3,7 @@
 use Rattle.std.specs.Prelude.{◌<◌, ◌≤◌, ◌^◌, ℕ, ◌+◌, List, [], ◌∷◌, ◌++◌, length}
 use Rattle.std.specs.List.{AllByRecursion}
 use Rattle.std.specs.Int.{w16, to_be_bytes}
+use Rattle.pdb_values.specs.Bounds.{most_bytes}
 use Rattle.pdb_values.specs.PalmDates.{wire_date}
 use Rattle.dlp_args.specs.Arguments.{arg_text}
 use Rattle.dlp_args.specs.Cells.{CellKind, HasNoZero}
@@ -108,9 +109,9 @@ ValuesFit (ReadUserInfo user viewer pc good last name password) =
     × (length password ≤ 40)
 ValuesFit (ReadDbList last flags entries) = AllByRecursion IsEntry entries
 ValuesFit (ReadNextModifiedRec id index size attributes category bytes) =
-    IsId id × (category ≤ 15) × (length bytes ≤ 65500)
+    IsId id × (category ≤ 15) × (length bytes ≤ most_bytes)
 ValuesFit (ReadRecord id index size attributes category bytes) =
-    IsId id × (category ≤ 15) × (length bytes ≤ 65500)
+    IsId id × (category ≤ 15) × (length bytes ≤ most_bytes)
 ValuesFit (WriteRecord id) = IsId id
 ValuesFit (ReadRecordIdList ids) = AllByRecursion IsId ids
 ValuesFit value = Unit {0}

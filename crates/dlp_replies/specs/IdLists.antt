@@ -2,6 +2,7 @@
 use Rattle.std.specs.Prelude.{ℕ, ◌+◌, ◌≤◌, List, [], ◌∷◌}
 use Rattle.std.specs.List.{flat_map}
 use Rattle.std.specs.Int.{w32, from_be_bytes, to_be_bytes}
+use Rattle.pdb_values.specs.Bounds.{greatest_id}
 use Rattle.dlp_replies.specs.Checks.{Checks, is_id}
 
 -- the texts of ids, four bytes each
@@ -10,7 +11,7 @@ ids_text ids = flat_map (to_be_bytes w32) ids
 
 -- a number of 24 bits
 abbrev pub IsId : ℕ → Type 0
-IsId id = id ≤ 16777215
+IsId id = id ≤ greatest_id
 
 -- the numbers of each four bytes
 unfoldable pub words : List ℕ → List ℕ

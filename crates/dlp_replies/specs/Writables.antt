@@ -2,6 +2,7 @@
 -- (pilot-link, `dlp.c`).
 use Rattle.std.specs.Prelude.{◌≡◌, ◌<◌, ◌≤◌, ℕ, length}
 use Rattle.std.specs.List.{AllByRecursion}
+use Rattle.pdb_values.specs.Bounds.{most_bytes}
 use Rattle.pdb_values.specs.declared.head.DbHead.{DbHead}
 use Rattle.dlp_args.specs.Cells.{HasNoZero}
 use Rattle.dlp_replies.specs.Frames.{reply_text}
@@ -22,11 +23,12 @@ KeepsBounds (ReadUserInfo user viewer pc good last name password) =
 KeepsBounds (ReadSysInfo rom locale product) = length product ≤ 255
 KeepsBounds (ReadDbList last flags entries) =
     (length entries ≤ 255) × AllByRecursion HasNoSeed entries
-KeepsBounds (ReadAppBlock bytes) = length bytes ≤ 65500
-KeepsBounds (ReadSortBlock bytes) = length bytes ≤ 65500
-KeepsBounds (ReadNextModifiedRec id index size attributes category bytes) = length bytes ≤ 65500
-KeepsBounds (ReadRecord id index size attributes category bytes) = length bytes ≤ 65500
-KeepsBounds (ReadResource kind id index size bytes) = length bytes ≤ 65500
+KeepsBounds (ReadAppBlock bytes) = length bytes ≤ most_bytes
+KeepsBounds (ReadSortBlock bytes) = length bytes ≤ most_bytes
+KeepsBounds (ReadNextModifiedRec id index size attributes category bytes) =
+    length bytes ≤ most_bytes
+KeepsBounds (ReadRecord id index size attributes category bytes) = length bytes ≤ most_bytes
+KeepsBounds (ReadResource kind id index size bytes) = length bytes ≤ most_bytes
 KeepsBounds value = Unit {0}
 
 -- the fields keep their bounds, and the text fits into a message

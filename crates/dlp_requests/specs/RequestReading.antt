@@ -49,71 +49,56 @@ abbrev pub with_or_bare : Form → Form → Option ℕ → List Argument → Res
 with_or_bare this bare None arguments = request_by bare arguments
 with_or_bare this bare (Some id) arguments = request_by this arguments
 
+-- the form of a function's request; of two forms the one whose argument is 0x20
+abbrev pub form_of : Function → Form
+form_of function.ReadUserInfo = form.ReadUserInfo
+form_of function.WriteUserInfo = form.WriteUserInfo
+form_of function.ReadSysInfo = form.ReadSysInfoFor
+form_of function.ReadDbList = form.ReadDbList
+form_of function.OpenDb = form.OpenDb
+form_of function.CreateDb = form.CreateDb
+form_of function.CloseDb = form.CloseDb
+form_of function.DeleteDb = form.DeleteDb
+form_of function.ReadAppBlock = form.ReadAppBlock
+form_of function.WriteAppBlock = form.WriteAppBlock
+form_of function.ReadSortBlock = form.ReadSortBlock
+form_of function.WriteSortBlock = form.WriteSortBlock
+form_of function.ReadNextModifiedRec = form.ReadNextModifiedRec
+form_of function.ReadRecord = form.ReadRecordById
+form_of function.WriteRecord = form.WriteRecord
+form_of function.DeleteRecord = form.DeleteRecord
+form_of function.ReadResource = form.ReadResourceByIndex
+form_of function.WriteResource = form.WriteResource
+form_of function.DeleteResource = form.DeleteResource
+form_of function.CleanUpDatabase = form.CleanUpDatabase
+form_of function.ResetSyncFlags = form.ResetSyncFlags
+form_of function.AddSyncLogEntry = form.AddSyncLogEntry
+form_of function.ReadOpenDbInfo = form.ReadOpenDbInfo
+form_of function.MoveCategory = form.MoveCategory
+form_of function.OpenConduit = form.OpenConduit
+form_of function.EndOfSync = form.EndOfSync
+form_of function.ResetRecordIndex = form.ResetRecordIndex
+form_of function.ReadRecordIdList = form.ReadRecordIdList
+
 -- the request of a function by its arguments
 unfoldable pub request_of : Function → List Argument → Result RequestValue RequestFault
-request_of function.ReadUserInfo arguments = request_by form.ReadUserInfo arguments
-request_of function.WriteUserInfo arguments = request_by form.WriteUserInfo arguments
 request_of function.ReadSysInfo arguments =
     with_or_bare form.ReadSysInfoFor form.ReadSysInfo (first_id arguments) arguments
-request_of function.ReadDbList arguments = request_by form.ReadDbList arguments
-request_of function.OpenDb arguments = request_by form.OpenDb arguments
-request_of function.CreateDb arguments = request_by form.CreateDb arguments
-request_of function.CloseDb arguments = request_by form.CloseDb arguments
-request_of function.DeleteDb arguments = request_by form.DeleteDb arguments
-request_of function.ReadAppBlock arguments = request_by form.ReadAppBlock arguments
-request_of function.WriteAppBlock arguments = request_by form.WriteAppBlock arguments
-request_of function.ReadSortBlock arguments = request_by form.ReadSortBlock arguments
-request_of function.WriteSortBlock arguments = request_by form.WriteSortBlock arguments
-request_of function.ReadNextModifiedRec arguments = request_by form.ReadNextModifiedRec arguments
 request_of function.ReadRecord arguments =
     by_id_21 form.ReadRecordByIndex form.ReadRecordById (first_id arguments) arguments
-request_of function.WriteRecord arguments = request_by form.WriteRecord arguments
-request_of function.DeleteRecord arguments = request_by form.DeleteRecord arguments
 request_of function.ReadResource arguments =
     by_id_21 form.ReadResourceByType form.ReadResourceByIndex (first_id arguments) arguments
-request_of function.WriteResource arguments = request_by form.WriteResource arguments
-request_of function.DeleteResource arguments = request_by form.DeleteResource arguments
-request_of function.CleanUpDatabase arguments = request_by form.CleanUpDatabase arguments
-request_of function.ResetSyncFlags arguments = request_by form.ResetSyncFlags arguments
-request_of function.AddSyncLogEntry arguments = request_by form.AddSyncLogEntry arguments
-request_of function.ReadOpenDbInfo arguments = request_by form.ReadOpenDbInfo arguments
-request_of function.MoveCategory arguments = request_by form.MoveCategory arguments
-request_of function.OpenConduit arguments = request_by form.OpenConduit arguments
-request_of function.EndOfSync arguments = request_by form.EndOfSync arguments
-request_of function.ResetRecordIndex arguments = request_by form.ResetRecordIndex arguments
-request_of function.ReadRecordIdList arguments = request_by form.ReadRecordIdList arguments
+request_of other arguments = request_by (form_of other) arguments
 
 -- the request of a function whose one argument, 0x20, has these bytes; the other functions have
 -- none
 unfoldable pub request_with : Function → List ℕ → Option RequestValue
-request_with function.WriteUserInfo bytes = request_in form.WriteUserInfo bytes
-request_with function.ReadDbList bytes = request_in form.ReadDbList bytes
-request_with function.OpenDb bytes = request_in form.OpenDb bytes
-request_with function.CreateDb bytes = request_in form.CreateDb bytes
-request_with function.CloseDb bytes = request_in form.CloseDb bytes
-request_with function.DeleteDb bytes = request_in form.DeleteDb bytes
-request_with function.ReadAppBlock bytes = request_in form.ReadAppBlock bytes
-request_with function.ReadSortBlock bytes = request_in form.ReadSortBlock bytes
-request_with function.WriteAppBlock bytes = request_in form.WriteAppBlock bytes
-request_with function.WriteSortBlock bytes = request_in form.WriteSortBlock bytes
-request_with function.ReadNextModifiedRec bytes = request_in form.ReadNextModifiedRec bytes
-request_with function.WriteRecord bytes = request_in form.WriteRecord bytes
-request_with function.DeleteRecord bytes = request_in form.DeleteRecord bytes
-request_with function.WriteResource bytes = request_in form.WriteResource bytes
-request_with function.DeleteResource bytes = request_in form.DeleteResource bytes
-request_with function.CleanUpDatabase bytes = request_in form.CleanUpDatabase bytes
-request_with function.ResetSyncFlags bytes = request_in form.ResetSyncFlags bytes
-request_with function.ResetRecordIndex bytes = request_in form.ResetRecordIndex bytes
-request_with function.AddSyncLogEntry bytes = request_in form.AddSyncLogEntry bytes
-request_with function.ReadOpenDbInfo bytes = request_in form.ReadOpenDbInfo bytes
-request_with function.MoveCategory bytes = request_in form.MoveCategory bytes
-request_with function.EndOfSync bytes = request_in form.EndOfSync bytes
-request_with function.ReadRecordIdList bytes = request_in form.ReadRecordIdList bytes
 request_with function.ReadUserInfo bytes = None
 request_with function.ReadSysInfo bytes = None
 request_with function.OpenConduit bytes = None
 request_with function.ReadRecord bytes = None
 request_with function.ReadResource bytes = None
+request_with other bytes = request_in (form_of other) bytes
 
 -- the function that a byte names, or `Illegal`
 abbrev pub known : ℕ → Option Function → Result Function RequestFault

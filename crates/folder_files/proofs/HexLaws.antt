@@ -12,6 +12,7 @@ use Rattle.std.proofs.lemmas.Slice.Eq.{bytes_eq-Decides}
 use Rattle.hex.specs.Hex.{IsBytes, decode_sized, encode_lower, encode_with, lower_digits}
 use Rattle.hex.specs.declared.error.FromHexError.{FromHexError}
 use Rattle.hex.proofs.HexLemmas.{decode_of-ok, decode_sized-encode_lower, decode_sized-ok, decode_sized-twice, length-encode_with}
+use Rattle.pdb_values.proofs.NamedLaws.{bytes_eq-other, bytes_eq-own}
 use Rattle.folder_files.specs.Hexadecimal.{bytes_in, bytes_text, few_bytes_in}
 
 -- ---- steps that did not fail
@@ -36,14 +37,8 @@ chosen b x y z e = grind arith
 
 -- ---- equal bytes
 
-pub bytes_same : (xs : List ℕ) → bytes_eq xs xs ≡ true
-bytes_same xs = grind (arith, bytes_eq-Decides xs xs)
-
 pub bytes_is : (xs ys : List ℕ) → bytes_eq xs ys ≡ true → xs ≡ ys
 bytes_is xs ys e = grind (arith, e, bytes_eq-Decides xs ys)
-
-bytes_other : (xs ys : List ℕ) → (xs ≡ ys → ⊥) → bytes_eq xs ys ≡ false
-bytes_other xs ys other = grind (arith, other, bytes_eq-Decides xs ys)
 
 -- ---- exactly so many bytes
 
@@ -67,7 +62,7 @@ bytes_in-found count text bytes e =
 
 pub bytes_in-only : (bytes : List ℕ) (count : ℕ) → length bytes ≡ count → IsBytes bytes → bytes_in count (encode_lower bytes) ≡ Some bytes
 unfolding bytes_in
-bytes_in-only bytes count len fits = grind (arith, nat_tests, common_steps, decode_sized-encode_lower, bytes_same)
+bytes_in-only bytes count len fits = grind (arith, nat_tests, common_steps, decode_sized-encode_lower, bytes_eq-own)
 
 -- ---- none to 40 bytes
 
@@ -82,7 +77,7 @@ few_bytes_in-found text bytes e =
 pub few_bytes_in-only : (bytes : List ℕ) → length bytes ≤ 40 → IsBytes bytes → few_bytes_in (bytes_text bytes) ≡ Some bytes
 unfolding few_bytes_in
 few_bytes_in-only [] few fits = refl
-few_bytes_in-only (byte ∷ bytes) few fits = grind (arith, nat_tests, common_steps, length-encode_with, bytes_other, ne_eqb, le-ltb, bytes_in-only)
+few_bytes_in-only (byte ∷ bytes) few fits = grind (arith, nat_tests, common_steps, length-encode_with, bytes_eq-other, ne_eqb, le-ltb, bytes_in-only)
 
 -- ---- no line feed
 

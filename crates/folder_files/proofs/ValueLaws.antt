@@ -15,10 +15,11 @@ use Rattle.hex.specs.Hex.{IsBytes, encode_lower, lower_digits}
 use Rattle.hex.proofs.HexLemmas.{length-encode_with}
 use Rattle.pdb_values.specs.PalmDates.{read_wire}
 use Rattle.pdb_values.specs.Users.{password_of, user_name_of}
+use Rattle.pdb_values.proofs.NamedLaws.{bytes_eq-own}
 use Rattle.folder_files.specs.Hexadecimal.{IsWireDate, bytes_in, bytes_text, date_in, few_bytes_in}
 use Rattle.folder_files.specs.Lines.{ValueKind, Title, Number, Positive, Date, Name, Password, Count, Slot, Value, Says, slot_text}
 use Rattle.folder_files.specs.Reading.{behind, count_in, field_at, if_positive, number_in, slot_in, value_in}
-use Rattle.folder_files.proofs.HexLaws.{HasNoFeed, bind_some, bytes_is, bytes_same, bytes_in-found, bytes_in-only, bytes_text-no_feed, encode_lower-no_feed}
+use Rattle.folder_files.proofs.HexLaws.{HasNoFeed, bind_some, bytes_is, bytes_in-found, bytes_in-only, bytes_text-no_feed, encode_lower-no_feed}
 use Rattle.folder_files.proofs.HexLaws.{feed_past, few_bytes_in-found, few_bytes_in-only, guard_some, map_some, some_is, test_some}
 
 -- ---- line feeds and keys
@@ -37,7 +38,7 @@ behind_found key line text e =
 
 pub behind_only : (key text : List ℕ) → behind key (key ++ text) ≡ Some text
 unfolding behind
-behind_only key text = grind (arith, nat_tests, common_steps, take_at, bytes_same, drop_at)
+behind_only key text = grind (arith, nat_tests, common_steps, take_at, bytes_eq-own, drop_at)
 
 -- ---- what a text says
 

@@ -1,7 +1,7 @@
 -- Ids that differ, and of which none is 0, stay so through each operation on records.
 use Rattle.std.proofs.lemmas.Grind.{common_steps}
 use Rattle.std.proofs.Common.{◌≡◌, ℕ, ◌<◌, Bool, false, cond, List, [], ◌∷◌, map, refl, arith}
-use Rattle.std.specs.Prelude.{filter, ◌||◌, ◌==◌}
+use Rattle.std.specs.Prelude.{filter, ◌==◌}
 use Rattle.std.proofs.lemmas.Bool.Decides.{nat_tests}
 use Rattle.pdb_values.specs.Contents.{ContentValue}
 use Rattle.pdb_values.specs.declared.record.Record.{Record}
@@ -9,9 +9,6 @@ use Rattle.palm_device.specs.Entries.{put_entry, without_entry}
 use Rattle.palm_device.specs.FreshIds.{is_among}
 use Rattle.palm_device.specs.Records.{has_id, rewritten, put_record, without_record}
 use Rattle.palm_device.specs.Soundness.{ids_of, AreIds}
-
-or_false : (a b : Bool) → (a || b) ≡ false → (a ≡ false) × (b ≡ false)
-or_false a b none = grind arith
 
 -- ---- records that are left out
 

@@ -1,6 +1,6 @@
 -- When an edit makes another database.
 use Rattle.std.proofs.lemmas.Grind.{common_steps}
-use Rattle.std.proofs.Common.{◌≡◌, ℕ, zero, suc, ◌≤◌, Bool, true, false, cond, not, ◌&&◌, ◌||◌, List, [], ◌∷◌, ◌++◌, map, length, refl, ap, sym, ◌∙◌, arith}
+use Rattle.std.proofs.Common.{◌≡◌, ℕ, zero, suc, Bool, true, false, cond, not, ◌&&◌, ◌||◌, List, [], ◌∷◌, ◌++◌, map, length, refl, ap, sym, ◌∙◌, arith}
 use Rattle.std.proofs.Common.{slice_get, slice_set}
 use Rattle.std.specs.Prelude.{Option, None, Some, IsTrue, filter, find, is_some, position}
 use Rattle.std.specs.Option.{option_map}
@@ -16,6 +16,7 @@ use Rattle.palm_device.specs.Edits.{Tells}
 use Rattle.palm_device.specs.Entries.{change_at, set_some, without_entry}
 use Rattle.palm_device.specs.Records.{clean, move_category, moved, place_of_id, put_record, reset_flags, stays_in, with_records, without_record}
 use Rattle.palm_device.specs.Resources.{is_resource, new_resource, place_of_resource, put_resource, with_resources, without_resource}
+use Rattle.palm_device.proofs.BoundLaws.{length-filter}
 use Rattle.palm_device.proofs.EntryLaws.{filter_all, put_entry_at, without_entry_none}
 use Rattle.palm_device.proofs.RecordLaws.{put_record_new}
 use Rattle.palm_device.proofs.ResourceLaws.{put_resource_new, without_resource_none}
@@ -37,10 +38,6 @@ without_differs : {X : Type 0} (test : X → Bool) (xs : List X) → list_any te
 unfolding without_entry
 without_differs test [] some same = absurd cc
 without_differs {X = X} test (x ∷ xs) some same = grind (arith, without_differs test xs)
-
-length-filter : {X : Type 0} (keep : X → Bool) (xs : List X) → length (filter keep xs) ≤ length xs
-length-filter keep [] = omega arith
-length-filter keep (x ∷ xs) = grind (arith, nat_tests, common_steps, length-filter keep xs)
 
 -- where all that is kept is all, all is kept
 all_kept : {X : Type 0} (keep : X → Bool) (xs : List X) → filter keep xs ≡ xs → list_all keep xs ≡ true

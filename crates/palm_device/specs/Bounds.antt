@@ -3,6 +3,7 @@
 -- Specification).
 use Rattle.std.specs.Prelude.{◌≡◌, ◌<◌, ◌≤◌, ◌^◌, ◌==◌, false, length, IfSome}
 use Rattle.std.specs.List.{AllByRecursion, list_any}
+use Rattle.pdb_values.specs.Bounds.{greatest_id, most_bytes}
 use Rattle.pdb_values.specs.Databases.{DatabaseValue, IsDatabase}
 use Rattle.pdb_values.specs.Names.{IsName}
 use Rattle.pdb_values.specs.declared.head.DbHead.{DbHead}
@@ -14,15 +15,15 @@ use Rattle.palm_device.specs.declared.opened.Opened.{Opened}
 
 -- an id of 24 bits, one of the sixteen categories, and at most 65,500 bytes
 pub record IsBoundedRecord (item : Record) : Type 0 where
-  pub id : item.id ≤ 16777215
+  pub id : item.id ≤ greatest_id
   pub category : item.content.category ≤ 15
-  pub short : length item.content.bytes ≤ 65500
+  pub short : length item.content.bytes ≤ most_bytes
 
 -- a type of four bytes, a number of 16 bits, and at most 65,500 bytes
 pub record IsBoundedResource (resource : Resource) : Type 0 where
   pub kind : length resource.kind.0 ≡ 4
   pub id : resource.id < 2 ^ 16
-  pub short : length resource.bytes ≤ 65500
+  pub short : length resource.bytes ≤ most_bytes
 
 -- the fields of a header
 pub record IsBoundedHead (head : DbHead) : Type 0 where

@@ -1,5 +1,6 @@
 -- What an edit makes of a database (pilot-link, `pi-dlp.h`), and when it can be done.
 use Rattle.std.specs.Prelude.{◌≡◌, ◌<◌, ◌≤◌, ℕ, Bool, true, false, [], filter, length, ◌==◌}
+use Rattle.pdb_values.specs.Bounds.{most_bytes, most_entries}
 use Rattle.pdb_values.specs.Databases.{DatabaseValue}
 use Rattle.pdb_values.specs.Heads.{holds_resources}
 use Rattle.palm_device.specs.Blocks.{with_app, with_sort}
@@ -44,13 +45,13 @@ gives_free other = false
 -- the edit can be done: its data is short, there is room for it, and the database holds what it
 -- changes
 abbrev pub IsFor : DatabaseValue → Edit → Type 0
-IsFor database (edit.AppBlock bytes) = length bytes.now ≤ 65500
-IsFor database (edit.SortBlock bytes) = length bytes.now ≤ 65500
+IsFor database (edit.AppBlock bytes) = length bytes.now ≤ most_bytes
+IsFor database (edit.SortBlock bytes) = length bytes.now ≤ most_bytes
 IsFor database (edit.Record id category secret bytes) =
-    (length bytes.now ≤ 65500) × (holds_resources database.head.attributes ≡ false)
-    × (is_new id database.records ≡ true → length database.records < 65535)
+    (length bytes.now ≤ most_bytes) × (holds_resources database.head.attributes ≡ false)
+    × (is_new id database.records ≡ true → length database.records < most_entries)
 IsFor database (edit.Resource kind id bytes) =
-    (length bytes.now ≤ 65500) × (holds_resources database.head.attributes ≡ true)
+    (length bytes.now ≤ most_bytes) × (holds_resources database.head.attributes ≡ true)
     × (has_room kind.0 id database.resources ≡ true)
 IsFor database other = Unit {0}
 

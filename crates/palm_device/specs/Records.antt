@@ -2,6 +2,7 @@
 use Rattle.std.specs.Prelude.{◌≡◌, ℕ, ◌+◌, ◌≤◌, ◌<◌, Bool, true, false, not, ◌||◌, ◌&&◌, List, map, filter, drop, position, find, Option, None, is_none, ◌==◌}
 use Rattle.std.specs.Prelude.{if◌then◌else◌}
 use Rattle.std.specs.Option.{option_map}
+use Rattle.pdb_values.specs.Bounds.{greatest_id}
 use Rattle.pdb_values.specs.Contents.{ContentValue}
 use Rattle.pdb_values.specs.Databases.{DatabaseValue}
 use Rattle.pdb_values.specs.Records.{is_live}
@@ -23,7 +24,7 @@ record_of id records = find (has_id id) records
 -- an id from 1 to 16,777,215 that no record has, deleted ones included
 pub record IsFree (id : ℕ) (records : List Record) : Type 0 where
   pub some : 0 < id
-  pub bound : id ≤ 16777215
+  pub bound : id ≤ greatest_id
   pub none : place_of_id id records ≡ None
 
 -- a record is in this category

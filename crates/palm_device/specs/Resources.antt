@@ -1,6 +1,7 @@
 -- Resources of a database by type and id, and what becomes of them (pilot-link, `pi-dlp.h`).
 use Rattle.std.specs.Prelude.{ℕ, Bool, ◌&&◌, ◌||◌, ◌==◌, List, length, nat_lt, is_some, position, Option}
 use Rattle.std.specs.Str.{bytes_eq}
+use Rattle.pdb_values.specs.Bounds.{most_entries}
 use Rattle.pdb_values.specs.Databases.{DatabaseValue}
 use Rattle.pdb_values.specs.Resources.{with_bytes}
 use Rattle.pdb_values.specs.declared.resource.Resource.{Resource}
@@ -17,7 +18,7 @@ place_of_resource kind id resources = position (is_resource kind id) resources
 -- a resource of this type and id is there, or one more fits
 abbrev pub has_room : List ℕ → ℕ → List Resource → Bool
 has_room kind id resources =
-    is_some (place_of_resource kind id resources) || nat_lt (length resources) 65535
+    is_some (place_of_resource kind id resources) || nat_lt (length resources) most_entries
 
 -- a new resource
 abbrev pub new_resource : List ℕ → ℕ → List ℕ → Resource

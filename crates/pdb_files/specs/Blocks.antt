@@ -3,6 +3,7 @@
 -- reaches to the next one or to the end of the file.
 use Rattle.std.specs.Prelude.{ℕ, ◌+◌, ◌-◌, ◌||◌, ◌≤◌, nat_lt, Bool, zero, suc, List, [], ◌∷◌, ◌++◌, length, drop, map, slice_range, Option, Some, None}
 use Rattle.std.specs.List.{AllByRecursion, zip, position_from}
+use Rattle.pdb_values.specs.Bounds.{most_bytes}
 
 -- where each block begins, the first one at a place
 abbrev pub begins_from : ℕ → List (List ℕ) → List ℕ
@@ -62,7 +63,7 @@ first_misplaced entries_end end begins =
 
 -- more than 65,500 bytes
 abbrev pub is_oversized : (ℕ × ℕ) → Bool
-is_oversized span = nat_lt 65500 (span.1 - span.0)
+is_oversized span = nat_lt most_bytes (span.1 - span.0)
 
 -- the least block that is too large
 abbrev pub first_oversized : ℕ → List ℕ → Option ℕ
@@ -76,7 +77,7 @@ AreInOrder before end (begin ∷ begins) =
 
 -- no block is too large
 abbrev pub AreShort : List (List ℕ) → Type 0
-AreShort blocks = AllByRecursion (λ block. length block ≤ 65500) blocks
+AreShort blocks = AllByRecursion (λ block. length block ≤ most_bytes) blocks
 
 -- where a list of blocks goes on: where the next one begins, or at the end
 abbrev pub next_begin : List ℕ → ℕ → ℕ

@@ -7,3 +7,8 @@ pub record ContentValue : Type 0 where
   pub category : ℕ
   pub secret : Bool
   pub bytes : List ℕ
+
+-- the content of this category and secrecy with these bytes
+abbrev pub content_with : ℕ → Bool → List ℕ → ContentValue
+content_with category secret bytes =
+    record { category = category; secret = secret; bytes = bytes }

@@ -33,6 +33,8 @@ impl Model for Content {
 }
 
 impl Content {
+    ghost use Rattle.pdb_values.specs.Contents.{content_with};
+
     /// The greatest length of a record.
     pub const LIMIT: usize = 65_500;
 
@@ -40,7 +42,7 @@ impl Content {
     pub fn new(category: Category, secret: bool, bytes: Vec<u8>) -> Result<Content, TooLarge>
         ensures { MatchResult result
             (λ content. (vec_len bytes ≤ 65500)
-            × (content ≡ record { category = category; secret = secret; bytes = bytes.items }))
+            × (content ≡ content_with category secret bytes.items))
             (λ refused. (65500 < vec_len bytes) × (refused.0.items ≡ bytes.items)) }
     {
         if bytes.len() > Self::LIMIT {
