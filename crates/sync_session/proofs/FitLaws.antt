@@ -4,7 +4,7 @@ use Rattle.std.proofs.lemmas.Bool.Decides.{nat_tests}
 use Rattle.std.proofs.lemmas.Bool.{or_parts}
 use Rattle.std.proofs.lemmas.List.{length-append, length-drop, length-map}
 use Rattle.std.proofs.lemmas.Nat.{and_mod}
-use Rattle.std.proofs.Common.{◌≡◌, ◌∙◌, ◌<◌, ◌≤◌, ◌-◌, ◌%◌, ap, refl, sym, subst, inl, inr, ◌⊎◌, ℕ, suc, Bool, true, false, List, [], ◌∷◌, ◌++◌}
+use Rattle.std.proofs.Common.{◌≡◌, ◌∙◌, ◌<◌, ◌≤◌, ◌-◌, ◌%◌, ap, refl, sym, subst, inl, inr, ◌⊎◌, ℕ, suc, Bool, true, false, List, [], ◌∷◌}
 use Rattle.std.proofs.Common.{arith, length, map, bit_and}
 use Rattle.std.specs.Prelude.{◌==◌, Option, Some, None, IfSome, IsSome, if◌then◌else◌, is_none, is_some, Result, Ok, Err}
 use Rattle.std.specs.Option.{option_or}

@@ -1,10 +1,9 @@
 -- Planned databases that are those of a meeting: from what was seen, their sizes, and what is told of them.
-use Rattle.std.proofs.Common.{◌≡◌, ◌∙◌, ◌<◌, ◌≤◌, ◌+◌, ◌-◌, ap, refl, sym, ℕ, zero, suc, Bool, true, false, List, [], ◌∷◌, ◌++◌, length, length-append, map}
+use Rattle.std.proofs.Common.{◌≡◌, ◌∙◌, ◌<◌, ◌≤◌, ◌+◌, ◌-◌, ap, refl, sym, ℕ, Bool, true, false, List, [], ◌∷◌, ◌++◌, length, map}
 use Rattle.std.proofs.Common.{Option, Some, None, arith}
 use Rattle.std.proofs.Math.Nat.{min-eq_left}
 use Rattle.std.proofs.lemmas.Bool.{or_parts}
 use Rattle.std.proofs.lemmas.Bool.Decides.{nat_tests}
-use Rattle.std.proofs.lemmas.Grind.{common_steps}
 use Rattle.std.specs.Prelude.{filter, if◌then◌else◌, is_none, is_some, nat_lt}
 use Rattle.std.specs.List.{AllByRecursion}
 use Rattle.std.specs.Option.{option_map}
@@ -19,7 +18,7 @@ use Rattle.palm_device.specs.Devices.{Device}
 use Rattle.palm_device.specs.Soundness.{AreIds, ids_of}
 use Rattle.palm_device.proofs.BoundLaws.{length-filter}
 use Rattle.dlp_commands.specs.DatabaseFunctions.{listed}
-use Rattle.conduit_rules.specs.ById.{each_below, each_id, id_bound, with_id}
+use Rattle.conduit_rules.specs.ById.{each_id, id_bound, with_id}
 use Rattle.conduit_rules.specs.Contents.{same_content}
 use Rattle.conduit_rules.specs.States.{SideState, archived, first, live, nothing}
 use Rattle.conduit_rules.specs.Views.{fast_seen, fast_view, slow_seen, slow_view}

@@ -5,7 +5,6 @@ use Rattle.std.specs.Global.{Vec}
 use Rattle.hs_folders.specs.FileMaps.{FileMap}
 use Rattle.hs_folders.specs.Moments.{Moments}
 use Rattle.pdb_values.specs.Slots.{slot_for}
-use Rattle.pdb_values.specs.declared.slot.Slot.TheVariants as slot
 use Rattle.pdb_values.specs.declared.head.DbHead.{DbHead}
 use Rattle.pdb_values.specs.declared.user.Marks.{Marks}
 use Rattle.pdb_values.specs.declared.user.UserInfo.{UserInfo}
@@ -19,7 +18,6 @@ use Rattle.desk_store.specs.Views.{DeskValue, marks_in, shelves_in}
 use Rattle.desktop_session.specs.declared.ending.Ended.{Ended}
 use Rattle.desktop_session.specs.declared.ending.Halted.{Halted}
 use Rattle.desktop_session.specs.declared.fault.SessionFault.{SessionFault}
-use Rattle.desktop_session.specs.declared.fault.SessionFault.TheVariants as session
 use Rattle.desktop_session.specs.Acts.{Act}
 use Rattle.desktop_session.specs.Requests.{ending, marking}
 use Rattle.desktop_session.specs.Lasts.{IsByLastReply}

@@ -1,8 +1,5 @@
 -- The ids that new records get: each database gets as many as it has new records.
 use Rattle.std.specs.Prelude.{◌≡◌, ℕ, List, [], ◌∷◌, length, if◌then◌else◌, is_none}
-use Rattle.palm_device.specs.Devices.{Device}
-use Rattle.dlp_commands.specs.DeviceSteps.{FormMayGive}
-use Rattle.desktop_session.specs.Acts.{Act, acted}
 use Rattle.session_plan.specs.Choosing.{add_count}
 use Rattle.session_plan.specs.Skips.{skip_of}
 use Rattle.session_plan.specs.Tasks.{Meeting, Task}

@@ -1,13 +1,10 @@
 -- What a session leaves of the desktop's folder, over any link.
-use Rattle.std.specs.Prelude.{◌≡◌, ◌⊎◌, ℕ, List, Option, OnOk, Some, IsErrOf}
+use Rattle.std.specs.Prelude.{◌≡◌, ◌⊎◌, ℕ, List, Option, OnOk, IsErrOf}
 use Rattle.std.specs.List.{AllByRecursion}
 use Rattle.std.specs.Option.{option_map}
 use Rattle.hs_folders.specs.Causes.{HasCause}
 use Rattle.hs_folders.specs.FileMaps.{FileMap}
 use Rattle.hs_folders.specs.Moments.{EachMomentSince, Moments}
-use Rattle.dlp_commands.specs.declared.link.LinkFault.{LinkFault}
-use Rattle.dlp_commands.specs.declared.link.LinkFault.TheVariants.{Down}
-use Rattle.dlp_commands.specs.Links.{WentDown}
 use Rattle.folder_files.specs.FileNames.{desktop_info_file}
 use Rattle.desk_journal.specs.Entries.{EntryValue}
 use Rattle.desk_journal.specs.Overlays.{FinishesAs, put_all}

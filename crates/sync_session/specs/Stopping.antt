@@ -1,8 +1,6 @@
 -- Why a session stops, by what a part of it answered.
 use Rattle.std.specs.Prelude.{◌≡◌, ℕ, List, Option, None, Some, Result, Ok, Err}
 use Rattle.std.specs.Global.{Vec}
-use Rattle.desk_store.specs.declared.fault.CommitFault.{CommitFault}
-use Rattle.desk_store.specs.declared.fault.CommitFault.TheVariants as commit
 use Rattle.desktop_session.specs.declared.fault.SessionFault.TheVariants as session
 use Rattle.session_parts.specs.declared.report.DbReport.{DbReport}
 use Rattle.session_parts.specs.declared.stop.Stop.{Stop}

@@ -1,7 +1,6 @@
 -- The mark, and then the news.
 use Rattle.std.proofs.Common.{refl}
 use Rattle.std.proofs.lemmas.Result.{err_from_is_err_and}
-use Rattle.dlp_replies.specs.ReplyReading.{reply_at}
 use Rattle.desktop_session.specs.Answers.{no_more}
 use Rattle.slow_mirror.proofs.AskLaws.{answered_none}
 use Rattle.session_parts.proofs.CauseLaws.{later_refused}
