@@ -20,3 +20,4 @@ pub mod SeatLaws
 pub mod SessionJoins
 pub mod SwapLaws
 pub mod TakenLaws
+pub mod ViewLaws

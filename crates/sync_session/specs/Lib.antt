@@ -12,3 +12,4 @@ pub mod Readings
 pub mod Reads
 pub mod Sessions
 pub mod Stopping
+pub mod Unseen

@@ -1,11 +1,12 @@
 // What a session does before it writes.
-ghost use Rattle.std.specs.Prelude.{◌≡◌, OnOk, false};
+ghost use Rattle.std.specs.Prelude.{◌≡◌, All, OnOk, false};
 ghost use Rattle.desk_store.specs.Views.{marks_in, shelves_in};
 ghost use Rattle.sync_session.specs.Courses.{JudgesPlanned, Prepares, ReadsAll};
+ghost use Rattle.sync_session.specs.Unseen.{HasNoView, SameButViews};
 ghost use Rattle.session_plan.specs.PlannedLosses.{loss_planned};
 ghost use Rattle.sync_session.specs.Stopping.{refusal_by};
 
-use crate::reading::read_all;
+use crate::reading::{no_view, read_all};
 use desk_store::Desk;
 use desktop_session::{Linked, SessionFault};
 use dlp_commands::Link;
@@ -21,6 +22,19 @@ use std::alloc::Global;
 pub struct Prepared {
     pub planned: Vec<Planned>,
     pub reports: Vec<DbReport>,
+}
+
+/// The same databases without what was seen of their records: once it is judged what is done, nothing needs it, and it
+/// takes as much memory as the records do.
+pub fn without_views(alloc: Global, planned: Vec<Planned>) -> Vec<Planned>
+    ensures same { SameButViews planned.items result.items }
+    ensures views { All HasNoView result.items }
+{
+    let mut planned = planned;
+    for one in planned.iter_mut() {
+        one.view = no_view(alloc);
+    }
+    planned
 }
 
 /// Reads each database of a session, and plans what is done with it.

@@ -79,7 +79,7 @@ fn base_rows<'d, D: Folder>(desk: &'d Desk<D>, name: &DbName) -> &'d [Record]
 }
 
 // A view of no records.
-fn no_view(alloc: Global) -> View
+pub(crate) fn no_view(alloc: Global) -> View
     ensures { result.seen.items ≡ [] }
 {
     View {

@@ -19,7 +19,7 @@ ghost use Rattle.session_plan.specs.Users.{agreed_user};
 
 use crate::ending::end_all;
 use crate::giving::send_all;
-use crate::preparing::{Prepared, prepare};
+use crate::preparing::{Prepared, prepare, without_views};
 use desk_store::Desk;
 use desktop_session::{Halted, Linked, SessionFault};
 use dlp_commands::Link;
@@ -124,6 +124,10 @@ fn write<L: Link, D: Folder>(
         prepared linked desk result }
 {
     let mut linked = linked;
+    let prepared = Prepared {
+        planned: without_views(alloc, prepared.planned),
+        reports: prepared.reports,
+    };
     match send_all(alloc, &mut linked, &prepared.planned) {
         Ok(ids) => commit(alloc, linked, desk, prepared, &ids, date),
         Err(cause) => stopped(link_of(linked), desk, Stop::Session(cause)),
