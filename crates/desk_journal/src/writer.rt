@@ -12,11 +12,24 @@ pub fn write_journal(alloc: Global, entries: &[Entry]) -> Result<Vec<u8>, AllocE
     ensures { IfOk result (λ bytes. bytes.items ≡ journal_text (entry_values entries.now)) }
 {
     let mut bytes = Vec::from_slice(alloc, MARK)?;
+    bytes.reserve_exact(room_of(entries))?;
     bytes.extend_from_slice(&(entries.len() as u16).to_be_bytes())?;
     for entry in entries {
         put_entry(&mut bytes, entry)?;
     }
     Ok(bytes)
+}
+
+// How many bytes follow the mark: they are reserved at once, so that no journal is moved while it grows.
+fn room_of(entries: &[Entry]) -> usize {
+    let mut room = 2usize;
+    for entry in entries {
+        room = room
+            .saturating_add(5)
+            .saturating_add(entry.name.len())
+            .saturating_add(entry.bytes.len());
+    }
+    room
 }
 
 // Appends an entry.
