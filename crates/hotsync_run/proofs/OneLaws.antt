@@ -4,6 +4,7 @@ use Rattle.std.specs.Prelude.{Option, Some, None, IfSome, IsSome}
 use Rattle.std.specs.Option.{option_map}
 use Rattle.hs_folders.specs.FileMaps.{FileMap}
 use Rattle.pdb_values.specs.declared.user.Marks.{Marks}
+use Rattle.pdb_values.proofs.NamedLaws.{database_of-same}
 use Rattle.palm_device.specs.Devices.{Device}
 use Rattle.handheld_files.specs.Openings.{HoldsAll, Stands}
 pub use Rattle.handheld_files.proofs.OneLaws.{IsOne, one-handheld}
