@@ -1,0 +1,4 @@
+pub mod HandleLaws
+pub mod NumberLaws
+pub mod StringLaws
+pub mod TextLaws

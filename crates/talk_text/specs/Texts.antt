@@ -1,0 +1,13 @@
+-- What a talk holds beside its folder, as bytes.
+use Rattle.std.specs.Prelude.{ℕ, List, ◌++◌}
+use Rattle.file_lists.specs.Strings.{string_text}
+use Rattle.talk_text.specs.Numbers.{numbers_text}
+use Rattle.talk_text.specs.Opened.{handles_text}
+use Rattle.device_stream.specs.declared.parts.TalkParts.{TalkParts}
+
+-- its numbers, what it received of a message, the message that it sends, and what is open under
+-- each of the handles 1 to 8
+unfoldable pub talk_text : TalkParts → List ℕ
+talk_text parts =
+    string_text (numbers_text parts) ++ string_text parts.end.receiver.received.items
+    ++ string_text parts.end.message.items ++ handles_text 1 8 parts.handles
