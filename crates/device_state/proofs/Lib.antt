@@ -1,0 +1,3 @@
+pub mod HearingLaws
+pub mod StateLaws
+pub mod CallLaws

@@ -1,0 +1,5 @@
+pub mod Hearing
+pub mod States
+pub mod Refusals
+pub mod Calls
+pub mod Laws
