@@ -1,4 +1,4 @@
-/* hotsync.h: the readers and the merge of hotsync for C, over libhotsync.a or libhotsync.so.
+/* hotsync.h: the readers, the merge and the handheld of hotsync for C, over libhotsync.a or libhotsync.so.
  *
  * Pure functions over bytes. Any thread may call them; nothing that is passed is kept, and nothing is to be freed. No
  * function reaches a file, a terminal or a clock; memory comes from malloc.
@@ -24,7 +24,8 @@ extern "C" {
 enum {
     HS_MEMORY = -1, /* memory was refused */
     HS_FORM = -2,   /* the bytes are not of the form that is read: no database's file, or too many for a trace */
-    HS_ABSENT = -3  /* hs_entry: the database has no such entry */
+    HS_ABSENT = -3, /* hs_entry: the database has no such entry */
+    HS_FILES = -10  /* hs_device_new, hs_device_take: no handheld has such files */
 };
 
 /* The version of the library: 0x00MMmmpp for MAJOR.MINOR.PATCH. */
@@ -134,6 +135,47 @@ enum {
 int64_t hs_merge(const uint8_t *handheld, size_t handheld_len, const uint8_t *rows, size_t rows_len, const uint8_t *base,
                  size_t base_len, const uint8_t *archive, size_t archive_len, const struct hs_how *how, uint8_t *room,
                  size_t n, struct hs_ends *ends);
+
+/* ---- a handheld in memory ---- */
+
+/* The files of a handheld's folder are a list: for each its name and then its bytes, both behind their length, a number of
+   eight bytes with the highest first; no name twice. NAME.pdb and NAME.prc are its databases, device.inf knows its user, and
+   other files stay as they are. A name is that of the database in it: hs_check says whether a file is whole.
+
+   Between two calls the handheld is bytes in the caller's memory, its state, to be kept, copied, compared and thrown away as
+   any bytes are. What it says and does is what `hotsync device` says and does. */
+
+/* What a call tells. */
+struct hs_told {
+    uint64_t said;  /* how many bytes go back over the line */
+    uint32_t phase; /* how far the talk is */
+};
+
+enum {
+    HS_GOES_ON = 0,
+    HS_ENDED = 1,     /* the reply to EndOfSync was acknowledged */
+    HS_ABORTED = 2,   /* the desktop ended the connection */
+    HS_BAD_HELLO = 3, /* the desktop's first message is no init */
+    HS_SPENT = 4      /* silence, and the piece that waits was said ten times: the line is down */
+};
+
+/* A handheld with these files, and its wake, which it says first. The answer is how long the state is. The state goes into
+   `state`, which has n bytes, and what is said into `room`: both of them, or none. Where the answer is more than n, or
+   told->said more than m, both stay as they were, and the call is made again with more room. HS_FORM for bytes that are no
+   list of files; HS_FILES for more than 200 databases, or where one of the files is bad. */
+int64_t hs_device_new(const uint8_t *files, size_t len, uint8_t *state, size_t n, uint8_t *room, size_t m,
+                      struct hs_told *told);
+
+/* The handheld whose state stands in the first `len` bytes of `state` hears bytes of the line, in any pieces. Its new state
+   takes the place of the old one, what it says goes into `room`, and the answer is how long the new state is: both of them,
+   or none, as above. No bytes (count 0) are a tick of silence: the piece that waits is said once more, ten times at most.
+   Each request is done once, however often it comes, and what it changes is in the state before its reply is said. Once the
+   talk is over nothing is heard any more. HS_FORM for bytes that are no state. */
+int64_t hs_device_take(uint8_t *state, size_t n, size_t len, const uint8_t *bytes, size_t count, uint8_t *room, size_t m,
+                       struct hs_told *told);
+
+/* The list of the files that a handheld has. */
+int64_t hs_device_files(const uint8_t *state, size_t len, uint8_t *room, size_t n);
 
 /* ---- a serial line ---- */
 

@@ -460,6 +460,8 @@ static void full(void)
 #define ANSWERED "7 H ok + beefed030302002801cb01c0002490010000201e" NONE NONE NONE "ed6b\n" \
     "8 D ok - beefed030302000401a702c000248ab5\n9 D abort - beefed030302000402a808c000002de1\n"
 #define NONE "00000000000000000000"
+#define ACKED_READ "beefed0303020004" "01a702c00002ce11"
+#define USER "beefed030302002801cb01c0002490010000201e" NONE NONE NONE "ed6b"
 #define GREETED "1 H ok + " WAKE "2 D ok + " ACK "3 D ok + " INIT
 
 static void judge(const char *trace, int64_t answer, uint32_t requests, uint32_t replies)
@@ -509,6 +511,121 @@ static void pictures(void)
     free(page);
 }
 
+/* ---- a handheld in memory ---- */
+
+/* A handheld between two calls. */
+struct kept {
+    uint8_t bytes[2000];
+    size_t length;
+};
+
+/* A call for a handheld, in rooms of n and m bytes, no byte more: whether both were written. `begins` makes one of the
+   bytes, which are a list of files then. */
+static int in_both(const char *what, struct kept *kept, int begins, const uint8_t *bytes, size_t count, size_t n, size_t m,
+                   const uint8_t *said, size_t wanted, uint32_t phase)
+{
+    uint8_t *state = malloc(n > 0 ? n : 1), *room = malloc(m > 0 ? m : 1);
+    struct hs_told told = {99, 99};
+    if (state == NULL || room == NULL)
+        exit(2);
+    memset(state, 0xAA, n > 0 ? n : 1);
+    memset(room, 0xAA, m > 0 ? m : 1);
+    memcpy(state, kept->bytes, kept->length);
+    int64_t length = begins ? hs_device_new(bytes, count, state, n, room, m, &told)
+                            : hs_device_take(state, n, kept->length, bytes, count, room, m, &told);
+    int fits = length <= (int64_t)n && told.said <= m;
+    expect(what, (int64_t)told.said, (int64_t)wanted);
+    expect(what, told.phase, phase);
+    expect(what, fits ? memcmp(room, said, wanted) : memcmp(state, kept->bytes, kept->length), 0);
+    for (size_t place = fits ? wanted : 0; place < m; place++)
+        expect(what, room[place], 0xAA);
+    for (size_t place = fits ? (size_t)length : kept->length; place < n; place++)
+        expect(what, state[place], 0xAA);
+    if (fits && length > 0 && length <= (int64_t)sizeof kept->bytes) {
+        memcpy(kept->bytes, state, (size_t)length);
+        kept->length = (size_t)length;
+    }
+    free(state), free(room);
+    return fits;
+}
+
+/* The same call in no room, in one byte too few of either, and in rooms that fit. */
+static void stepped(const char *what, struct kept *kept, int begins, const char *hex, const char *hex_said, uint32_t phase)
+{
+    uint8_t bytes[200], said[200];
+    size_t count = bytes_of(hex, bytes), wanted = bytes_of(hex_said, said);
+    struct kept after = *kept;
+    expect(what, in_both(what, &after, begins, bytes, count, sizeof after.bytes, wanted + 9, said, wanted, phase), 1);
+    size_t most = after.length > kept->length ? after.length : kept->length;
+    if (after.length > kept->length) {
+        expect(what, in_both(what, kept, begins, bytes, count, kept->length, wanted, said, wanted, phase), 0);
+        expect(what, in_both(what, kept, begins, bytes, count, most - 1, wanted, said, wanted, phase), 0);
+    }
+    if (wanted > 0) {
+        expect(what, in_both(what, kept, begins, bytes, count, most, 0, said, wanted, phase), 0);
+        expect(what, in_both(what, kept, begins, bytes, count, most, wanted - 1, said, wanted, phase), 0);
+    }
+    expect(what, in_both(what, kept, begins, bytes, count, most, wanted, said, wanted, phase), 1);
+    expect(what, kept->length == after.length && memcmp(kept->bytes, after.bytes, after.length) == 0, 1);
+}
+
+/* The answer of a call that is refused, which leaves everything as it was. */
+static void not_stepped(const char *what, const struct kept *kept, size_t length, int begins, const char *hex, int64_t answer)
+{
+    uint8_t bytes[200], room[3] = {0xAA, 0xAA, 0xAA};
+    struct kept after = *kept;
+    struct hs_told told = {99, 99};
+    size_t count = bytes_of(hex, bytes);
+    expect(what, begins ? hs_device_new(bytes, count, after.bytes, sizeof after.bytes, room, 3, &told)
+                        : hs_device_take(after.bytes, sizeof after.bytes, length, bytes, count, room, 3, &told), answer);
+    expect(what, memcmp(after.bytes, kept->bytes, sizeof after.bytes), 0);
+    expect(what, room[0] + room[1] + room[2], 3 * 0xAA);
+    expect(what, told.said == 99 && told.phase == 99, 1);
+}
+
+/* Lists of one file of one byte: one that no handheld reads, and one that should be a database. */
+#define ONE_FILE "0000000000000005" "782e746d70" "0000000000000001" "42"
+#define BAD_FILE "0000000000000005" "782e706462" "0000000000000001" "42"
+
+static void handhelds(void)
+{
+    struct kept kept = {.length = 0}, silent;
+    stepped("hs_device_new of no files", &kept, 1, "", WAKE, HS_GOES_ON);
+    in_rooms("hs_device_files of none", hs_device_files, kept.bytes, kept.length, "", 0);
+    kept.length = 0;
+    stepped("hs_device_new", &kept, 1, ONE_FILE, WAKE, HS_GOES_ON);
+
+    /* Silence: the wake is said ten times in all. */
+    silent = kept;
+    for (int tries = 1; tries < 10; tries++)
+        stepped("a tick", &silent, 0, "", WAKE, HS_GOES_ON);
+    stepped("a tick too many", &silent, 0, "", "", HS_SPENT);
+
+    /* A request, in pieces, and once more; then the desktop ends the connection. */
+    stepped("the wake was heard", &kept, 0, ACK, "", HS_GOES_ON);
+    stepped("nothing waits", &kept, 0, "", "", HS_GOES_ON);
+    stepped("the init", &kept, 0, INIT, ACK, HS_GOES_ON);
+    stepped("half of a request", &kept, 0, "beefed0303020006", "", HS_GOES_ON);
+    stepped("its other half", &kept, 0, "01a901c0000210000e37", ACKED_READ USER, HS_GOES_ON);
+    stepped("a request once more", &kept, 0, READ, ACKED_READ, HS_GOES_ON);
+    stepped("the reply once more", &kept, 0, "", USER, HS_GOES_ON);
+    stepped("noise", &kept, 0, "beefbeef00", "", HS_GOES_ON);
+    stepped("an abort", &kept, 0, "beefed030302000402a808c000002de1", "", HS_ABORTED);
+    stepped("behind its end", &kept, 0, READ, "", HS_ABORTED);
+
+    uint8_t file[100];
+    size_t length = bytes_of(ONE_FILE, file);
+    in_rooms("hs_device_files", hs_device_files, kept.bytes, kept.length, (const char *)file, length);
+    refused("hs_device_files of nothing", hs_device_files, kept.bytes, 0, HS_FORM);
+    refused("hs_device_files of a part", hs_device_files, kept.bytes, kept.length - 1, HS_FORM);
+    not_stepped("hs_device_take of nothing", &kept, 0, 0, READ, HS_FORM);
+    not_stepped("hs_device_take of a part", &kept, kept.length - 1, 0, READ, HS_FORM);
+    not_stepped("hs_device_take of more than there is", &kept, sizeof kept.bytes + 1, 0, READ, HS_FORM);
+    not_stepped("hs_device_new of no list", &kept, 0, 1, "00", HS_FORM);
+    not_stepped("hs_device_new of one name twice", &kept, 0, 1, ONE_FILE ONE_FILE, HS_FORM);
+    not_stepped("hs_device_new of a bad file", &kept, 0, 1, BAD_FILE, HS_FILES);
+}
+
 int main(void)
 {
     /* The script that runs this says what VERSION has. */
@@ -522,6 +639,7 @@ int main(void)
     full();
     lines();
     pictures();
+    handhelds();
     if (failed == 0)
         printf("each: as wanted\n");
     return failed;

@@ -18,8 +18,14 @@ abbrev pub refusal_of : FileFault → Refusal
 refusal_of NoMemory = Memory
 refusal_of _ = Form
 
--- a call that puts such a text into the room, or refuses so and leaves the room as it was
-abbrev pub Answers : (List ℕ → Type 0) → (Refusal → Type 0) → List ℕ → List ℕ → ℤ → Type 0
-Answers IsText Refuses room room_after answer =
+-- a call that puts such a text into the room, or refuses so and leaves the room as it was; a refusal
+-- has this number
+abbrev pub AnswersBy : {R : Type 0} → (R → ℤ) → (List ℕ → Type 0) → (R → Type 0) → List ℕ → List ℕ
+    → ℤ → Type 0
+AnswersBy {R} number IsText Refuses room room_after answer =
     ((text : List ℕ) × IsText text × PutsIn text room room_after answer)
-    ⊎ ((refusal : Refusal) × Refuses refusal × (answer ≡ answer_of refusal) × (room_after ≡ room))
+    ⊎ ((refusal : R) × Refuses refusal × (answer ≡ number refusal) × (room_after ≡ room))
+
+-- the same of the refusals above
+abbrev pub Answers : (List ℕ → Type 0) → (Refusal → Type 0) → List ℕ → List ℕ → ℤ → Type 0
+Answers = AnswersBy answer_of

@@ -1,6 +1,7 @@
 pub mod Answers
 pub mod Building
 pub mod Files
+pub mod Handhelds
 pub mod Merges
 pub mod Parts
 pub mod Rooms
