@@ -8,6 +8,7 @@ pub mod Greetings
 pub mod Lasts
 pub mod Lent
 pub mod Lists
+pub mod Loans
 pub mod Opens
 pub mod Orders
 pub mod Puts

@@ -1,5 +1,5 @@
 // A database that is open.
-ghost use Rattle.std.specs.Prelude.{◌≡◌, ◌<◌, ◌^◌, IfErr, IfOk, Ok, Err, false, true};
+ghost use Rattle.std.specs.Prelude.{◌≡◌, ◌<◌, ◌^◌, IfOk, Ok, false, true};
 ghost use Rattle.std.specs.Borrow.{sem};
 ghost use Rattle.dlp_replies.specs.ReplyReading.{reply_at};
 ghost use Rattle.desktop_session.specs.Answers.{answer_by, handle_of, no_more, said_in};
@@ -65,17 +65,12 @@ impl<L: Link> Linked<L> {
 }
 
 impl<L: Link> Linked<L> {
-    ghost use Rattle.std.specs.Borrow.{RestsIfErr};
-    ghost use Rattle.desktop_session.specs.contracts.linked.Linked.{the_row};
+    ghost use Rattle.desktop_session.specs.Loans.{OpensNone};
 
     /// Opens a database for reading and writing.
     pub fn open(&mut self, name: &DbName) -> Result<OpenDb<'_, L>, SessionFault>
         requires { self.old.abandoned ≡ false }
-        ensures* stopped { sem 𝓛 (RestsIfErr (the_row L.row L.Link) self.entry
-            (λ opened. opened.linked.ghost_name) result
-            (λ last. AsksOne L.talk L.since L.fault L.downs (opening name.now) self.entry.now last
-            × IfErr result (λ fault. Err fault ≡ answer_by (L.fault last.link)
-            (said_in 0x17 handle_of (reply_at 0x17 last.reply))))) }
+        ensures* stopped { sem 𝓛 (OpensNone L.row L.Link self.entry result (opening name.now) 0x17) }
         ensures same_reference { IfOk result (λ opened. opened.linked.ghost_name ≡
             self.entry.ghost_name) }
         ensures asked { IfOk result (λ opened. AsksOne L.talk L.since L.fault L.downs
@@ -97,12 +92,7 @@ impl<L: Link> Linked<L> {
     /// Opens a database to read it.
     pub fn open_read(&mut self, name: &DbName) -> Result<OpenDb<'_, L>, SessionFault>
         requires { self.old.abandoned ≡ false }
-        ensures* stopped { sem 𝓛 (RestsIfErr (the_row L.row L.Link) self.entry
-            (λ opened. opened.linked.ghost_name) result
-            (λ last. AsksOne L.talk L.since L.fault L.downs (opening_to_read name.now)
-            self.entry.now last
-            × IfErr result (λ fault. Err fault ≡ answer_by (L.fault last.link)
-            (said_in 0x17 handle_of (reply_at 0x17 last.reply))))) }
+        ensures* stopped { sem 𝓛 (OpensNone L.row L.Link self.entry result (opening_to_read name.now) 0x17) }
         ensures same_reference { IfOk result (λ opened. opened.linked.ghost_name ≡
             self.entry.ghost_name) }
         ensures asked { IfOk result (λ opened. AsksOne L.talk L.since L.fault L.downs
@@ -125,11 +115,7 @@ impl<L: Link> Linked<L> {
     /// it for reading and writing.
     pub fn create(&mut self, head: &DbHead) -> Result<OpenDb<'_, L>, SessionFault>
         requires { self.old.abandoned ≡ false }
-        ensures* stopped { sem 𝓛 (RestsIfErr (the_row L.row L.Link) self.entry
-            (λ opened. opened.linked.ghost_name) result
-            (λ last. AsksOne L.talk L.since L.fault L.downs (making head.now) self.entry.now last
-            × IfErr result (λ fault. Err fault ≡ answer_by (L.fault last.link)
-            (said_in 0x18 handle_of (reply_at 0x18 last.reply))))) }
+        ensures* stopped { sem 𝓛 (OpensNone L.row L.Link self.entry result (making head.now) 0x18) }
         ensures same_reference { IfOk result (λ opened. opened.linked.ghost_name ≡
             self.entry.ghost_name) }
         ensures asked { IfOk result (λ opened. AsksOne L.talk L.since L.fault L.downs

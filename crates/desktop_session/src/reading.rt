@@ -1,14 +1,12 @@
 // What is read of an open database.
-ghost use Rattle.std.specs.Prelude.{◌≡◌, [], Ok};
+ghost use Rattle.std.specs.Prelude.{◌≡◌, Ok};
 ghost use Rattle.std.specs.Borrow.{sem};
-ghost use Rattle.std.specs.Io.BufRead.{Rests};
 ghost use Rattle.std.specs.Option.{option_map};
-ghost use mir.Syntax.{named};
 ghost use Rattle.dlp_args.specs.Views.{Gives};
 ghost use Rattle.dlp_replies.specs.ReplyReading.{reply_at};
-ghost use Rattle.desktop_session.specs.contracts.open_db.OpenDb as open_row;
-ghost use Rattle.desktop_session.specs.Answers.{answer_by, count_of, or_none, record_of, resource_of, said_in};
+ghost use Rattle.desktop_session.specs.Answers.{answer_by, count_of, record_of, resource_of, said_in};
 ghost use Rattle.desktop_session.specs.Lent.{lent_resource, lent_value};
+ghost use Rattle.desktop_session.specs.Loans.{Lends, answered_with, found_with};
 ghost use Rattle.desktop_session.specs.Requests.{counting, reading_at, reading_next, reading_of, reading_resource};
 ghost use Rattle.desktop_session.specs.Stops.{AsksOne};
 
@@ -95,14 +93,8 @@ impl<L: Link> Linked<L> {
 impl<'s, L: Link> OpenDb<'s, L> {
     /// Lends the record at an index.
     pub fn at(&mut self, index: u16) -> Result<RecordLent<'_>, SessionFault>
-        ensures* rests { sem 𝓛 (Rests (open_row.the_row
-            (record { mir = named 0; lft = [] }) L.row L.Link) self.entry
-            (λ last. (last.linked.ghost_name ≡ self.old.linked.ghost_name) × (last.handle ≡
-            self.old.handle)
-            × AsksOne L.talk L.since L.fault L.downs (reading_at self.old.handle index)
-            self.old.linked.now last.linked.now
-            × Gives lent_value result (answer_by (L.fault last.linked.now.link)
-            (said_in 0x20 record_of (reply_at 0x20 last.linked.now.reply))))) }
+        ensures* rests { sem 𝓛 (Lends L.row L.Link self.entry (reading_at self.old.handle index)
+            (λ last. Gives lent_value result (answered_with L.fault 0x20 record_of last))) }
     {
         let handle = self.handle();
         let linked = &mut *self.linked;
@@ -115,14 +107,9 @@ impl<'s, L: Link> OpenDb<'s, L> {
 
     /// Lends the record of an id, or nothing where there is none.
     pub fn by_id(&mut self, id: RecordId) -> Result<Option<RecordLent<'_>>, SessionFault>
-        ensures* rests { sem 𝓛 (Rests (open_row.the_row
-            (record { mir = named 0; lft = [] }) L.row L.Link) self.entry
-            (λ last. (last.linked.ghost_name ≡ self.old.linked.ghost_name) × (last.handle ≡
-            self.old.handle)
-            × AsksOne L.talk L.since L.fault L.downs (reading_of self.old.handle id)
-            self.old.linked.now last.linked.now
-            × Gives (option_map lent_value) result (answer_by (L.fault last.linked.now.link)
-            (or_none (said_in 0x20 record_of (reply_at 0x20 last.linked.now.reply)))))) }
+        ensures* rests { sem 𝓛 (Lends L.row L.Link self.entry (reading_of self.old.handle id)
+            (λ last. Gives (option_map lent_value) result
+            (found_with L.fault 0x20 record_of last))) }
     {
         let handle = self.handle();
         let linked = &mut *self.linked;
@@ -135,14 +122,9 @@ impl<'s, L: Link> OpenDb<'s, L> {
 
     /// Lends the next record that is dirty or deleted, or nothing where none is left.
     pub fn next_changed(&mut self) -> Result<Option<RecordLent<'_>>, SessionFault>
-        ensures* rests { sem 𝓛 (Rests (open_row.the_row
-            (record { mir = named 0; lft = [] }) L.row L.Link) self.entry
-            (λ last. (last.linked.ghost_name ≡ self.old.linked.ghost_name) × (last.handle ≡
-            self.old.handle)
-            × AsksOne L.talk L.since L.fault L.downs (reading_next self.old.handle)
-            self.old.linked.now last.linked.now
-            × Gives (option_map lent_value) result (answer_by (L.fault last.linked.now.link)
-            (or_none (said_in 0x1F record_of (reply_at 0x1F last.linked.now.reply)))))) }
+        ensures* rests { sem 𝓛 (Lends L.row L.Link self.entry (reading_next self.old.handle)
+            (λ last. Gives (option_map lent_value) result
+            (found_with L.fault 0x1F record_of last))) }
     {
         let handle = self.handle();
         let linked = &mut *self.linked;
@@ -155,14 +137,9 @@ impl<'s, L: Link> OpenDb<'s, L> {
 
     /// Lends the resource at an index.
     pub fn resource_at(&mut self, index: u16) -> Result<ResourceLent<'_>, SessionFault>
-        ensures* rests { sem 𝓛 (Rests (open_row.the_row
-            (record { mir = named 0; lft = [] }) L.row L.Link) self.entry
-            (λ last. (last.linked.ghost_name ≡ self.old.linked.ghost_name) × (last.handle ≡
-            self.old.handle)
-            × AsksOne L.talk L.since L.fault L.downs (reading_resource self.old.handle index)
-            self.old.linked.now last.linked.now
-            × Gives lent_resource result (answer_by (L.fault last.linked.now.link)
-            (said_in 0x23 resource_of (reply_at 0x23 last.linked.now.reply))))) }
+        ensures* rests { sem 𝓛 (Lends L.row L.Link self.entry (reading_resource self.old.handle index)
+            (λ last. Gives lent_resource result
+            (answered_with L.fault 0x23 resource_of last))) }
     {
         let handle = self.handle();
         let linked = &mut *self.linked;
