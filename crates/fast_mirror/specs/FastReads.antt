@@ -67,6 +67,7 @@ other_seen handle device id (row content) =
 other_seen handle device id no_base = seen_of_id handle device id
 other_seen handle device id (gone content) = seen_of_id handle device id
 
+-- it is asked for by its id where it has no base row
 abbrev pub other_reads : ℕ → ℕ → BaseState → List Act
 other_reads handle id (row content) = []
 other_reads handle id no_base = reading_of handle id ∷ []
@@ -139,8 +140,9 @@ asks_of base handle None = []
 asks_of base handle (Some item) =
     if is_changed item then [] else other_reads handle item.id (base_at base false item.id)
 
--- one request more for a changed record than there are, and one for each record that did not change
--- and has no base row
+-- the number of entries, and the ids in parts of 8,000; the changed records one by one until there
+-- is none, so one request more than there are; and by rising ids each other record without a base
+-- row
 abbrev pub fast_asks : List Record → ℕ → List Record → List Act
 fast_asks base handle records =
     (counting handle ∷ id_listings handle (id_parts (length records)))

@@ -14,7 +14,7 @@ use Rattle.palm_device.specs.Heads.{is_read_only}
 use Rattle.palm_device.specs.Records.{is_changed}
 use Rattle.palm_device.specs.declared.opened.Opened.{Opened}
 use Rattle.conduit_rules.specs.ById.{each_id, id_bound, ids_below}
-use Rattle.conduit_rules.specs.States.{first, has_row}
+use Rattle.conduit_rules.specs.States.{BaseState, base_at as row_at, first, gone, no_base, row}
 use Rattle.dlp_commands.specs.Holding.{on_records}
 use Rattle.dlp_commands.specs.Reached.{with_next}
 use Rattle.desktop_session.specs.Acts.{Act, acted}
@@ -25,7 +25,8 @@ use Rattle.desktop_session.specs.Tellings.{device_after}
 use Rattle.slow_mirror.specs.Reads as slow
 use Rattle.session_plan.specs.Choosing.{base_rows, is_fast}
 use Rattle.session_plan.specs.Merges.{handheld_before}
-use Rattle.sync_session.specs.Reads.{fast_reads, opened, read_acts, read_by_id, reads}
+use Rattle.fast_mirror.specs.FastReads.{asks_of, fast_asks, other_reads}
+use Rattle.sync_session.specs.Reads.{opened, read_acts, reads}
 use Rattle.sync_session.specs.Sessions.{before_writes, listing_all}
 use Rattle.session_plan.specs.Skips.{active}
 use Rattle.session_plan.specs.Tasks.{Meeting, Task, records_of}
@@ -152,29 +153,30 @@ module _ (d : DatabaseValue) (records : on_records d ≡ true) where
   reads-slow =
       reads-append d (counting 1 ∷ []) (slow.reads 1 (length d.records)) (reads-count d) (reads-each (length d.records) (omega arith))
 
-  reads-by_id : (base : List Record) (r : Option Record) → Reads d (read_by_id base r)
-  reads-by_id base None = reads-nil d
-  reads-by_id base (Some r) = by (is_changed r) (has_row base r.id)
+  reads-asks_of : (base : List Record) (r : Option Record) → Reads d (asks_of base 1 r)
+  reads-asks_of base None = reads-nil d
+  reads-asks_of base (Some r) = by (is_changed r) (row_at base false r.id)
     where
-      by : (changed there : Bool) → Reads d (if changed then [] else (if there then [] else reading_of 1 r.id ∷ []))
+      by : (changed : Bool) (there : BaseState) → Reads d (if changed then [] else other_reads 1 r.id there)
       by true there = reads-nil d
-      by false true = reads-nil d
-      by false false = reads-of d records r.id
+      by false (row content) = reads-nil d
+      by false no_base = reads-of d records r.id
+      by false (gone content) = reads-of d records r.id
 
-  reads-fast : (base : List Record) → Reads d (fast_reads base d.records)
+  reads-fast : (base : List Record) → Reads d (fast_asks base 1 d.records)
   reads-fast base =
       let ids = id_listings 1 (id_parts (length d.records)) in
-      let nexts = replicate (length (filter is_changed d.records) + 1) (reading_next 1) in
-      let others = each_id (λ i. read_by_id base (first i d.records)) in
+      let nexts = replicate (suc (length (filter is_changed d.records))) (reading_next 1) in
+      let others = each_id (λ i. asks_of base 1 (first i d.records)) in
       reads-append d (counting 1 ∷ []) (ids ++ (nexts ++ others)) (reads-count d)
       (reads-append d ids (nexts ++ others) (reads-listings (id_parts (length d.records)))
-      (reads-append d nexts others (reads-nexts d records (length (filter is_changed d.records) + 1))
-      (reads-flat_map d (λ i. read_by_id base (first i d.records)) (ids_below id_bound) (λ i. reads-by_id base (first i d.records)))))
+      (reads-append d nexts others (reads-nexts d records (suc (length (filter is_changed d.records))))
+      (reads-flat_map d (λ i. asks_of base 1 (first i d.records)) (ids_below id_bound) (λ i. reads-asks_of base (first i d.records)))))
 
-  reads-task : (m : Meeting) (t : Task) → Reads d (if is_fast m t then fast_reads (base_rows t) d.records else slow.slow_reads 1 (length d.records))
+  reads-task : (m : Meeting) (t : Task) → Reads d (if is_fast m t then fast_asks (base_rows t) 1 d.records else slow.slow_reads 1 (length d.records))
   reads-task m t = by (is_fast m t)
     where
-      by : (fast : Bool) → Reads d (if fast then fast_reads (base_rows t) d.records else slow.slow_reads 1 (length d.records))
+      by : (fast : Bool) → Reads d (if fast then fast_asks (base_rows t) 1 d.records else slow.slow_reads 1 (length d.records))
       by true = reads-fast (base_rows t)
       by false = reads-slow
 
@@ -228,7 +230,7 @@ module _ (databases : List DatabaseValue) (user : UserInfo) where
           let records : on_records d ≡ true = ap on_records same ∙ is.records in
           let own : d.records ≡ records_of t.handheld = sym (ap records_of old) in
           opened_orderly (reads m t)
-          (subst (λ (rs : List Record). Reads d (if is_fast m t then fast_reads (base_rows t) rs else slow.slow_reads 1 (length rs))) own
+          (subst (λ (rs : List Record). Reads d (if is_fast m t then fast_asks (base_rows t) 1 rs else slow.slow_reads 1 (length rs))) own
           (reads-task d records m t)) is.named (here ∙ old) (ap (λ (x : DatabaseValue). is_read_only x.head.attributes) same ∙ is.writable)
 
   reading_orderly : (m : Meeting) (ts : List Task) → AreReady m ts → Stand ts databases

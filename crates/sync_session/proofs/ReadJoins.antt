@@ -1,9 +1,9 @@
 -- The readings of a session are those of its meeting.
-use Rattle.std.proofs.Common.{◌≡◌, ◌∙◌, ◌+◌, refl, sym, ap, ℕ, suc, Bool, true, false, List, [], ◌∷◌, ◌++◌, map, length, arith, lit<}
+use Rattle.std.proofs.Common.{◌≡◌, ◌∙◌, refl, sym, ap, ℕ, Bool, true, false, List, [], ◌∷◌, map, length, lit<}
 use Rattle.std.proofs.lemmas.Bool.{and_parts, and_right}
 use Rattle.std.proofs.lemmas.List.Folds.{flat_map-map}
 use Rattle.std.proofs.lemmas.Simd.{map-map}
-use Rattle.std.specs.Prelude.{Option, Some, None, ◌||◌, ◌&&◌, not, is_none, is_some, replicate, filter, flat_map, if◌then◌else◌}
+use Rattle.std.specs.Prelude.{Option, Some, None, ◌||◌, ◌&&◌, not, is_none, is_some, flat_map, if◌then◌else◌}
 use Rattle.std.specs.List.{AllByRecursion}
 use Rattle.std.specs.Option.{option_map}
 use Rattle.sync_session.proofs.MeetingWords.{DatabaseValue, DbHead, ShelvesValue, Job, Skip, action_or_sync, agrees, base_rows, base_rows_by, is_fast}
@@ -18,33 +18,31 @@ use Rattle.palm_device.specs.Bounds.{IsBoundedDatabase}
 use Rattle.palm_device.specs.Devices.{Device}
 use Rattle.palm_device.specs.Handles.{Base, base_at}
 use Rattle.palm_device.specs.Heads.{has_bit}
-use Rattle.palm_device.specs.Records.{is_changed}
 use Rattle.dlp_commands.specs.DatabaseFunctions.{listed}
 use Rattle.dlp_commands.specs.DeviceSteps.{tried}
 use Rattle.dlp_commands.specs.Holding.{on_records}
 use Rattle.dlp_commands.specs.declared.reading.Reading.TheVariants as reading
-use Rattle.session_parts.proofs.LinkWords.{Talk, Act, acted, counting, opening, reading_next, reading_of, saying, IsTellable, device_after}
-use Rattle.conduit_rules.specs.ById.{each_id, ids_below, id_bound}
-use Rattle.conduit_rules.specs.States.{BaseState, no_base, row, gone, base_at as row_at, first, is_row}
+use Rattle.session_parts.proofs.LinkWords.{Talk, Act, acted, opening, saying, IsTellable, device_after}
+use Rattle.conduit_rules.specs.ById.{ids_below, id_bound}
+use Rattle.conduit_rules.specs.States.{first}
 use Rattle.conduit_rules.specs.Views.{fast_view, slow_view}
 use Rattle.conduit_rules.specs.declared.action.Action.{Action}
 use Rattle.conduit_rules.specs.declared.action.Action.TheVariants.{Sync, Handheld, Desktop}
 use Rattle.conduit_rules.specs.declared.view.Seen.{Seen}
 use Rattle.conduit_rules.specs.declared.view.View.{View}
-use Rattle.desktop_session.specs.Lists.{id_listings, id_parts}
 use Rattle.desktop_session.specs.Orders.{CanOpen}
 use Rattle.slow_mirror.specs.Reads.{entries_told, slow_reads, slow_shown}
 use Rattle.slow_mirror.proofs.ShownLaws.{records_told, slow_shown-is}
 use Rattle.fast_mirror.specs.FastReads as fast
-use Rattle.fast_mirror.specs.FastReads.{asks_of, fast_asks, fast_shown, other_reads}
+use Rattle.fast_mirror.specs.FastReads.{fast_asks, fast_shown}
 use Rattle.fast_mirror.proofs.ViewLaws.{fast_reads-are, fast_shown-is}
 use Rattle.session_parts.specs.declared.skip.Skip.TheVariants as skip
 use Rattle.sync_session.specs.Readings.{opened_reads, opened_shown, reads_by, reads_under, shown_by, shown_under}
-use Rattle.sync_session.specs.Reads.{fast_reads, opened, read_acts, read_by_id, reads}
+use Rattle.sync_session.specs.Reads.{opened, read_acts, reads}
 use Rattle.session_parts.proofs.RestLaws.{KeepsOpen, after-append, around_same, keeps_next, keeps_same, leads_to}
 use Rattle.session_parts.proofs.RestLaws.{opened_on, opened_proper, opens_does, reads_same}
 use Rattle.sync_session.proofs.SaidLaws.{reads-all}
-use Rattle.session_parts.proofs.StretchLaws.{Leads, Pairs, Steps, Tells, first_is, flat_map-kept, flat_map-none, flat_map-same, pairs-map}
+use Rattle.session_parts.proofs.StretchLaws.{Leads, Pairs, Steps, Tells, first_is, flat_map-kept, flat_map-none, pairs-map}
 use Rattle.session_parts.proofs.StretchLaws.{stretches_join, stretches_lead, tells_on, where_kept}
 
 -- ---- a database that is not skipped holds records and can be written
@@ -116,25 +114,6 @@ job-fast meeting task =
     rw (some-map (λ (database : DatabaseValue). listed database.head) task.handheld, some-map (λ (database : DatabaseValue). database.head) task.rows)
 
 -- ---- what a reading asks for
-
-other-reads : (id : ℕ) (b : BaseState) → other_reads 1 id b ≡ (if is_row b then [] else reading_of 1 id ∷ [])
-other-reads id no_base = refl
-other-reads id (row content) = refl
-other-reads id (gone content) = refl
-
-asks-id : (base : List Record) (found : Option Record) → asks_of base 1 found ≡ read_by_id base found
-asks-id base None = refl
-asks-id base (Some r) = ap (λ (zs : List Act). if is_changed r then [] else zs) (other-reads r.id (row_at base false r.id))
-
-asks-all : (base records : List Record) → fast_asks base 1 records ≡ fast_reads base records
-asks-all base records =
-    let ids : List Act = id_listings 1 (id_parts (length records)) in
-    let changed : ℕ = length (filter is_changed records) in
-    let one : suc changed ≡ changed + 1 = omega arith in
-    ap (λ n. counting 1 ∷ (ids ++ (replicate n (reading_next 1) ++ each_id (λ i. asks_of base 1 (first i records))))) one
-    ∙ ap (λ zs. counting 1 ∷ (ids ++ (replicate (changed + 1) (reading_next 1) ++ zs)))
-    (flat_map-same (λ i. asks_of base 1 (first i records)) (λ i. read_by_id base (first i records)) (ids_below id_bound)
-    (λ i. asks-id base (first i records)))
 
 -- a fast reading has rows and base rows
 fast_rows : (agree slow : Bool) (sync handheld : Bool) (rows : Option DatabaseValue) (base : Option DatabaseValue)
@@ -236,12 +215,12 @@ module _ (meeting : Meeting) (name : List ℕ) where
         -- under its handle it asks for what a meeting asks
         reads_here : (b : Bool) (given : List ℕ) → is_fast meeting task ≡ b
             → reads_by b (records_of task.base) (saying (opening name ∷ []) (Some talk)) 1 given
-            ≡ (if b then fast_reads (base_rows task) database.records else slow_reads 1 (length database.records))
+            ≡ (if b then fast_asks (base_rows task) 1 database.records else slow_reads 1 (length database.records))
         unfolding saying
         reads_here true given is =
             ap (fast.fast_reads (records_of task.base) 1) acted-opening
             ∙ fast_reads-are here 1 base (records_of task.base) proper_here (lit< tt) base_at-here kept.records refl
-            ∙ asks-all (records_of task.base) database.records ∙ ap (λ rows. fast_reads rows database.records) (sym (fast-base meeting task is))
+            ∙ ap (λ rows. fast_asks rows 1 database.records) (sym (fast-base meeting task is))
         reads_here false given is =
             ap (λ d. slow_reads 1 (entries_told d 1)) acted-opening
             ∙ ap (slow_reads 1) (records_told here 1 base proper_here (lit< tt) base_at-here kept.records)
@@ -265,7 +244,7 @@ module _ (meeting : Meeting) (name : List ℕ) where
           by : (s : Option Skip) (h : Option DatabaseValue) → skip_of task ≡ s → task.handheld ≡ h
               → opened_reads s (listed_head h) (is_fast meeting task) name (records_of task.base) (Some talk) 1 given
               ≡ where_kept (is_none s) (if is_none h then [] else opened name
-              (if is_fast meeting task then fast_reads (base_rows task) (records_of h) else slow_reads 1 (length (records_of h))))
+              (if is_fast meeting task then fast_asks (base_rows task) 1 (records_of h) else slow_reads 1 (length (records_of h))))
           by (Some why) h skips has = refl
           by None None skips has = refl
           by None (Some database) skips has = ap (λ zs. opened name zs) (reads_here database (kept_of database has skips) (is_fast meeting task) given refl)

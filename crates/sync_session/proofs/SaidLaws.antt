@@ -5,12 +5,13 @@ use Rattle.std.specs.List.{AllByRecursion}
 use Rattle.pdb_values.specs.declared.record.Record.{Record}
 use Rattle.palm_device.specs.Records.{is_changed}
 use Rattle.conduit_rules.specs.ById.{each_id, ids_below, id_bound}
-use Rattle.conduit_rules.specs.States.{first, has_row}
+use Rattle.conduit_rules.specs.States.{BaseState, base_at, first, gone, no_base, row}
 use Rattle.session_parts.proofs.LinkWords.{Act, beginning, closing, counting, listing, listing_ids, opening, reading_at, reading_next, reading_of, reading_user}
 use Rattle.desktop_session.specs.Lists.{id_listings, id_parts, listings}
 use Rattle.slow_mirror.specs.Reads as slow
 use Rattle.sync_session.proofs.MeetingWords.{base_rows, is_fast, before_writes, listing_all, active, Meeting, Task, records_of}
-use Rattle.sync_session.specs.Reads.{fast_reads, opened, read_acts, read_by_id, reads}
+use Rattle.fast_mirror.specs.FastReads.{asks_of, fast_asks, other_reads}
+use Rattle.sync_session.specs.Reads.{opened, read_acts, reads}
 use Rattle.session_parts.proofs.RestLaws.{all-append, all-flat_map, all-replicate}
 
 -- what reads an opened database, under handle 1
@@ -43,31 +44,32 @@ module _ {P : Act → Type 0} (each : HoldsOfReads P) where
   slow-all zero = tt
   slow-all (suc count) = all-append P (slow.reads 1 count) (reading_at 1 count ∷ []) (slow-all count) (each.places count, tt)
 
-  read_by_id-all : (base : List Record) (found : Option Record) → AllByRecursion P (read_by_id base found)
-  read_by_id-all base None = tt
-  read_by_id-all base (Some r) = by (is_changed r) (has_row base r.id)
+  asks_of-all : (base : List Record) (found : Option Record) → AllByRecursion P (asks_of base 1 found)
+  asks_of-all base None = tt
+  asks_of-all base (Some r) = by (is_changed r) (base_at base false r.id)
     where
-      by : (changed there : Bool) → AllByRecursion P (if changed then [] else (if there then [] else reading_of 1 r.id ∷ []))
+      by : (changed : Bool) (there : BaseState) → AllByRecursion P (if changed then [] else other_reads 1 r.id there)
       by true there = tt
-      by false true = tt
-      by false false = (each.ids r.id, tt)
+      by false (row content) = tt
+      by false no_base = (each.ids r.id, tt)
+      by false (gone content) = (each.ids r.id, tt)
 
-  fast-all : (base records : List Record) → AllByRecursion P (fast_reads base records)
+  fast-all : (base records : List Record) → AllByRecursion P (fast_asks base 1 records)
   fast-all base records =
       let ids : List Act = id_listings 1 (id_parts (length records)) in
-      let nexts : List Act = replicate (length (filter is_changed records) + 1) (reading_next 1) in
-      let others : List Act = each_id (λ i. read_by_id base (first i records)) in (
+      let nexts : List Act = replicate (suc (length (filter is_changed records))) (reading_next 1) in
+      let others : List Act = each_id (λ i. asks_of base 1 (first i records)) in (
         each.counts,
         all-append P ids (nexts ++ others) (ids-all (id_parts (length records)))
-            (all-append P nexts others (all-replicate P (length (filter is_changed records) + 1) (reading_next 1) each.nexts)
-            (all-flat_map P (λ i. read_by_id base (first i records)) (ids_below id_bound) (λ i. read_by_id-all base (first i records)))),
+            (all-append P nexts others (all-replicate P (suc (length (filter is_changed records))) (reading_next 1) each.nexts)
+            (all-flat_map P (λ i. asks_of base 1 (first i records)) (ids_below id_bound) (λ i. asks_of-all base (first i records)))),
       )
 
   pub reads-all : (meeting : Meeting) (task : Task) → AllByRecursion P (reads meeting task)
   reads-all meeting task = by (is_fast meeting task)
     where
       by : (fast : Bool)
-          → AllByRecursion P (if fast then fast_reads (base_rows task) (records_of task.handheld)
+          → AllByRecursion P (if fast then fast_asks (base_rows task) 1 (records_of task.handheld)
           else slow.slow_reads 1 (length (records_of task.handheld)))
       by true = fast-all (base_rows task) (records_of task.handheld)
       by false = (each.counts, slow-all (length (records_of task.handheld)))
