@@ -22,7 +22,7 @@ use Rattle.repeat_laws.proofs.MergedLaws.{NotNamed}
 use Rattle.front_laws.specs.Given.{ids_in}
 use Rattle.front_laws.specs.Sound.{IsSoundMeeting}
 use Rattle.front_laws.proofs.AlongLaws.{Along, along-append, along-last, along-map, along-quiet, none-told, quiet-after, quiet-all}
-use Rattle.front_laws.proofs.EachLaws.{AreReady, put_at_task, turned}
+use Rattle.front_laws.proofs.EachLaws.{AreReady, put_at_task}
 use Rattle.front_laws.proofs.MergeActs.{all_ahead, before-same, begun, closed_device}
 use Rattle.front_laws.proofs.OpenActs.{all_closed}
 use Rattle.front_laws.proofs.PartActs.{HasSome, Respects, TaskPart, both_of, news_along, with_some}
@@ -30,6 +30,7 @@ use Rattle.front_laws.proofs.PhaseActs.{AreAhead, Stand, ahead_does, ahead_few, 
 use Rattle.front_laws.proofs.ReadyLaws.{ready-all, stand-all}
 use Rattle.front_laws.proofs.RelabelLaws.{ids-length, news-count}
 use Rattle.front_laws.proofs.TaskActs.{with_news}
+use Rattle.sync_session.proofs.OnceLaws.{bytes_eq-swap}
 
 -- how much of its news a database has, and the ids that these got
 pub record Share : Type 0 where
@@ -89,7 +90,7 @@ stand_others : (ts : List Task) (name : List ℕ) (databases now : List Database
     → ((other : List ℕ) → bytes_eq name other ≡ false → database_of other now ≡ database_of other databases) → Stand ts now
 stand_others [] name databases now unnamed stand same = tt
 stand_others (t ∷ ts) name databases now unnamed stand same = (
-  same t.name (turned t.name name unnamed.0) ∙ stand.0,
+  same t.name (bytes_eq-swap t.name name unnamed.0) ∙ stand.0,
   stand_others ts name databases now unnamed.1 stand.1 same,
 )
 

@@ -27,7 +27,7 @@ use Rattle.repeat_laws.proofs.MergedLaws.{NotNamed}
 use Rattle.front_laws.specs.Given.{ids_in}
 use Rattle.front_laws.specs.Sound.{IsSoundMeeting}
 use Rattle.front_laws.proofs.AlongLaws.{Along, along-append, along-last, along-map, none-told}
-use Rattle.front_laws.proofs.EachLaws.{AreChanged, AreReady, HaveNames, changed-each, others-each, put_each, turned}
+use Rattle.front_laws.proofs.EachLaws.{AreChanged, AreReady, HaveNames, changed-each, others-each, put_each}
 use Rattle.front_laws.proofs.MergeActs.{both, done, ended}
 use Rattle.front_laws.proofs.OpenActs.{all_closed, open_does}
 use Rattle.front_laws.proofs.PartActs.{Respects, around_along, both_of}
@@ -35,6 +35,7 @@ use Rattle.front_laws.proofs.PhaseActs.{AreDealt, news-keep, purges_all, with_al
 use Rattle.front_laws.proofs.ReadyLaws.{have-names, ready-all}
 use Rattle.front_laws.proofs.TaskActs.{IsReady, purged_does, with_news}
 use Rattle.front_laws.proofs.WriteActs.{MayWrite, clean_does, holding, holding_own, remove_does, reset_does}
+use Rattle.sync_session.proofs.OnceLaws.{bytes_eq-swap}
 
 -- ---- the purges of one database
 
@@ -154,7 +155,7 @@ changed_others : (m : Meeting) (ts : List Task) (ready : AreReady m ts) (given n
     → AreChanged m (with_news m) ts ready given now
 changed_others m [] ready given name databases now unnamed changed same = tt
 changed_others m (t ∷ ts) ready given name databases now unnamed changed same = (
-  same t.name (turned t.name name unnamed.0) ∙ changed.0,
+  same t.name (bytes_eq-swap t.name name unnamed.0) ∙ changed.0,
   changed_others m ts ready.1 (drop (add_count m t) given) name databases now unnamed.1 changed.1 same,
 )
 

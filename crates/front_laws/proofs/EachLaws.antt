@@ -5,12 +5,13 @@ use Rattle.std.specs.List.{AllByRecursion}
 use Rattle.std.specs.Str.{bytes_eq}
 use Rattle.pdb_values.specs.Databases.{DatabaseValue}
 use Rattle.pdb_values.specs.NamedDatabases.{NamesRise, database_of, with_put}
-use Rattle.pdb_values.proofs.NamedLaws.{NamesRise-with_put, bytes_eq-is, bytes_eq-own, database_of-same, database_of-with_put}
+use Rattle.pdb_values.proofs.NamedLaws.{NamesRise-with_put, bytes_eq-own, database_of-same, database_of-with_put}
 use Rattle.session_plan.specs.Merges.{handheld_before}
 use Rattle.session_plan.specs.Choosing.{add_count}
 use Rattle.session_plan.specs.Tasks.{Meeting, Task}
 use Rattle.repeat_laws.proofs.MergedLaws.{NotNamed}
 use Rattle.front_laws.proofs.TaskActs.{IsReady}
+use Rattle.sync_session.proofs.OnceLaws.{bytes_eq-swap}
 
 -- what a database becomes, with the ids that its new records got
 abbrev pub Change : Type 0
@@ -90,19 +91,12 @@ changed-each m f keeps (t ∷ ts) ready given databases names = (
 )
 
 -- the names are looked up in both, and so are those of later tasks
-pub turned : (a b : List ℕ) → bytes_eq a b ≡ false → bytes_eq b a ≡ false
-turned a b is = by (bytes_eq b a) refl
-  where
-    by : (c : Bool) → bytes_eq b a ≡ c → bytes_eq b a ≡ false
-    by true same = absurd (let no_other : true ≡ false = sym (bytes_eq-own a) ∙ ap (bytes_eq a) (sym (bytes_eq-is b a same)) ∙ is in cc)
-    by false same = same
-
 pub changed-other : {m : Meeting} (f g : Change) → KeepsName g
     → (ts : List Task) (ready : AreReady m ts) (given : List ℕ) (databases : List DatabaseValue) {t : Task} (is : IsReady m t) (ids : List ℕ)
     → NotNamed t.name ts → AreChanged m f ts ready given databases → AreChanged m f ts ready given (put_at_task g t ids databases)
 changed-other f g keeps [] ready given databases is ids unnamed changed = tt
 changed-other {m} f g keeps (u ∷ ts) ready given databases {t} is ids unnamed changed = (
-  look-other g is ids databases keeps u.name (turned u.name t.name unnamed.0) ∙ changed.0,
+  look-other g is ids databases keeps u.name (bytes_eq-swap u.name t.name unnamed.0) ∙ changed.0,
   changed-other f g keeps ts ready.1 (drop (add_count m u) given) databases is ids unnamed.1 changed.1,
 )
 

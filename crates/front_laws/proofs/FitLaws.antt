@@ -15,7 +15,7 @@ use Rattle.palm_device.specs.Records.{is_changed}
 use Rattle.dlp_requests.specs.RequestTexts.{IsRequest}
 use Rattle.conduit_rules.specs.ById.{id_bound}
 use Rattle.conduit_rules.specs.Plans.{is_purged, purged_at, purged_ids}
-use Rattle.conduit_rules.specs.States.{SideState, first, has_row}
+use Rattle.conduit_rules.specs.States.{BaseState, SideState, base_at, first, gone, no_base, row}
 use Rattle.desktop_session.specs.Acts.{Act}
 use Rattle.desktop_session.specs.Lists.{id_listings, id_parts, listings}
 use Rattle.desktop_session.specs.Requests.{cleaning, closing, ending, listing, listing_ids, reading_at, reading_next, reading_of, removing, resetting}
@@ -26,7 +26,8 @@ use Rattle.slow_mirror.specs.Reads as slow
 use Rattle.session_plan.specs.Choosing.{base_rows, choice, is_fast, seen_held, add_count}
 use Rattle.session_plan.specs.Heads.{plain_attributes}
 use Rattle.sync_session.specs.News.{all_news, made, news_acts, news_by, opened_for, purge_acts, writes, replaced as replacements}
-use Rattle.sync_session.specs.Reads.{fast_reads, opened, read_acts, read_by_id, reads}
+use Rattle.fast_mirror.specs.FastReads.{asks_of, fast_asks, other_reads}
+use Rattle.sync_session.specs.Reads.{opened, read_acts, reads}
 use Rattle.sync_session.specs.Sessions.{after_commit, before_commit, before_writes, listing_all, session, begin_mark, end_mark}
 use Rattle.session_plan.specs.Skips.{active}
 use Rattle.session_plan.specs.Tasks.{Meeting, Task, records_of, slot_of}
@@ -34,10 +35,12 @@ use Rattle.session_plan.specs.Users.{agreed_user, begun_user, done_user, slots_u
 use Rattle.front_laws.specs.Sound.{IsSoundMeeting}
 use Rattle.front_laws.proofs.MergeActs.{name_of_both}
 use Rattle.front_laws.proofs.PutActs.{IsReplacement}
-use Rattle.front_laws.proofs.ReadyLaws.{AreSound, IsKept, all-map, are-kept, handheld-sound, ready-of}
-use Rattle.front_laws.proofs.SortedLaws.{all-append, all-below, all-flat_map, below_bound, found}
+use Rattle.front_laws.proofs.ReadyLaws.{AreSound, IsKept, are-kept, handheld-sound, ready-of}
+use Rattle.front_laws.proofs.SortedLaws.{all-below, all-flat_map, below_bound, found}
 use Rattle.front_laws.proofs.TaskActs.{IsReady}
 use Rattle.front_laws.proofs.WriteActs.{IsSorted}
+use Rattle.session_parts.proofs.RestLaws.{all-append}
+use Rattle.desk_journal.proofs.StepLaws.{all_weaken}
 
 abbrev pub FitsOne : Act → Type 0
 FitsOne act = IsRequest act.asks
@@ -73,19 +76,23 @@ unfolding slow.reads
 fit-each zero few = tt
 fit-each (suc n) few = fit-append (slow.reads 1 n) (reading_at 1 n ∷ []) (fit-each n (omega (arith, few))) (at_fits 1 n one (omega (arith, few)), tt)
 
-fit-by_id : (base : List Record) (o : Option Record) → IfSome o IsBoundedRecord → Fit (read_by_id base o)
-fit-by_id base None is = tt
-fit-by_id base (Some r) is = by (is_changed r) (has_row base r.id)
+fit-asks_of : (base : List Record) (o : Option Record) → IfSome o IsBoundedRecord → Fit (asks_of base 1 o)
+fit-asks_of base None is = tt
+fit-asks_of base (Some r) is = by (is_changed r) (base_at base false r.id)
   where
-    by : (changed there : Bool) → Fit (if changed then [] else (if there then [] else reading_of 1 r.id ∷ []))
+    asked : Fit (reading_of 1 r.id ∷ [])
+    asked = (of_fits 1 r.id one (let l = is.id in omega (arith, l)), tt)
+
+    by : (changed : Bool) (there : BaseState) → Fit (if changed then [] else other_reads 1 r.id there)
     by true there = tt
-    by false true = tt
-    by false false = (of_fits 1 r.id one (let l = is.id in omega (arith, l)), tt)
+    by false (row content) = tt
+    by false no_base = asked
+    by false (gone content) = asked
 
 few_parts : (n : ℕ) → n ≤ 65535 → id_parts n ≤ 9
 few_parts n few = omega (arith, few)
 
-fit-fast : (base records : List Record) → AllByRecursion IsBoundedRecord records → length records ≤ 65535 → Fit (fast_reads base records)
+fit-fast : (base records : List Record) → AllByRecursion IsBoundedRecord records → length records ≤ 65535 → Fit (fast_asks base 1 records)
 fit-fast base records bounded few =
     grind (
       arith,
@@ -94,17 +101,17 @@ fit-fast base records bounded few =
       count_fits 1 one,
       fit-append (id_listings 1 (id_parts (length records))),
       fit-ids (id_parts (length records)) (few_parts (length records) few),
-      fit-append (replicate (length (filter is_changed records) + 1) (reading_next 1)),
-      fit-replicate (length (filter is_changed records) + 1) (reading_next 1) (next_fits 1 one),
+      fit-append (replicate (suc (length (filter is_changed records))) (reading_next 1)),
+      fit-replicate (suc (length (filter is_changed records))) (reading_next 1) (next_fits 1 one),
       all-below FitsOne,
-      fit-by_id base,
+      fit-asks_of base,
       found IsBoundedRecord,
     )
 
 fit-reads : (m : Meeting) (t : Task) → AreSound (records_of t.handheld) → Fit (reads m t)
 fit-reads m t own = by (is_fast m t)
   where
-    by : (fast : Bool) → Fit (if fast then fast_reads (base_rows t) (records_of t.handheld) else slow.slow_reads 1 (length (records_of t.handheld)))
+    by : (fast : Bool) → Fit (if fast then fast_asks (base_rows t) 1 (records_of t.handheld) else slow.slow_reads 1 (length (records_of t.handheld)))
     by true = fit-fast (base_rows t) (records_of t.handheld) own.kept own.few
     by false = (count_fits 1 one, fit-each (length (records_of t.handheld)) (let l = own.few in omega (arith, l)))
 
@@ -148,7 +155,7 @@ fit-writes m t is given =
       fit-puts (replicate (length (replacements m t)) 0 ++ given) (replacements m t ++ as_new (choice m t).adds),
       length (replacements m t),
       all-append Puttable (replacements m t) (as_new (choice m t).adds),
-      all-map IsReplacement Puttable (replacements m t),
+      all_weaken IsReplacement Puttable (replacements m t),
       new_puttable (choice m t).adds is.adds,
     )
 
@@ -214,7 +221,7 @@ is_fit m sound t is =
         let bounded = AllByRecursion-database_of IsBoundedDatabase t.name (slot_of m).shelves.rows d sound.slot.rows (sym there) in bounded.head
 
 all_fit : {m : Meeting} → IsSoundMeeting m → AllByRecursion (IsFit m) (active m)
-all_fit {m} sound = all-map (IsKept m) (IsFit m) (active m) (is_fit m sound) (are-kept m)
+all_fit {m} sound = all_weaken (IsKept m) (IsFit m) (active m) (is_fit m sound) (are-kept m)
 
 fit-all_news : (m : Meeting) (ts : List Task) → AllByRecursion (IsFit m) ts → (given : List ℕ) → Fit (all_news m ts given)
 unfolding all_news

@@ -28,6 +28,7 @@ use Rattle.front_laws.proofs.ReadyLaws.{ready-all}
 use Rattle.front_laws.proofs.RelabelLaws.{NoAsk, before-count, before-labelled, none-after, session-labelled}
 use Rattle.front_laws.proofs.RunLaws.{answers, answers-count, asks, asks_in, count_one, exchanges-are, given-all, given_to, ids_left, none-all-given}
 use Rattle.front_laws.proofs.RunLaws.{relabel, relabel-take, runs-by, sayable-all}
+use Rattle.palm_device.proofs.BoundLaws.{AllByRecursion-take}
 
 -- ---- the requests of a beginning
 
@@ -36,16 +37,11 @@ take-map f zero xs = refl
 take-map f (suc n) [] = refl
 take-map {A} {B} f (suc n) (x ∷ xs) = ap (λ (ys : List B). f x ∷ ys) (take-map f n xs)
 
-pub all-take : {A : Type 0} (P : A → Type 0) (n : ℕ) (xs : List A) → AllByRecursion P xs → AllByRecursion P (take n xs)
-all-take P zero xs all = tt
-all-take P (suc n) [] all = tt
-all-take P (suc n) (x ∷ xs) all = (all.0, all-take P n xs all.1)
-
 pub first_requests : (m : Meeting) (ids : List ℕ) (n : ℕ) → take n (requests m) ≡ map text (take n (session m ids))
 first_requests m ids n = ap (take n) (sym (text-session m ids)) ∙ take-map text n (session m ids)
 
 pub first_fit : {m : Meeting} → IsSoundMeeting m → (ids : List ℕ) (n : ℕ) → Fit (take n (session m ids))
-first_fit {m} sound ids n = all-take FitsOne n (session m ids) (fit-session sound ids)
+first_fit {m} sound ids n = AllByRecursion-take FitsOne n (session m ids) (fit-session sound ids)
 
 pub first-said : (m : Meeting) (given : List ℕ) (n : ℕ) → IsSoundMeeting m → GetFreeIds (take n (session m given)) m.device
     → AreSayable (take n (session m given)) m.device

@@ -35,6 +35,7 @@ use Rattle.front_laws.proofs.FrontLaws.{front-among, front-behind}
 use Rattle.front_laws.proofs.ReadyLaws.{handheld-sound}
 use Rattle.front_laws.proofs.StopLaws.{IsStep, adds-behind, none-later, step-among, step-behind}
 use Rattle.front_laws.proofs.UnknownLaws.{IsNewIn, all-new, news-back, unknown-both, unknown-of}
+use Rattle.sync_session.proofs.NewsJoins.{no_ids}
 
 -- ---- what a stop leaves
 
@@ -73,9 +74,6 @@ gone-left a {y} (at_end given view g) read may gone = merged-gone a y given g re
 
 no_items : (xs : List ContentValue) (n : ℕ) → n + length xs ≡ 0 → xs ≡ []
 no_items xs n few = grind (arith, common_steps)
-
-no_ids : (ids : List ℕ) → length ids ≡ 0 → ids ≡ []
-no_ids ids few = grind (arith, common_steps)
 
 -- what adds nothing adds nothing later
 adds-left : (a : Action) (y : Finding) (place : Place) → IsRead y → MayStop a y place → (chosen a y).adds ≡ [] → (chosen a (left a y place)).adds ≡ []

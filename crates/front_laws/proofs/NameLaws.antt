@@ -29,12 +29,13 @@ use Rattle.front_laws.specs.Sound.{IsSoundMeeting}
 use Rattle.front_laws.specs.Stops.{IsWritten, StandsAmongNews, StandsBehindCommit, StandsWith}
 use Rattle.front_laws.proofs.AmongActs.{AmongPart, AreInTurn, AreShared, IsShare, Share, all_used, no_share}
 use Rattle.front_laws.proofs.BehindActs.{AreCleared, BehindPart, news_records, with_cleared}
-use Rattle.front_laws.proofs.EachLaws.{AreReady, HaveNames, turned}
+use Rattle.front_laws.proofs.EachLaws.{AreReady, HaveNames}
 use Rattle.front_laws.proofs.PartActs.{with_some}
 use Rattle.front_laws.proofs.PhaseActs.{AreDealt, before_records}
 use Rattle.front_laws.proofs.ReadyLaws.{IsIn, are_in, have-names, ready-all}
 use Rattle.front_laws.proofs.RelabelLaws.{drop-none, take-none}
 use Rattle.front_laws.proofs.TaskActs.{AreGiven, IsReady}
+use Rattle.sync_session.proofs.OnceLaws.{bytes_eq-swap}
 
 -- ---- the names of a session
 
@@ -114,7 +115,7 @@ named_share m (t ∷ ts) ready (s ∷ ss) databases name are shared others =
 used_apart : (t : Task) (s : Share) (ts us : List Task) (ss : List Share) → NotNamed t.name us
     → flat_map (λ (u : Task). (share_at (t ∷ ts) (s ∷ ss) u.name).used) us ≡ flat_map (λ (u : Task). (share_at ts ss u.name).used) us
 used_apart t s ts [] ss unnamed = refl
-used_apart t s ts (u ∷ us) ss unnamed = grind (arith, share_at ts ss u.name, turned u.name t.name unnamed.0, used_apart t s ts us ss unnamed.1)
+used_apart t s ts (u ∷ us) ss unnamed = grind (arith, share_at ts ss u.name, bytes_eq-swap u.name t.name unnamed.0, used_apart t s ts us ss unnamed.1)
 
 used_all : (m : Meeting) (ts : List Task) (ready : AreReady m ts) (ss : List Share) (databases : List DatabaseValue) → HaveNames ts
     → AreShared m ts ready ss databases → flat_map (λ (t : Task). (share_at ts ss t.name).used) ts ≡ all_used ss

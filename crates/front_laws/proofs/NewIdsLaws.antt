@@ -14,7 +14,7 @@ use Rattle.pdb_values.specs.declared.record.Record.{Record}
 use Rattle.pdb_values.proofs.NamedLaws.{AllByRecursion-database_of, bytes_eq-is, bytes_eq-own}
 use Rattle.palm_device.specs.Bounds.{IsBoundedDatabase}
 use Rattle.palm_device.specs.FreshIds.{is_among, least_from, least_id}
-use Rattle.palm_device.specs.Records.{place_of_id, put_record}
+use Rattle.palm_device.specs.Records.{put_record}
 use Rattle.palm_device.specs.Soundness.{ids_of}
 use Rattle.handheld_files.proofs.SettledLaws.{least_free, least_low}
 use Rattle.conduit_rules.specs.Choices.{Choice}
@@ -23,7 +23,6 @@ use Rattle.record_merge.specs.Writes.{AreFree, GotFreeIds, after, numbered, repl
 use Rattle.record_merge.proofs.PutLaws.{first-put}
 use Rattle.session_plan.specs.Choosing.{action_or_sync, base_rows, base_rows_by, choice, seen_held, add_count}
 use Rattle.session_plan.specs.Limits.{first_behind, first_over}
-use Rattle.session_plan.specs.Merges.{handheld_before}
 use Rattle.sync_session.specs.News.{replaced as replacements}
 use Rattle.session_plan.specs.Skips.{active}
 use Rattle.session_plan.specs.Tasks.{Meeting, Task, records_of, slot_of, task_of}
@@ -32,12 +31,14 @@ use Rattle.repeat_laws.specs.Renaming.{AreUnknown, is_known}
 use Rattle.repeat_laws.specs.Repeats.{Finding, GotAllIds}
 use Rattle.repeat_laws.proofs.MergedLaws.{IsTask}
 use Rattle.repeat_laws.proofs.TaskLaws.{is-active}
-use Rattle.repeat_laws.proofs.WholeLaws.{chosen-is, shown-is}
+use Rattle.repeat_laws.proofs.WholeLaws.{before_records, chosen-is, shown-is}
 use Rattle.front_laws.specs.Sound.{IsSoundMeeting}
 use Rattle.front_laws.proofs.PhaseActs.{first_not, has_room, within}
 use Rattle.front_laws.proofs.PutActs.{replaces-length}
 use Rattle.front_laws.proofs.ReadyLaws.{IsKept, are-kept, handheld-sound, ready-of, shows-no_other}
 use Rattle.front_laws.proofs.TaskActs.{HasRoom}
+use Rattle.std.proofs.lemmas.Bool.{or_parts}
+use Rattle.repeat_laws.proofs.DesktopLaws.{first_place}
 
 -- ---- ids that are not taken
 
@@ -50,24 +51,17 @@ fresh-length : (n : ℕ) (taken : List ℕ) → length (fresh_for n taken) ≡ n
 fresh-length zero taken = refl
 fresh-length (suc n) taken = let rest = fresh-length n (least_id taken ∷ taken) in omega (arith, rest)
 
-both_false : (a b : Bool) → (a || b) ≡ false → (a ≡ false) × (b ≡ false)
-both_false a b is = grind (arith, common_steps)
-
 fresh-each : (P : ℕ → Type 0) (n : ℕ) (taken : List ℕ) → ((g : ℕ) → is_among g taken ≡ false → P g) → AllByRecursion P (fresh_for n taken)
 fresh-each P zero taken new = tt
 fresh-each P (suc n) taken new = (
   new (least_id taken) (least_free taken),
-  fresh-each P n (least_id taken ∷ taken) (λ g apart. new g (both_false (least_id taken == g) (is_among g taken) apart).1),
+  fresh-each P n (least_id taken ∷ taken) (λ g apart. new g (or_parts (least_id taken == g) (is_among g taken) apart).1),
 )
 
 least-few : (more low : ℕ) (taken : List ℕ) → least_from more low taken ≤ low + more
 unfolding least_from
 least-few zero low taken = omega arith
 least-few (suc more) low taken = grind (arith, common_steps, nat_tests, least-few more (suc low) taken)
-
-first-place : (g : ℕ) (records : List Record) → first g records ≡ None → place_of_id g records ≡ None
-first-place g [] none = refl
-first-place g (r ∷ records) none = grind (arith, common_steps, nat_tests, none, first-place g records)
 
 first-apart : (g : ℕ) (records : List Record) → is_among g (ids_of records) ≡ false → first g records ≡ None
 first-apart g [] apart = refl
@@ -88,10 +82,10 @@ fresh-free (suc n) taken (c ∷ cs) records few none =
       record {
         some = omega (arith, low);
         bound = omega (arith, least, few);
-        none = first-place g records (none g (least_free taken));
+        none = first_place g records (none g (least_free taken));
       },
       fresh-free n (g ∷ taken) cs (put_record g c records) (omega (arith, few)) (λ h apart.
-          let parts = both_false (g == h) (is_among h taken) apart in first-then g h c records parts.0 (none h parts.1)),
+          let parts = or_parts (g == h) (is_among h taken) apart in first-then g h c records parts.0 (none h parts.1)),
     )
 
 are-unknown : (x : Finding) (ids : List ℕ) → AllByRecursion (λ (g : ℕ). is_known x g ≡ false) ids → AreUnknown x ids
@@ -103,7 +97,7 @@ are-unknown x (g ∷ ids) all = (all.0, are-unknown x ids all.1)
 among-append : (g : ℕ) (xs ys : List ℕ) → is_among g (xs ++ ys) ≡ false → (is_among g xs ≡ false) × (is_among g ys ≡ false)
 among-append g [] ys apart = (refl, apart)
 among-append g (x ∷ xs) ys apart =
-    let parts = both_false (x == g) (is_among g (xs ++ ys)) apart in
+    let parts = or_parts (x == g) (is_among g (xs ++ ys)) apart in
     let rest = among-append g xs ys parts.1 in
     (ap (λ (b : Bool). b || is_among g xs) parts.0 ∙ rest.0, rest.1)
 
@@ -168,9 +162,6 @@ givable m sound t kept room =
 
 -- ---- all of them
 
-before-records : (h r : Option DatabaseValue) {b : DatabaseValue} → handheld_before h r ≡ Some b → b.records ≡ records_of h
-before-records h r before = grind (arith, common_steps)
-
 all-givable : (m : Meeting) → IsSoundMeeting m → (ts : List Task) (handhelds desktops : ℕ) → AllByRecursion (IsKept m) ts
     → first_behind m handhelds desktops ts ≡ None → AllByRecursion (IsGivable m) ts
 all-givable m sound [] handhelds desktops kept none = tt
@@ -178,7 +169,7 @@ all-givable m sound (t ∷ ts) handhelds desktops kept none =
     let parts = first_not m t ts handhelds desktops none in
     let ready = ready-of m sound t kept.0 in
     let room = has_room m t ready (shows-no_other m t (handheld-sound sound t kept.0.is)) (within m t handhelds desktops parts.0) in (
-      givable m sound t kept.0 (subst (HasRoom m t) (before-records t.handheld t.rows ready.before) room),
+      givable m sound t kept.0 (subst (HasRoom m t) (before_records t.handheld t.rows ready.before) room),
       all-givable m sound ts _ _ kept.1 parts.1,
     )
 

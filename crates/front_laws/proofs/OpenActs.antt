@@ -11,7 +11,7 @@ use Rattle.palm_device.specs.Devices.{Device}
 use Rattle.palm_device.specs.Handles.{just_opened, no_handles, with_handle}
 use Rattle.palm_device.specs.Heads.{is_read_only}
 use Rattle.palm_device.specs.declared.opened.Opened.{Opened}
-use Rattle.dlp_commands.specs.DatabaseFunctions.{open_db, read_db_list}
+use Rattle.dlp_commands.specs.DatabaseFunctions.{open_db}
 use Rattle.dlp_commands.specs.DeviceSteps.{outcome, tried}
 use Rattle.dlp_commands.specs.Errors.{◌>>=◌}
 use Rattle.dlp_commands.specs.Reached.{next_of, read_next_modified_rec, reads as reached, with_index, with_next}
@@ -26,6 +26,7 @@ use Rattle.desktop_session.proofs.OrderLaws.{name_right}
 use Rattle.desktop_session.proofs.RowLaws.{close_row}
 use Rattle.slow_mirror.specs.Reads as slow
 use Rattle.slow_mirror.proofs.ReadLaws.{after_append}
+use Rattle.session_parts.proofs.RestLaws.{listing_same}
 
 -- nothing is open
 abbrev pub all_closed : List DatabaseValue → UserInfo → Device
@@ -69,15 +70,11 @@ pub begin_same : (device : Device) → (acted beginning device).1 ≡ device
 unfolding acted tried
 begin_same device = refl
 
-list_same : (device : Device) (start : ℕ) → (acted (listing start) device).1 ≡ device
-unfolding acted tried read_db_list
-list_same device start = grind arith
-
 pub lists_same : (device : Device) (count : ℕ) → device_after (listings count) device ≡ device
 unfolding listings
 lists_same device zero = refl
 lists_same device (suc count) =
-    grind (arith, after_append (listings count) (listing count ∷ []) device, lists_same device count, list_same device count)
+    grind (arith, after_append (listings count) (listing count ∷ []) device, lists_same device count, listing_same device count)
 
 pub count_same : (device : Device) → (acted (counting 1) device).1 ≡ device
 unfolding acted tried

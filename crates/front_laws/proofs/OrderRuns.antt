@@ -19,11 +19,12 @@ use Rattle.front_laws.specs.Given.{GetFreeIds}
 use Rattle.front_laws.specs.Sound.{IsSoundMeeting}
 use Rattle.front_laws.proofs.AlongLaws.{quiet-all}
 use Rattle.front_laws.proofs.FitLaws.{Fit, FitsOne, fit-before}
-use Rattle.front_laws.proofs.FrontLaws.{all-take, first_fit, first_requests, take-map}
+use Rattle.front_laws.proofs.FrontLaws.{first_fit, first_requests, take-map}
 use Rattle.front_laws.proofs.OrderActs.{read-order}
 use Rattle.front_laws.proofs.OrderWrites.{session-order}
 use Rattle.front_laws.proofs.RelabelLaws.{NoAsk, none-quiet, none-same, session-labelled}
 use Rattle.front_laws.proofs.RunLaws.{answers, asks, exchanges-are, given_to, ids_left, relabel, relabel-take, runs-by, sayable-all}
+use Rattle.palm_device.proofs.BoundLaws.{AllByRecursion-take}
 
 -- ---- exchanges
 
@@ -89,7 +90,7 @@ plain-answered acts count {old} replies reached fit none proper order =
     let same : (ids : List ℕ) → relabel ids (take count acts) ≡ take count acts =
     λ ids. sym (relabel-take count ids acts) ∙ ap (take count) (none-same ids acts none) in
     subst (IsRunAnswered old reached replies) (sym (take-map text count acts))
-    (run_answered (take count acts) reached replies (all-take FitsOne count acts fit) proper
+    (run_answered (take count acts) reached replies (AllByRecursion-take FitsOne count acts fit) proper
     (λ ids free. subst (λ (zs : List Act). AreInOrder zs old) (sym (same ids)) order))
 
 -- a run by them is that of the acts
@@ -111,7 +112,7 @@ read-answered m count replies reached sound =
     let same : (ids : List ℕ) → relabel ids (take count all) ≡ take count all =
     λ ids. sym (relabel-take count ids all) ∙ ap (take count) (none-same ids all (none-quiet all (quiet-all all (quiet-before_writes m)))) in
     subst (IsRunAnswered m.device reached replies) (sym (take-map text count all))
-    (run_answered (take count all) reached replies (all-take FitsOne count all (fit-before sound)) sound.device
+    (run_answered (take count all) reached replies (AllByRecursion-take FitsOne count all (fit-before sound)) sound.device
     (λ ids free. subst (λ (acts : List Act). AreInOrder acts m.device) (sym (same ids)) (read-order m count sound)))
 
 pub whole-answered : (m : Meeting) (count : ℕ) (replies : List (List ℕ)) (reached : Device) → IsSoundMeeting m → first_over m ≡ None

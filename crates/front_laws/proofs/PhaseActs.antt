@@ -1,6 +1,5 @@
 -- What each phase of a session makes of a handheld.
-use Rattle.std.proofs.lemmas.Grind.{common_steps}
-use Rattle.std.proofs.Common.{◌≡◌, ◌∙◌, ◌≤◌, ◌<◌, ◌+◌, refl, ap, sym, subst, ℕ, Bool, false, List, [], ◌∷◌, length, take, drop, if◌then◌else◌, arith}
+use Rattle.std.proofs.Common.{◌≡◌, ◌∙◌, ◌≤◌, ◌<◌, ◌+◌, refl, ap, sym, subst, ℕ, false, List, [], ◌∷◌, length, take, drop, if◌then◌else◌, arith}
 use Rattle.std.specs.Prelude.{◌||◌, nat_lt, Option, Some, None, flat_map, is_none}
 use Rattle.std.specs.List.{AllByRecursion}
 use Rattle.std.proofs.lemmas.Bool.Decides.{nat_tests}
@@ -30,11 +29,13 @@ use Rattle.repeat_laws.proofs.MergedLaws.{NotNamed}
 use Rattle.front_laws.specs.Given.{GetFreeIds}
 use Rattle.front_laws.proofs.CountLaws.{appended-count}
 use Rattle.front_laws.proofs.EachLaws.{AreChanged, AreReady, Change, HaveNames, KeepsName, changed-other, look-other, put_at_task, put_each, put-is}
-use Rattle.front_laws.proofs.EachLaws.{rise-put, turned}
+use Rattle.front_laws.proofs.EachLaws.{rise-put}
 use Rattle.front_laws.proofs.OpenActs.{all_closed}
 use Rattle.front_laws.proofs.ReadActs.{reads_same}
 use Rattle.front_laws.proofs.PutActs.{free-append, free-front}
 use Rattle.front_laws.proofs.TaskActs.{AreGiven, HasNews, HasRoom, IsReady, news_do, purged_does, with_news}
+use Rattle.repeat_laws.proofs.SkipLaws.{left_false, right_false}
+use Rattle.sync_session.proofs.OnceLaws.{bytes_eq-swap}
 
 -- ---- the reading
 
@@ -84,12 +85,6 @@ pub record IsWithin (m : Meeting) (t : Task) (handhelds : ℕ) : Type 0 where
   pub room : length (records_of t.handheld) +
       (add_count m t + length (each_id (λ i. new_under i (first i (records_of t.handheld)) ((choice m t).keep i)))) ≤ 65535
 
-left_false : (a b : Bool) → (a || b) ≡ false → a ≡ false
-left_false a b is = grind (arith, common_steps)
-
-right_false : (a b : Bool) → (a || b) ≡ false → b ≡ false
-right_false a b is = grind (arith, common_steps)
-
 not_over : (limit n : ℕ) → nat_lt limit n ≡ false → n ≤ limit
 not_over limit n is = grind (arith, nat_tests, is)
 
@@ -131,7 +126,7 @@ module _ {m : Meeting} (f : Change) (keeps : KeepsName f) {t : Task} (is : IsRea
   pub stand-put : (ts : List Task) → NotNamed t.name ts → Stand ts databases → Stand ts (put_at_task f t ids databases)
   stand-put [] unnamed stand = tt
   stand-put (u ∷ ts) unnamed stand = (
-    look-other f is ids databases keeps u.name (turned u.name t.name unnamed.0) ∙ stand.0,
+    look-other f is ids databases keeps u.name (bytes_eq-swap u.name t.name unnamed.0) ∙ stand.0,
     stand-put ts unnamed.1 stand.1,
   )
 

@@ -41,6 +41,7 @@ use Rattle.front_laws.proofs.PutActs.{IsReplacement}
 use Rattle.front_laws.proofs.SortedLaws.{AreSorted, HasNoZero, HasSorted, SeenSorted, adds-sorted, fast-sorted, replaced-sorted, sides-sorted, slow-sorted}
 use Rattle.front_laws.proofs.TaskActs.{IsReady}
 use Rattle.front_laws.proofs.WriteActs.{IsSorted}
+use Rattle.desk_journal.proofs.StepLaws.{all_weaken}
 
 -- ---- the databases that aren't skipped
 
@@ -49,16 +50,12 @@ pub record IsKept (m : Meeting) (t : Task) : Type 0 where
   pub side : (is_some t.handheld || is_some t.rows) ≡ true
   pub kept : is_none (skip_of t) ≡ true
 
-pub all-map : {A : Type 0} (P Q : A → Type 0) (xs : List A) → ((x : A) → P x → Q x) → AllByRecursion P xs → AllByRecursion Q xs
-all-map P Q [] turn all = tt
-all-map P Q (x ∷ xs) turn all = (turn x all.0, all-map P Q xs turn all.1)
-
 abbrev pub IsIn : List (List ℕ) → List ℕ → Type 0
 IsIn ns n = list_any (λ other. bytes_eq other n) ns ≡ true
 
 pub are_in : (ns : List (List ℕ)) → AllByRecursion (IsIn ns) ns
 are_in [] = tt
-are_in (n ∷ ns) = grind (arith, bytes_eq-own n, all-map (IsIn ns) (IsIn (n ∷ ns)) ns, IsIn ns, IsIn (n ∷ ns), are_in ns)
+are_in (n ∷ ns) = grind (arith, bytes_eq-own n, all_weaken (IsIn ns) (IsIn (n ∷ ns)) ns, IsIn ns, IsIn (n ∷ ns), are_in ns)
 
 kept_in : (m : Meeting) (ns : List (List ℕ)) → AllByRecursion (IsIn (names m)) ns
     → AllByRecursion (IsKept m) (filter (λ t. is_none (skip_of t)) (map (task_of m) ns))
@@ -111,7 +108,7 @@ bounded_ids [] all = tt
 bounded_ids (r ∷ records) all = grind (arith, id_bound-is, bounded_ids records all.1)
 
 sorted_records : (records : List Record) → AllByRecursion IsBoundedRecord records → AllByRecursion HasSorted records
-sorted_records records all = grind (arith, all-map IsBoundedRecord HasSorted records)
+sorted_records records all = grind (arith, all_weaken IsBoundedRecord HasSorted records)
 
 pub handheld-sound : {m : Meeting} → IsSoundMeeting m → (t : Task) → t ≡ task_of m t.name → AreSound (records_of t.handheld)
 handheld-sound {m} sound t is = by t.handheld (ap (λ (x : Task). x.handheld) is)

@@ -1,5 +1,4 @@
 -- How many databases a desktop has once a session is merged: no more than its limit, where that isn't passed.
-use Rattle.std.proofs.lemmas.Grind.{common_steps}
 use Rattle.std.proofs.lemmas.Bool.Decides.{nat_tests}
 use Rattle.std.proofs.lemmas.List.Sums.{sum_by-cons, sum_by-set}
 use Rattle.std.proofs.Common.{◌≡◌, ◌∙◌, ◌+◌, ◌≤◌, ◌||◌, ap, sym, refl, arith, ℕ, Bool, true, false, cond, List, [], ◌∷◌, ◌++◌, length, take, drop, get_or, set, is_some}
@@ -24,6 +23,7 @@ use Rattle.repeat_laws.proofs.MergedLaws.{AreTasks}
 use Rattle.repeat_laws.proofs.ShelfLaws.{rows_name}
 use Rattle.repeat_laws.proofs.TaskLaws.{are-active}
 use Rattle.front_laws.proofs.PhaseActs.{first_not}
+use Rattle.repeat_laws.proofs.SkipLaws.{left_false, right_false}
 
 -- ---- one database more, or none
 
@@ -50,12 +50,6 @@ put-there new databases name some = ap is_some (database_of-with_put name new da
     by false = some
 
 -- ---- the rows of a slot
-
-right_false : (a b : Bool) → (a || b) ≡ false → b ≡ false
-right_false a b is = grind (arith, common_steps)
-
-left_false : (a b : Bool) → (a || b) ≡ false → a ≡ false
-left_false a b is = grind (arith, common_steps)
 
 not_over : (limit n : ℕ) → nat_lt limit n ≡ false → n ≤ limit
 not_over limit n is = grind (arith, nat_tests, is)

@@ -6,7 +6,7 @@ use Rattle.pdb_values.specs.NamedDatabases.{database_of}
 use Rattle.palm_device.specs.Devices.{Device}
 use Rattle.desk_store.specs.Shelves.{ShelvesValue, SlotValue}
 use Rattle.run_words.specs.Actions.{action_for}
-use Rattle.session_plan.specs.Merges.{merged_databases, merged_device, merged_shelves, merged_slot}
+use Rattle.session_plan.specs.Merges.{merged_device, merged_slot}
 use Rattle.session_plan.specs.Skips.{active, head_of, reason_by, skip_of}
 use Rattle.session_plan.specs.Tasks.{Meeting, action_of_word, slot_of, task_of}
 use Rattle.repeat_laws.specs.Meetings.{AsksTheSame, IsActive}
@@ -16,16 +16,9 @@ use Rattle.repeat_laws.proofs.TaskLaws.{are-active, device-name, on_a_side, rows
 use Rattle.front_laws.specs.Again.{AllRunAgain, AllSkip, HoldsTheSame, Later, last_run}
 use Rattle.front_laws.proofs.FrontLaws.{front-among, front-behind}
 use Rattle.front_laws.proofs.NameLaws.{not-active}
+use Rattle.repeat_laws.proofs.WholeLaws.{device_databases, slot_shelves}
 
 -- ---- a whole session
-
-merged_databases_of : (m : Meeting) (given : List ℕ) → (merged_device m given).databases ≡ merged_databases m (active m) given m.device.databases
-unfolding merged_device
-merged_databases_of m given = refl
-
-merged_shelves_of : (m : Meeting) (given : List ℕ) → (merged_slot m given).shelves ≡ merged_shelves m (active m) given (slot_of m).shelves
-unfolding merged_slot
-merged_shelves_of m given = refl
 
 pub left-whole : (m : Meeting) (given name : List ℕ) → (IsActive m name → ⊥) → HoldsTheSame m (merged_device m given) (merged_slot m given) name
 left-whole m given name idle =
@@ -33,9 +26,9 @@ left-whole m given name idle =
     let are = are-active m in
     let unnamed = not-active m name idle in
     let old = (slot_of m).shelves in
-    let shelves = merged_shelves_of m given in
+    let shelves = slot_shelves m given in
     record {
-      handheld = ap (λ (ds : List DatabaseValue). database_of name ds) (merged_databases_of m given) ∙ handheld-others m tasks given name are unnamed;
+      handheld = ap (λ (ds : List DatabaseValue). database_of name ds) (device_databases m given) ∙ handheld-others m tasks given name are unnamed;
       rows = ap (λ (s : ShelvesValue). database_of name s.rows) shelves
           ∙ shelf-others (λ s. s.rows) rows_in (λ x s. refl) rows-head m tasks given old name are unnamed;
       base = ap (λ (s : ShelvesValue). database_of name s.bases) shelves

@@ -1,6 +1,6 @@
 -- What is chosen of a database has the categories that its sides have, and never the id 0.
 use Rattle.std.proofs.lemmas.Grind.{common_steps}
-use Rattle.std.proofs.Common.{◌≡◌, ◌≤◌, ◌<◌, ◌==◌, sym, subst, ℕ, zero, suc, Bool, true, false, List, [], ◌∷◌, ◌++◌, if◌then◌else◌, arith}
+use Rattle.std.proofs.Common.{◌≡◌, ◌≤◌, ◌<◌, ◌==◌, sym, subst, ℕ, zero, suc, Bool, true, false, List, [], ◌∷◌, if◌then◌else◌, arith}
 use Rattle.std.specs.Prelude.{not, ◌&&◌, Option, None, IfSome, option_to_list, flat_map}
 use Rattle.std.specs.List.{AllByRecursion, find}
 use Rattle.std.specs.Option.{option_map}
@@ -19,6 +19,7 @@ use Rattle.conduit_rules.specs.declared.view.Seen.{Seen}
 use Rattle.conduit_rules.proofs.ByIdLaws.{each_below-zero, each_below-suc}
 use Rattle.front_laws.proofs.PutActs.{IsReplacement}
 use Rattle.front_laws.proofs.WriteActs.{IsSorted}
+use Rattle.session_parts.proofs.RestLaws.{all-append}
 
 abbrev pub HasSorted : Record → Type 0
 HasSorted r = IsSorted r.content
@@ -34,10 +35,6 @@ IfBased (row c) = IsSorted c
 IfBased (gone c) = IsSorted c
 
 -- ---- lists
-
-pub all-append : {A : Type 0} (P : A → Type 0) (xs ys : List A) → AllByRecursion P xs → AllByRecursion P ys → AllByRecursion P (xs ++ ys)
-all-append P [] ys first second = second
-all-append P (x ∷ xs) ys first second = (first.0, all-append P xs ys first.1 second)
 
 pub all-flat_map : {A B : Type 0} (P : A → Type 0) (Q : B → Type 0) (f : A → List B) (xs : List A) → ((x : A) → P x → AllByRecursion Q (f x))
     → AllByRecursion P xs → AllByRecursion Q (flat_map f xs)

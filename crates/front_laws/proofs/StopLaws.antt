@@ -27,7 +27,7 @@ use Rattle.run_words.specs.declared.action.NamedAction.{NamedAction}
 use Rattle.session_plan.specs.Archives.{entries_of}
 use Rattle.session_plan.specs.Choosing.{action_or_sync, agrees, base_rows_by, is_fast, is_fast_by, view}
 use Rattle.session_plan.specs.Limits.{first_over}
-use Rattle.session_plan.specs.Merges.{merged_databases, merged_device, merged_slot}
+use Rattle.session_plan.specs.Merges.{merged_device, merged_slot}
 use Rattle.session_plan.specs.Skips.{active, head_of, reason_by, skip_of}
 use Rattle.session_plan.specs.Tasks.{Meeting, Task, action_of_word, records_of, slot_of, task_of}
 use Rattle.session_plan.specs.Users.{begun_user}
@@ -37,13 +37,13 @@ use Rattle.repeat_laws.specs.Renaming.{AreUnknown, SameEnds}
 use Rattle.repeat_laws.specs.Repeats.{Finding, GotAllIds, GotIds, IsRead, MayStop, NoneUnderGone, Place, among_news, at_end, before_mark, behind_commit, chosen}
 use Rattle.repeat_laws.specs.Repeats.{given_by, ids_given, ids_with, left_behind_commit, news_done, shown, sides}
 use Rattle.repeat_laws.proofs.CommitLaws.{commit-adds, end-adds}
-use Rattle.repeat_laws.proofs.MeetingLaws.{among-news, at-the_end, behind-the_commit, reading-shows}
+use Rattle.repeat_laws.proofs.MeetingLaws.{among-news, at-the_end, behind-the_commit, reading-shows, same_action}
 use Rattle.repeat_laws.proofs.MergedLaws.{handheld-merged}
 use Rattle.repeat_laws.proofs.NewsLaws.{whole-is}
 use Rattle.repeat_laws.proofs.SkipLaws.{handheld-like, kept-stays}
 use Rattle.repeat_laws.proofs.SoundLaws.{read-commit}
 use Rattle.repeat_laws.proofs.TaskLaws.{are-active, device-name, is-active, on_a_side, rows-name}
-use Rattle.repeat_laws.proofs.WholeLaws.{active-again, meetings-hold, merged-at, whole-found}
+use Rattle.repeat_laws.proofs.WholeLaws.{active-again, device_databases, meetings-hold, merged-at, whole-found}
 use Rattle.front_laws.specs.Again.{IsFresh, RunsAgain}
 use Rattle.front_laws.specs.Sound.{IsSoundMeeting}
 use Rattle.front_laws.specs.Stops.{StandsAmongNews, StandsBehindCommit, StandsWith, news_at}
@@ -52,6 +52,7 @@ use Rattle.front_laws.proofs.PartActs.{take-all}
 use Rattle.front_laws.proofs.ReadyLaws.{handheld-sound}
 use Rattle.front_laws.proofs.UnwrittenLaws.{unwritten-ids, written-records}
 use Rattle.front_laws.proofs.UnknownLaws.{IsNewIn, all-new, news-back, news-new, none-back, none-front, unknown-both, unknown-of}
+use Rattle.repeat_laws.proofs.HandheldLaws.{take_none}
 
 -- ---- what the next meeting finds
 
@@ -76,13 +77,10 @@ unknown-back : (x : Finding) (xs ys : List ℕ) → AreUnknown x (xs ++ ys) → 
 unknown-back x [] ys un = un
 unknown-back x (g ∷ xs) ys un = unknown-back x xs ys un.1
 
-take_nothing : (n : ℕ) {ws : List Write} → ws ≡ [] → take n ws ≡ []
-take_nothing n is = grind (arith, common_steps)
-
 may-among : (a : Action) {x : Finding} {given : List ℕ} (n : ℕ) → IsRead x → given_by (news_done a x given n) ≡ given → GotIds a x given
     → NoBase (base_at x.base true) given → NoneUnderGone x.gone_counts x.base x.records → MayStop a x (among_news given n)
 may-among Sync n read all free fresh gone = record { read = read; all = all; got = free; fresh = fresh; gone = gone }
-may-among Handheld {x} {given} n read all free fresh gone = grind (arith, take_nothing n (handheld-given (sides x) given))
+may-among Handheld {x} {given} n read all free fresh gone = grind (arith, take_none n (handheld-given (sides x) given))
 may-among Desktop n read all free fresh gone = free
 
 -- ids that stand in the end are among those that were given
@@ -152,10 +150,6 @@ active-among meeting next given stands name is asks slot =
     }
 
 -- the same with the merged handheld in place of one behind the commit: heads are the same
-device-databases : (m : Meeting) (given : List ℕ) → (merged_device m given).databases ≡ merged_databases m (active m) given m.device.databases
-unfolding merged_device
-device-databases m given = refl
-
 pub active-behind : (meeting next : Meeting) (given : List ℕ) → StandsBehindCommit meeting given next.device → (name : List ℕ) → IsActive meeting name
     → AsksTheSame meeting next → slot_of next ≡ merged_slot meeting given → IsActive next name
 unfolding skip_of
@@ -164,7 +158,7 @@ active-behind meeting next given stands name is asks slot =
     let again = active-again meeting ended given name
     (record { asks = record { actions = asks.actions; slow = asks.slow }; databases = refl; slot = slot }) is in
     let written = stands.each name is in
-    let merged = ap (database_of name) (device-databases meeting given)
+    let merged = ap (database_of name) (device_databases meeting given)
     ∙ handheld-merged meeting (active meeting) given (task_of meeting name) written.before (are-active meeting)
     (is-active meeting name is.there is.kept) written.is in
     let heads : head_of (database_of name next.device.databases) ≡ head_of (database_of name (merged_device meeting given).databases) =
@@ -188,9 +182,6 @@ pub record IsStep (meeting next : Meeting) (name ids : List ℕ) : Type 0 where
   pub gives : ids_given place ≡ ids
   pub stay : (x : Finding) (later : List ℕ) → AreUnknown x (ids ++ later) → AreUnknown x (ids_with (action_at meeting name) place later)
   pub active : IsActive next name
-
-same-action : {meeting next : Meeting} (name : List ℕ) → AsksTheSame meeting next → action_at next name ≡ action_at meeting name
-same-action name asks = ap (λ items. action_or_sync (action_of_word (action_for name items))) asks.actions
 
 -- what a meeting finds of a database depends on no more than this
 abbrev found_from : UserInfo → List DatabaseValue → SlotValue → Bool → List NamedAction → List ℕ → Finding
@@ -249,7 +240,7 @@ step-among {meeting} {next} {given} {name} stands is asks slot number read fresh
           let finds = found-before next name asks user databases slot in
           record {
             place = before_mark;
-            follows = record { action = same-action name asks; finds = finds };
+            follows = record { action = same_action name asks; finds = finds };
             may = tt;
             own = own;
             back = λ later got. subst (λ (y : Finding). AllByRecursion (IsNewIn y.records) later) finds (all-new got);

@@ -1,6 +1,6 @@
 -- An id that was given was that of no record before.
 use Rattle.std.proofs.lemmas.Grind.{common_steps}
-use Rattle.std.proofs.Common.{◌≡◌, ◌∙◌, ◌<◌, ◌||◌, ap, sym, ℕ, zero, suc, Bool, true, false, List, [], ◌∷◌, ◌++◌, length, take, arith, is_some}
+use Rattle.std.proofs.Common.{◌≡◌, ◌∙◌, ◌<◌, ap, sym, ℕ, zero, suc, true, false, List, [], ◌∷◌, ◌++◌, length, take, arith, is_some}
 use Rattle.std.specs.Prelude.{Option, None}
 use Rattle.std.specs.List.{AllByRecursion}
 use Rattle.pdb_values.specs.Contents.{ContentValue}
@@ -14,7 +14,8 @@ use Rattle.record_merge.specs.Writes.{AreFree, adding, after, numbered, replaces
 use Rattle.record_merge.proofs.AfterLaws.{after-replaces, free_before, free_before_all, place-first}
 use Rattle.repeat_laws.specs.Renaming.{AreUnknown}
 use Rattle.repeat_laws.specs.Repeats.{Finding, GotAllIds, GotIds, chosen, given_by, news_done, shown}
-use Rattle.front_laws.proofs.ReadyLaws.{all-map}
+use Rattle.repeat_laws.proofs.SkipLaws.{both_false}
+use Rattle.desk_journal.proofs.StepLaws.{all_weaken}
 
 -- no record has the id
 pub record IsNewIn (records : List Record) (g : ℕ) : Type 0 where
@@ -86,7 +87,7 @@ pub news-back : (a : Action) (x : Finding) (ids : List ℕ) (n : ℕ) (later : L
 news-back a x ids n later all =
     grind (
       arith,
-      all-map (IsNewIn (after (news_done a x ids n) x.records)) (IsNewIn x.records) later,
+      all_weaken (IsNewIn (after (news_done a x ids n) x.records)) (IsNewIn x.records) later,
       back-given n (replaced_rows (chosen a x).keep (shown x)) (numbered ids (chosen a x).adds) x.records,
     )
 
@@ -95,13 +96,10 @@ news-back a x ids n later all =
 base_none : (g : ℕ) (o : Option Record) → 0 < g → based_under true g o ≡ no_base → is_some o ≡ false
 base_none g o some is = grind (arith, common_steps)
 
-neither : {a b : Bool} → a ≡ false → b ≡ false → (a || b) ≡ false
-neither {b} no_a no_b = ap (λ x. x || b) no_a ∙ no_b
-
 pub unknown-of : (x : Finding) (ids : List ℕ) → AllByRecursion (IsNewIn x.records) ids → NoBase (base_at x.base true) ids → AreUnknown x ids
 unknown-of x [] new none = tt
 unknown-of x (g ∷ ids) new none = (
-  neither (ap is_some new.0.none) (base_none g (first g x.base) new.0.some none.0),
+  both_false (ap is_some new.0.none) (base_none g (first g x.base) new.0.some none.0),
   unknown-of x ids new.1 none.1,
 )
 

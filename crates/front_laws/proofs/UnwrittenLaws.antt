@@ -1,8 +1,7 @@
 -- A handheld that is as it was got no new record.
-use Rattle.std.proofs.lemmas.Grind.{common_steps}
 use Rattle.std.proofs.lemmas.Bool.Decides.{nat_tests}
 use Rattle.std.proofs.Common.{◌≡◌, inl, inr, ◌∙◌, refl, ap, sym, subst, ℕ, zero, suc, true, false, List, [], ◌∷◌, ◌++◌, take, arith, is_some}
-use Rattle.std.specs.Prelude.{Option, Some}
+use Rattle.std.specs.Prelude.{Option}
 use Rattle.pdb_values.specs.Contents.{ContentValue}
 use Rattle.pdb_values.specs.Databases.{DatabaseValue}
 use Rattle.pdb_values.specs.declared.record.Record.{Record}
@@ -12,19 +11,16 @@ use Rattle.conduit_rules.specs.States.{first}
 use Rattle.conduit_rules.specs.declared.action.Action.{Action}
 use Rattle.record_merge.specs.Writes.{Write, adding, after, numbered, replaces}
 use Rattle.record_merge.proofs.PutLaws.{first-put}
-use Rattle.session_plan.specs.Merges.{handheld_before}
 use Rattle.session_plan.specs.Tasks.{Task, records_of}
 use Rattle.repeat_laws.specs.Repeats.{Finding, GotIds, chosen, given_by, news_done, shown}
 use Rattle.front_laws.specs.Stops.{IsWritten, StandsWith}
 use Rattle.front_laws.proofs.UnknownLaws.{news-new}
+use Rattle.repeat_laws.proofs.WholeLaws.{before_records}
 
 -- ---- a database with some writes carried out
 
-before_rs : (h r : Option DatabaseValue) {b : DatabaseValue} → handheld_before h r ≡ Some b → b.records ≡ records_of h
-before_rs h r before = grind (arith, common_steps)
-
 pub written-records : {t : Task} {ws : List Write} {o : Option DatabaseValue} → IsWritten t ws o → records_of o ≡ after ws (records_of t.handheld)
-written-records {t} {ws} is = ap records_of is.stands ∙ ap (after ws) (before_rs t.handheld t.rows is.is)
+written-records {t} {ws} is = ap records_of is.stands ∙ ap (after ws) (before_records t.handheld t.rows is.is)
 
 -- ---- what was added is there
 

@@ -52,7 +52,7 @@ use Rattle.front_laws.specs.Answered.{IsAnsweredExchange}
 use Rattle.hotsync_run.proofs.LineLaws.{line_ran}
 use Rattle.hotsync_run.proofs.NeverLaws.{IsUnrefusedEnd, all-answered, all-talked, backup_never, run-says}
 
-prefix-on : {xs ys zs : List (List ℕ)} → IsPrefix xs ys → IsPrefix ys zs → IsPrefix xs zs
+pub prefix-on : {xs ys zs : List (List ℕ)} → IsPrefix xs ys → IsPrefix ys zs → IsPrefix xs zs
 prefix-on {xs} first second = record {
   rest = first.rest ++ second.rest;
   is = sym (append_assoc xs first.rest second.rest) ∙ ap (λ (l : List (List ℕ)). l ++ second.rest) first.is ∙ second.is;

@@ -35,8 +35,8 @@ use Rattle.hotsync_run.specs.SessionCalls.{BlamesByCount, StaysAsItWas}
 use Rattle.hotsync_run.specs.Told.{CallTold, FolderTold, folder_told}
 use Rattle.hotsync_run.specs.declared.report.Report.{Report}
 use Rattle.hotsync_run.proofs.RefusedRuns.{handheld_alone, trace_alone}
-use Rattle.hotsync_run.proofs.SessionRuns.{rose_earlier}
 use Rattle.hotsync_run.proofs.UndisturbedLaws.{BlamesNone, failed_handheld, judged_handheld}
+use Rattle.folder_copies.proofs.CopyLaws.{rose_before}
 
 -- ---- a talk
 
@@ -252,14 +252,14 @@ module _ (capture : Capture) (before opened after : CallTold) (all : AllOpened c
       → (status ≡ SourceRead → Rose opened.source.faults after.source.faults) → (status ≡ TraceWrite → Rose opened.trace.faults after.trace.faults)
       → BlamesByCount before after status
   blames_from alone keeper source sink = record {
-    source = λ e. rose_earlier (2 ^ 64 - 1) before.source.faults opened.source.faults after.source.faults all.source_later (source e);
+    source = λ e. rose_before (2 ^ 64 - 1) before.source.faults opened.source.faults after.source.faults all.source_later (source e);
     folders = record {
-      handheld = λ e. rose_earlier (2 ^ 64 - 1) before.palm.faults opened.palm.faults after.palm.faults all.palm_later (keeper e);
+      handheld = λ e. rose_before (2 ^ 64 - 1) before.palm.faults opened.palm.faults after.palm.faults all.palm_later (keeper e);
       desktop = λ e. absurd (alone.desktop e);
     };
     handheld_in_use = λ e. absurd (alone.handheld_in_use e);
     desktop_in_use = λ e. absurd (alone.desktop_in_use e);
-    trace = λ e. rose_earlier (2 ^ 64 - 1) before.trace.faults opened.trace.faults after.trace.faults all.sink_later (sink e);
+    trace = λ e. rose_before (2 ^ 64 - 1) before.trace.faults opened.trace.faults after.trace.faults all.sink_later (sink e);
   }
 
   -- one that had its talk

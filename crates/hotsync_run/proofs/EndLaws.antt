@@ -28,7 +28,7 @@ get-past [] n none = omega arith
 get-past (x ∷ xs) zero none = cc
 get-past (x ∷ xs) (suc n) none = let past = get-past xs n none in omega (arith, past)
 
-said_left : (acts : List Act) (talk : Talk) → talk.left ≡ None → (said acts talk).left ≡ None
+pub said_left : (acts : List Act) (talk : Talk) → talk.left ≡ None → (said acts talk).left ≡ None
 said_left [] talk none = none
 said_left (act ∷ acts) talk none = said_left acts (said_one act talk) refl
 
@@ -129,7 +129,7 @@ exchanged-replies [] ys = record { rest = ys; is = refl }
 exchanged-replies (x ∷ xs) [] = record { rest = []; is = refl }
 exchanged-replies (x ∷ xs) (y ∷ ys) = grind (arith, exchanged-replies xs ys)
 
-exchanged-append : (xs ys zs ws : List (List ℕ)) → length xs ≡ length zs → exchanged (xs ++ ys) (zs ++ ws) ≡ exchanged xs zs ++ exchanged ys ws
+pub exchanged-append : (xs ys zs ws : List (List ℕ)) → length xs ≡ length zs → exchanged (xs ++ ys) (zs ++ ws) ≡ exchanged xs zs ++ exchanged ys ws
 exchanged-append [] ys [] ws same = refl
 exchanged-append [] ys (z ∷ zs) ws same = absurd (omega (arith, same))
 exchanged-append (x ∷ xs) ys [] ws same = absurd (omega (arith, same))

@@ -31,11 +31,12 @@ use Rattle.hotsync_run.proofs.FilingSpoke.{filing_retold}
 use Rattle.hotsync_run.proofs.RefusedCalls.{refused_call}
 use Rattle.hotsync_run.proofs.RetoldLaws.{StaysShown, by_end_then}
 use Rattle.hotsync_run.proofs.RunLaws.{refused_not_done, retold_done, retold_served, traced_as}
-use Rattle.hotsync_run.proofs.SessionRuns.{AreOpened, rose_earlier, spoke_from, traced_from}
+use Rattle.hotsync_run.proofs.SessionRuns.{AreOpened, spoke_from, traced_from}
 use Rattle.hotsync_run.proofs.TraceLaws.{talk_not_in_use, talk_not_source}
 use Rattle.hotsync_run.specs.declared.report.Report.{Report}
 use Rattle.hotsync_run.specs.declared.report.SessionEnd.{SessionEnd}
 use Rattle.hotsync_looks.specs.declared.status.Status.{Status}
+use Rattle.folder_copies.proofs.CopyLaws.{rose_before}
 
 -- ---- as a run between the same folders
 
@@ -143,12 +144,12 @@ module _ {words : Between} (before after : CallTold) {palm desk : FolderTold} {t
     blames = record {
       source = λ e. absurd (talk_not_source talk (λ had. had.spoke.why.ends) (subst BlamesSource (sym e) tt));
       folders = record {
-        handheld = λ e. rose_earlier (2 ^ 64 - 1) before.palm.faults palm.faults after.palm.faults opened.palm_later (talk.blames.handheld e);
-        desktop = λ e. rose_earlier (2 ^ 64 - 1) before.desk.faults desk.faults after.desk.faults opened.desk_later (talk.blames.desktop e);
+        handheld = λ e. rose_before (2 ^ 64 - 1) before.palm.faults palm.faults after.palm.faults opened.palm_later (talk.blames.handheld e);
+        desktop = λ e. rose_before (2 ^ 64 - 1) before.desk.faults desk.faults after.desk.faults opened.desk_later (talk.blames.desktop e);
       };
       handheld_in_use = λ e. absurd (talk_not_in_use talk (λ had. had.spoke.why.ends) line_end.Handheld e);
       desktop_in_use = λ e. absurd (talk_not_in_use talk (λ had. had.spoke.why.ends) line_end.Desktop e);
-      trace = λ e. rose_earlier (2 ^ 64 - 1) before.trace.faults trace.faults after.trace.faults opened.trace_later (traced.failed e);
+      trace = λ e. rose_before (2 ^ 64 - 1) before.trace.faults trace.faults after.trace.faults opened.trace_later (traced.failed e);
     };
     opened = record {
       handheld = inr (talk.paths.handheld ∙ opened.palm_opened);

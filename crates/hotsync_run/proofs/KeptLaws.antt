@@ -15,7 +15,7 @@ use Rattle.pdb_values.specs.Databases.{DatabaseValue}
 use Rattle.pdb_values.specs.Heads.{holds_resources}
 use Rattle.pdb_values.specs.NamedDatabases.{database_of}
 use Rattle.pdb_values.specs.declared.head.DbHead.{DbHead}
-use Rattle.pdb_values.proofs.NamedLaws.{database_of-name}
+use Rattle.pdb_values.proofs.NamedLaws.{bytes_eq-other, database_of-name}
 use Rattle.palm_device.specs.Devices.{Device}
 use Rattle.dlp_commands.specs.DeviceRuns.{Exchange, Ran}
 use Rattle.folder_files.specs.FileNames.{database_file, device_info_file, resources_file, rows_file}
@@ -34,16 +34,13 @@ apart-by : (x y : List ℕ) → (x ≡ y → ⊥) → (b : Bool) → bytes_eq x 
 apart-by x y other true is = absurd (other ((bytes_eq-Decides x y).0 is))
 apart-by x y other false is = is
 
-apart : (x y : List ℕ) → (x ≡ y → ⊥) → bytes_eq x y ≡ false
-apart x y other = apart-by x y other (bytes_eq x y) refl
-
 kept-insert : (held : FileMap) (file bytes name : List ℕ) → (name ≡ file → ⊥) → finmap.get (finmap.insert held file bytes) name ≡ finmap.get held name
 kept-insert held file bytes name other =
-    get-insert nat_list_cmp_total held file bytes name ∙ cond-false _ _ _ (is_eq-slice_cmp name file ∙ apart name file other)
+    get-insert nat_list_cmp_total held file bytes name ∙ cond-false _ _ _ (is_eq-slice_cmp name file ∙ bytes_eq-other name file other)
 
 kept-remove : (held : FileMap) (file name : List ℕ) → (name ≡ file → ⊥) → finmap.get (finmap.remove held file) name ≡ finmap.get held name
 kept-remove held file name other =
-    get-remove nat_list_cmp_total held file name ∙ cond-false _ _ _ (is_eq-slice_cmp name file ∙ apart name file other)
+    get-remove nat_list_cmp_total held file name ∙ cond-false _ _ _ (is_eq-slice_cmp name file ∙ bytes_eq-other name file other)
 
 in_told : (change : FileMap → FileMap) (told : Option FileMap) (file : List ℕ) → ((held : FileMap) → finmap.get (change held) file ≡ finmap.get held file)
     → bytes_under file (option_map change told) ≡ bytes_under file told

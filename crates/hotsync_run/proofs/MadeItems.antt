@@ -25,6 +25,7 @@ use Rattle.made_folders.specs.Sides.{letter_on, made_database, made_head, record
 use Rattle.made_folders.specs.declared.item.Item.{Item}
 use Rattle.made_folders.specs.declared.side.MadeSide.{MadeSide}
 use Rattle.made_folders.specs.declared.side.MadeSide.TheVariants.{Handheld}
+use Rattle.session_parts.proofs.RestLaws.{all-append}
 
 -- ---- items
 
@@ -36,15 +37,11 @@ drawn_short number (suc count) generator few = grind (arith, drawn_short (suc nu
 
 -- ---- the records of a side
 
-all_append : {A : Type 0} (P : A → Type 0) (xs ys : List A) → AllByRecursion P xs → AllByRecursion P ys → AllByRecursion P (xs ++ ys)
-all_append P [] ys one other = other
-all_append P (x ∷ xs) ys one other = (one.0, all_append P xs ys one.1 other)
-
 each_record : (P : Record → Type 0) (side : MadeSide) (items : List Item) → ((item : Item) (letter : ℕ) → IsDrawn item → P (record_with item letter))
     → AllByRecursion IsDrawn items → AllByRecursion P (records_on side items)
 each_record P side [] holds drawn = tt
 each_record P side (item ∷ items) holds drawn =
-    all_append P (option_to_list (record_on side item)) (records_on side items) (one (letter_on side item.kind)) (each_record P side items holds drawn.1)
+    all-append P (option_to_list (record_on side item)) (records_on side items) (one (letter_on side item.kind)) (each_record P side items holds drawn.1)
   where
     one : (letter : Option ℕ) → AllByRecursion P (option_to_list (option_map (record_with item) letter))
     one None = tt

@@ -1,6 +1,6 @@
 -- A session between made folders passes no limit, and meets no new handheld.
 use Rattle.std.proofs.lemmas.Grind.{common_steps}
-use Rattle.std.proofs.Common.{◌≡◌, ◌∙◌, ◌+◌, ◌<◌, ◌≤◌, ◌||◌, ℕ, Bool, false, refl, ap, arith, le-ltb, List, [], ◌∷◌, ◌++◌, length, length-append}
+use Rattle.std.proofs.Common.{◌≡◌, ◌∙◌, ◌+◌, ◌<◌, ◌≤◌, ℕ, false, refl, ap, arith, le-ltb, List, [], ◌∷◌, ◌++◌, length, length-append}
 use Rattle.std.specs.Prelude.{Option, None, nat_lt}
 use Rattle.std.specs.List.{flat_map}
 use Rattle.pdb_values.specs.Contents.{ContentValue}
@@ -26,6 +26,8 @@ use Rattle.made_folders.proofs.MergeLaws.{fate_is, handheld_is}
 use Rattle.hotsync_run.proofs.MadeItems.{records-few}
 use Rattle.hotsync_run.proofs.MadeReports.{AsksNothing, choice_is, made_device, made_meeting, made_slot, made_task, not_skipped, sides_are, tasks_are}
 use Rattle.hotsync_run.proofs.MadeSides.{AreItems}
+use Rattle.repeat_laws.proofs.DesktopLaws.{new_none}
+use Rattle.std.proofs.lemmas.Bool.{or_from}
 
 -- what is made by id, at most one of each and none where no item is, is not more than there are items
 each_few : {A : Type 0} (g : ℕ → List A) (items : List Item) → AreMade 1 items → length items ≤ 5000
@@ -52,9 +54,6 @@ with-one number o = grind (arith, common_steps)
 new-one : (number : ℕ) (r : Option Record) (o : Option ContentValue) → length (new_under number r o) ≤ 1
 new-one number r o = grind (arith, common_steps)
 
-new-none : (number : ℕ) (r : Option Record) → new_under number r None ≡ []
-new-none number r = grind (arith, common_steps)
-
 -- nothing is kept or held where no item is
 module _ (items : List Item) (number : ℕ) (are : AreMade 1 items) (none : item_at number items ≡ None) (within : number < id_bound) where
   keeps-none : (made_choice items).keep number ≡ None
@@ -74,11 +73,8 @@ new-few : {items : List Item} → AreItems items
 new-few {items} are =
     each_few (λ i. new_under i (first i (records_on Handheld items)) ((made_choice items).keep i)) items are.are are.few
     (λ number none within. ap (new_under number (first number (records_on Handheld items))) (keeps-none items number are.are none within)
-    ∙ new-none number (first number (records_on Handheld items)))
+    ∙ new_none number (first number (records_on Handheld items)))
     (λ number. new-one number (first number (records_on Handheld items)) ((made_choice items).keep number))
-
-or_false : (a b : Bool) → a ≡ false → b ≡ false → (a || b) ≡ false
-or_false a b h k = grind (arith, common_steps)
 
 not_over : {items : List Item} {wishes : Wishes} → AreItems items → AsksNothing wishes → IsMadeMerge items
     → is_over (sizes_of (made_meeting items wishes) 1 1 (made_task items)) ≡ false
@@ -104,11 +100,11 @@ not_over {items} {wishes} are asks merged =
     let archive : length (merged_archive (choice meeting task) []) ≡ 0 =
     ap (λ (c : Choice). length (one_copy_behind [] ([] ++ c.archive))) chosen ∙ ap (λ (l : List _). length (one_copy_behind [] ([] ++ l))) merged.archived in
     let rows = merged.rows in
-    or_false (nat_lt 200 0) _ refl (or_false (nat_lt 200 0) _ refl
-    (or_false (nat_lt 65535 (length (records_on Handheld items) + new_count meeting task)) _
+    or_from (nat_lt 200 0) _ refl (or_from (nat_lt 200 0) _ refl
+    (or_from (nat_lt 65535 (length (records_on Handheld items) + new_count meeting task)) _
     (le-ltb _ _ (omega (arith, many, records, added, new, new_most, rows)))
-    (or_false (nat_lt 65535 (row_count meeting task)) _ (le-ltb _ _ (omega (arith, many, added, kept, rows)))
-    (or_false (nat_lt 65535 (row_count meeting task + gone_count meeting task)) (nat_lt 65535 (length (merged_archive (choice meeting task) [])))
+    (or_from (nat_lt 65535 (row_count meeting task)) _ (le-ltb _ _ (omega (arith, many, added, kept, rows)))
+    (or_from (nat_lt 65535 (row_count meeting task + gone_count meeting task)) (nat_lt 65535 (length (merged_archive (choice meeting task) [])))
     (le-ltb _ _ (omega (arith, many, added, kept, rows, gone, gone_most)))
     (le-ltb _ _ (omega (arith, archive)))))))
 

@@ -7,7 +7,6 @@ use Rattle.pdb_values.specs.Databases.{DatabaseValue}
 use Rattle.palm_device.specs.Bounds.{IsBoundedDatabase}
 use Rattle.palm_device.specs.Devices.{Device}
 use Rattle.dlp_requests.specs.Forms as form
-use Rattle.dlp_requests.specs.Forms.{Form}
 use Rattle.dlp_requests.specs.Forms.{number_of as number_of_form}
 use Rattle.dlp_requests.specs.RequestReading.{request_at}
 use Rattle.dlp_requests.specs.RequestValues.{RequestValue}
@@ -52,13 +51,14 @@ use Rattle.category_mirror.specs.Sides.{Filing}
 use Rattle.front_laws.specs.Answered.{IsAnsweredExchange}
 use Rattle.front_laws.proofs.AnsweredLaws.{never-refused}
 use Rattle.front_laws.proofs.FitLaws.{Fit, FitsOne}
-use Rattle.front_laws.proofs.FrontLaws.{all-take, take-map}
+use Rattle.front_laws.proofs.FrontLaws.{take-map}
 use Rattle.front_laws.proofs.OrderRuns.{plain-answered, plain-said}
 use Rattle.front_laws.proofs.RelabelLaws.{NoAsk}
 use Rattle.hotsync_run.specs.LineRuns.{LineRan, TellsWorld, exchanges_in, log_in}
 use Rattle.hotsync_run.specs.Told.{FolderTold}
 use Rattle.hotsync_run.specs.declared.report.Report.{Report}
 use Rattle.hotsync_run.proofs.FrontLaws.{performed-begins}
+use Rattle.palm_device.proofs.BoundLaws.{AllByRecursion-take}
 
 -- ---- the exchanges of a world's talk
 
@@ -80,7 +80,7 @@ all-talked P world {report} tells all =
     ap (λ (l : LogValue). exchanged l.performed l.replies) tells.said
     ∙ ap (λ (requests : List (List ℕ)). exchanged requests replies) tells.log.performed_is in
     subst (AllByRecursion P) (sym (exchanged-take world.answered (length replies) world.log.issued replies tells.log.replied))
-    (all-take P world.answered (exchanged (take (length replies) world.log.issued) replies) (subst (AllByRecursion P) said all))
+    (AllByRecursion-take P world.answered (exchanged (take (length replies) world.log.issued) replies) (subst (AllByRecursion P) said all))
 
 -- ---- why a session stopped
 
@@ -303,8 +303,8 @@ refused-last acts count {old} replies reached plain proper last =
     (ap (told (making last.head)) last.goes.after ∙ last.full)) in
     subst (RunSays IsAnsweredOrFull old reached replies) (sym (take-map text count acts))
     (λ run.
-    let said = plain-said part replies reached (all-take FitsOne count acts (fit_of acts plain))
-    (none_of part (all-take IsPlain count acts plain)) run in
+    let said = plain-said part replies reached (AllByRecursion-take FitsOne count acts (fit_of acts plain))
+    (none_of part (AllByRecursion-take IsPlain count acts plain)) run in
     subst (AllByRecursion IsAnsweredOrFull) (sym said.0) (told_full part said.1 proper (full_take count acts old full)))
 
 -- each is answered

@@ -1,5 +1,5 @@
 -- The requests of a restore, and what they make of a handheld.
-use Rattle.std.proofs.lemmas.Bool.{and_parts, not-true}
+use Rattle.std.proofs.lemmas.Bool.{and_parts, not-true, or_right}
 use Rattle.std.proofs.Common.{◌≡◌, ◌∙◌, ◌<◌, ap, refl, sym, arith, append-nil, append_assoc, ℕ, ◌||◌, Bool, true, false, cond, List, [], ◌∷◌, ◌++◌, length}
 use Rattle.std.specs.Prelude.{Option, Some, None, flat_map, is_some, map, nat_lt}
 use Rattle.std.specs.List.{AllByRecursion, list_all, list_any}
@@ -41,10 +41,6 @@ use Rattle.hotsync_run.proofs.InstallActLaws.{stays_at_end}
 
 abbrev HasName : List ℕ → DatabaseValue → Bool
 HasName name database = bytes_eq database.head.name name
-
-or_right : (a b : Bool) → b ≡ true → (a || b) ≡ true
-or_right true b is = refl
-or_right false b is = is
 
 -- its name is that of one of them
 first_named : (databases held : List DatabaseValue) (name : List ℕ) → first_full databases held ≡ Some name → list_any (HasName name) databases ≡ true

@@ -27,11 +27,12 @@ use Rattle.hotsync_run.proofs.CallPrinted.{IsPrintable, call_printed}
 use Rattle.hotsync_run.proofs.RefusedRuns.{handheld_alone, script_alone, trace_alone}
 use Rattle.hotsync_run.proofs.RetoldLaws.{StaysShown, by_end_then}
 use Rattle.hotsync_run.proofs.RunLaws.{retold_done, retold_served, traced_as}
-use Rattle.hotsync_run.proofs.SessionRuns.{rose_earlier, spoke_from, traced_from}
+use Rattle.hotsync_run.proofs.SessionRuns.{spoke_from, traced_from}
 use Rattle.hotsync_run.proofs.TraceLaws.{talk_not_in_use, talk_not_source}
 use Rattle.hotsync_run.specs.declared.report.Report.{Report}
 use Rattle.hotsync_looks.specs.declared.status.Status.{Status}
 use Rattle.hotsync_looks.specs.declared.status.Status.TheVariants.{Done}
+use Rattle.folder_copies.proofs.CopyLaws.{rose_before}
 
 -- what stands between the opening of all objects and the session
 pub record AreOpenedFor (words : Between) (before : CallTold) (source : SourceTold) (palm desk : FolderTold) (trace : SinkTold) (rules : List RuleValue)
@@ -102,12 +103,12 @@ module _ {words : Between} (before after : CallTold) {palm desk : FolderTold} {t
     blames = record {
       source = λ e. absurd (talk_not_source talk (λ had. had.spoke.why.ends) (subst BlamesSource (sym e) tt));
       folders = record {
-        handheld = λ e. rose_earlier (2 ^ 64 - 1) before.palm.faults palm.faults after.palm.faults opened.palm_later (talk.blames.handheld e);
-        desktop = λ e. rose_earlier (2 ^ 64 - 1) before.desk.faults desk.faults after.desk.faults opened.desk_later (talk.blames.desktop e);
+        handheld = λ e. rose_before (2 ^ 64 - 1) before.palm.faults palm.faults after.palm.faults opened.palm_later (talk.blames.handheld e);
+        desktop = λ e. rose_before (2 ^ 64 - 1) before.desk.faults desk.faults after.desk.faults opened.desk_later (talk.blames.desktop e);
       };
       handheld_in_use = λ e. absurd (talk_not_in_use talk (λ had. had.spoke.why.ends) line_end.Handheld e);
       desktop_in_use = λ e. absurd (talk_not_in_use talk (λ had. had.spoke.why.ends) line_end.Desktop e);
-      trace = λ e. rose_earlier (2 ^ 64 - 1) before.trace.faults trace.faults after.trace.faults opened.trace_later (traced.failed e);
+      trace = λ e. rose_before (2 ^ 64 - 1) before.trace.faults trace.faults after.trace.faults opened.trace_later (traced.failed e);
     };
     opened = record {
       handheld = inr (talk.paths.handheld ∙ opened.palm_opened);

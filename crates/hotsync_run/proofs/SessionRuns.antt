@@ -1,6 +1,6 @@
 -- What is known of a run with a session, from before its folders were opened on.
-use Rattle.std.proofs.Common.{◌≡◌, ◌⊎◌, ◌∙◌, ◌+◌, ◌-◌, ◌^◌, ◌≤◌, ℕ, List, ◌++◌, inl, inr, refl, sym, subst, ap, arith}
-use Rattle.std.specs.Prelude.{IfSome, Option, min}
+use Rattle.std.proofs.Common.{◌≡◌, ◌⊎◌, ◌∙◌, ◌+◌, ◌-◌, ◌^◌, ◌≤◌, ℕ, List, ◌++◌, inl, inr, refl, sym, subst, ap}
+use Rattle.std.specs.Prelude.{IfSome, Option}
 use Rattle.std.specs.Option.{option_map}
 use Rattle.hs_folders.specs.Appends.{AppendsPrefix}
 use Rattle.hs_folders.specs.FileMaps.{FileMap}
@@ -37,9 +37,7 @@ use Rattle.hotsync_run.proofs.TraceLaws.{talk_not_in_use, talk_not_source}
 use Rattle.hotsync_run.specs.declared.report.Report.{Report}
 use Rattle.hotsync_run.specs.declared.report.SessionEnd.{SessionEnd}
 use Rattle.hotsync_looks.specs.declared.status.Status.{Status}
-
-pub rose_earlier : (most a b c : ℕ) → a ≤ b → min (b + 1) most ≤ c → min (a + 1) most ≤ c
-rose_earlier most a b c less rose = omega (arith, rose, less)
+use Rattle.folder_copies.proofs.CopyLaws.{rose_before}
 
 -- the line's part, told from an earlier time on
 abbrev line_from : (rules : List RuleValue) (device : Device) (first before after : FolderTold) (report : Report) → StaysAsItWas first before
@@ -117,7 +115,7 @@ traced_from {text} first {before} {after} same later traced =
       part = subst (λ (told : Option (List ℕ)). AppendsPrefix told after.taken text) same traced.part;
       done = λ named done. traced.done named done ∙ whole;
       whole = λ named calm is.
-          traced.whole named (λ rose. calm (rose_earlier (2 ^ 64 - 1) first.faults before.faults after.faults later rose)) is ∙ whole;
+          traced.whole named (λ rose. calm (rose_before (2 ^ 64 - 1) first.faults before.faults after.faults later rose)) is ∙ whole;
     }
 
 -- the desktop's folder, from before its journal was finished on
@@ -209,12 +207,12 @@ module _ {run : Run} (before after : CallTold) {palm desk : FolderTold} {trace :
     blames = record {
       source = λ e. absurd (talk_not_source talk (λ had. had.talked.spoke.why.ends) (subst BlamesSource (sym e) tt));
       folders = record {
-        handheld = λ e. rose_earlier (2 ^ 64 - 1) before.palm.faults palm.faults after.palm.faults opened.palm_later (talk.blames.handheld e);
-        desktop = λ e. rose_earlier (2 ^ 64 - 1) before.desk.faults desk.faults after.desk.faults opened.desk_later (talk.blames.desktop e);
+        handheld = λ e. rose_before (2 ^ 64 - 1) before.palm.faults palm.faults after.palm.faults opened.palm_later (talk.blames.handheld e);
+        desktop = λ e. rose_before (2 ^ 64 - 1) before.desk.faults desk.faults after.desk.faults opened.desk_later (talk.blames.desktop e);
       };
       handheld_in_use = λ e. absurd (talk_not_in_use talk (λ had. had.talked.spoke.why.ends) line_end.Handheld e);
       desktop_in_use = λ e. absurd (talk_not_in_use talk (λ had. had.talked.spoke.why.ends) line_end.Desktop e);
-      trace = λ e. rose_earlier (2 ^ 64 - 1) before.trace.faults trace.faults after.trace.faults opened.trace_later (traced.failed e);
+      trace = λ e. rose_before (2 ^ 64 - 1) before.trace.faults trace.faults after.trace.faults opened.trace_later (traced.failed e);
     };
     opened = record {
       handheld = inr (talk.paths.handheld ∙ opened.palm_opened);

@@ -1,5 +1,5 @@
 -- What is known of the handheld behind a link once its session is over, and of both sides then.
-use Rattle.std.proofs.Common.{◌≡◌, ◌<◌, ◌^◌, ℕ, true, false, List, [], ◌∷◌, ◌++◌, drop, length, map, inl, inr, refl, sym, ap, subst, ◌∙◌, arith, append_assoc}
+use Rattle.std.proofs.Common.{◌≡◌, ◌<◌, ◌^◌, ℕ, true, false, List, [], ◌∷◌, ◌++◌, drop, map, inl, inr, sym, ap, subst, ◌∙◌, append_assoc}
 use Rattle.std.specs.Prelude.{Option, Some, None, Result}
 use Rattle.std.specs.Option.{option_map}
 use Rattle.std.specs.Global.{Vec}
@@ -38,19 +38,13 @@ use Rattle.port_run.specs.declared.synced.CableReport.{CableReport}
 use Rattle.port_run.proofs.LeftLaws.{BeganWith, EndsOver, session_left}
 use Rattle.port_link.proofs.RanLaws.{HandSince, RanAt, calls-ran, first-ran, last-palm, later-ran, since-once}
 use Rattle.port_run.proofs.TalkedLaws.{ToldAll, all-exchanged, all-performed}
+use Rattle.hotsync_run.proofs.EndLaws.{exchanged-append}
 
 -- ---- from a handheld that was never asked
 
 same_behind : (xs ys zs : List (List ℕ)) → xs ++ ys ≡ xs ++ zs → ys ≡ zs
 same_behind [] ys zs same = same
 same_behind (x ∷ xs) ys zs same = same_behind xs ys zs (ap (λ (l : List (List ℕ)). drop 1 l) same)
-
-exchanged-append : (xs ys zs ws : List (List ℕ)) → length xs ≡ length zs → exchanged (xs ++ ys) (zs ++ ws) ≡ exchanged xs zs ++ exchanged ys ws
-exchanged-append [] ys [] ws same = refl
-exchanged-append [] ys (z ∷ zs) ws same = absurd (omega (arith, same))
-exchanged-append (x ∷ xs) ys [] ws same = absurd (omega (arith, same))
-exchanged-append (x ∷ xs) ys (z ∷ zs) ws same =
-    ap (λ (es : List Exchange). record { request = x; reply = z } ∷ es) (exchanged-append xs ys zs ws (omega (arith, same)))
 
 -- a hand of which nothing was known before
 module _ (was : Hand) (performed : was.performed ≡ []) (replies : was.replies ≡ []) where

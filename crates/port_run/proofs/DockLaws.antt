@@ -28,7 +28,7 @@ use Rattle.hotsync_run.specs.Emulations.{WentWith}
 use Rattle.hotsync_run.specs.Refusals.{HasHandheld, TraceRefuses}
 use Rattle.hotsync_run.specs.SessionCalls.{StaysAsItWas}
 use Rattle.hotsync_run.specs.Told.{FolderTold, folder_told}
-use Rattle.hotsync_run.proofs.SessionRuns.{rose_earlier, traced_from}
+use Rattle.hotsync_run.proofs.SessionRuns.{traced_from}
 use Rattle.port_link.specs.Logs.{log_entries}
 use Rattle.port_run.specs.DockTalks.{HasDockTalk}
 use Rattle.port_run.specs.Docks.{HadDock, HasDocked, IsIdle, IsUndocked, TellsDock, dock_status}
@@ -36,6 +36,7 @@ use Rattle.port_run.specs.Refusals.{IsPortRefusal}
 use Rattle.port_run.specs.Talks.{StaysUnsaid}
 use Rattle.port_run.specs.Told.{DockTold, PortTold}
 use Rattle.port_run.specs.declared.dock_report.DockReport.{DockReport}
+use Rattle.folder_copies.proofs.CopyLaws.{rose_before}
 
 -- the folder went with a hand
 pub dock_went : {F : Type 0} (contents : F → Option FileMap) (moments : F → Moments) (paths : F → Option (List (List ℕ))) (faults : F → ℕ)
@@ -219,11 +220,11 @@ module _ (dock : Dock) (before opened after : DockTold) (all : AreDocked dock be
           trace = subst (OpensGivenAtMost dock.trace before.trace.paths) (sym told.paths) all.trace_at_most;
         };
         blames = record {
-          handheld = λ e. rose_earlier (2 ^ 64 - 1) before.palm.faults opened.palm.faults after.palm.faults all.palm_later
+          handheld = λ e. rose_before (2 ^ 64 - 1) before.palm.faults opened.palm.faults after.palm.faults all.palm_later
               (talk.keeper (traced_keeper talk.said status told.status_is e));
           in_use = λ e. absurd (dock_not_in_use talk.had.end (sym talk.had.said_is ∙ traced_in_use talk.said status told.status_is e));
-          port = λ e. rose_earlier (2 ^ 64 - 1) before.port.faults opened.port.faults after.port.faults all.port_later
+          port = λ e. rose_before (2 ^ 64 - 1) before.port.faults opened.port.faults after.port.faults all.port_later
               (talk.port (traced_port talk.said status told.status_is e));
-          trace = λ e. rose_earlier (2 ^ 64 - 1) before.trace.faults opened.trace.faults after.trace.faults all.trace_later (told.failed e);
+          trace = λ e. rose_before (2 ^ 64 - 1) before.trace.faults opened.trace.faults after.trace.faults all.trace_later (told.failed e);
         };
       }

@@ -30,7 +30,8 @@ use Rattle.port_run.specs.Equal.{EndsEqual}
 use Rattle.port_run.specs.Syncs.{SessionRan}
 use Rattle.port_run.specs.Told.{SyncTold}
 use Rattle.port_run.specs.declared.synced.CableReport.{CableReport}
-use Rattle.port_run.proofs.TalkedLaws.{performed-begins, prefix-then}
+use Rattle.port_run.proofs.TalkedLaws.{performed-begins}
+use Rattle.hotsync_run.proofs.BackupSpoke.{prefix-on}
 
 -- all writes were made
 all-written : {meeting : Meeting} {hand : Hand} {desk_after : FolderTold} {report : CableReport} → EndedSession meeting hand desk_after report
@@ -53,7 +54,7 @@ module _ {cable : Cable} {device : Device} {after : Option Palm} {desk desk_afte
       let begins = performed-begins both.left.ran in
       let parts : length (map text (before_commit both.meeting none)) ≤ length both.palm.hand.performed =
       prefix-length (record { rest = map text (after_commit both.meeting); is = parts-are both.meeting none ∙ sym ended.performed }) in
-      no-limit both.meeting none both.palm.hand.performed (first_over both.meeting) parts (λ some. prefix-then begins (both.left.issued.over some))
+      no-limit both.meeting none both.palm.hand.performed (first_over both.meeting) parts (λ some. prefix-on begins (both.left.issued.over some))
 
   pub both-equal : EndsEqual cable device after desk desk_after
   both-equal =

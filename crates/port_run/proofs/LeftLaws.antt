@@ -44,7 +44,8 @@ use Rattle.port_link.specs.Standing.{exchanges_of, talk_of}
 use Rattle.port_link.specs.Hands.{HandRan}
 use Rattle.port_run.specs.Ends.{EndedSession, IssuedFor, SessionLeft, StoppedBefore, StoppedBehind, given_by}
 use Rattle.port_run.specs.declared.synced.CableReport.{CableReport}
-use Rattle.port_run.proofs.TalkedLaws.{ToldAll, all-exchanged, all-performed, begins-behind, begins-fresh, front_of, performed-begins, prefix-same, prefix-then, said_over, told_all}
+use Rattle.port_run.proofs.TalkedLaws.{ToldAll, all-exchanged, all-performed, begins-behind, begins-fresh, front_of, performed-begins, prefix-same, said_over, told_all}
+use Rattle.hotsync_run.proofs.BackupSpoke.{prefix-on}
 
 abbrev ids_by : List Exchange → List ℕ
 ids_by exchanges = flat_map (λ (exchange : Exchange). given_in exchange.request exchange.reply) exchanges
@@ -78,7 +79,7 @@ before_left : {meeting : Meeting} {talk : Talk} {hand : Hand} (desk desk_after :
     → StoppedBefore meeting hand desk desk_after
 unfolding write_count writes_before_commit
 before_left desk desk_after ran prefix stands =
-    record { stands = stands; writes = prefix-count (prefix-then (performed-begins ran) prefix) }
+    record { stands = stands; writes = prefix-count (prefix-on (performed-begins ran) prefix) }
 
 -- all of these acts were answered at some time, and then more was performed
 pub record BeganWith (acts : List Act) (after : List (List ℕ)) (device : Device) (hand : Hand) : Type 0 where
@@ -178,7 +179,7 @@ module _ (fault : LinkValue → Option LinkFault) (downs : LinkValue → ℕ) {m
       → SessionLeft meeting talk hand desk desk_after report
   left-before why end ends it =
       let prefix = begins-fresh meeting.device talk old new (requests_before_commit meeting) was is it.stops.only in
-      let begins = prefix-then prefix (record { rest = map text (after_commit meeting); is = parts-are meeting (replicate (adds_of meeting) 0) }) in
+      let begins = prefix-on prefix (record { rest = map text (after_commit meeting); is = parts-are meeting (replicate (adds_of meeting) 0) }) in
       left-by it.given (issued_for (Err why) ends begins) it.moments (λ e. let no : Ended ≡ Stopped = sym e ∙ end in absurd cc)
       (λ e. inl (before_left desk desk_after ran prefix it.stands))
 
@@ -192,10 +193,10 @@ module _ (fault : LinkValue → Option LinkFault) (downs : LinkValue → ℕ) {m
       let told = said_over meeting.device old it.between was it.does in
       let all = told_all meeting.device first old it.between was told it.does in
       let begins = begins-behind first talk it.between new (map text acts) after told all.issued_are is it.rest.only in
-      let began = behind acts after it.between first it.stops.later it.rest.later told all (prefix-then (performed-begins ran) begins) in
+      let began = behind acts after it.between first it.stops.later it.rest.later told all (prefix-on (performed-begins ran) begins) in
       let went = issued_for (Err why) ends (subst (λ (l : List (List ℕ)). IsPrefix (issued talk) l) (parts-are meeting it.given) begins) in
       let parts : length (map text acts) ≤ length (issued talk) =
-      prefix-length (prefix-then (record { rest = began.rest; is = sym began.performed_are }) (performed-begins ran)) in
+      prefix-length (prefix-on (record { rest = began.rest; is = sym began.performed_are }) (performed-begins ran)) in
       let none = no-limit meeting it.given (issued talk) (first_over meeting) parts went.over in
       left-by it.given went it.moments (λ e. let no : Ended ≡ Stopped = sym e ∙ end in absurd cc)
       (λ e. inr (behind_left it.given desk_after sound none it.count it.free began it.stands))

@@ -33,7 +33,7 @@ use Rattle.hotsync_run.specs.Told.{FolderTold}
 use Rattle.hotsync_run.specs.declared.report.SessionEnd.{SessionEnd}
 use Rattle.hotsync_run.specs.declared.report.SessionEnd.TheVariants.{NotStarted, Ended, Stopped}
 use Rattle.hotsync_run.proofs.RetoldLaws.{by_end_both, by_end_then}
-use Rattle.hotsync_run.proofs.SessionRuns.{rose_earlier, traced_from}
+use Rattle.hotsync_run.proofs.SessionRuns.{traced_from}
 use Rattle.port_run.specs.Causes.{stop_status}
 use Rattle.port_run.specs.Ends.{BothLeft, LeftFor, SessionLeft}
 use Rattle.port_run.specs.Reports.{IsOver}
@@ -41,6 +41,7 @@ use Rattle.port_run.specs.Syncs.{HasSynced, SentNothing, SessionRan, TracesTalk}
 use Rattle.port_run.specs.Talks.{DesktopRan, KeptSilent, StaysUnsaid, PortSession}
 use Rattle.port_run.specs.Told.{PortTold, SyncTold}
 use Rattle.port_run.specs.declared.synced.CableReport.{CableReport}
+use Rattle.folder_copies.proofs.CopyLaws.{rose_before}
 
 -- the desktop's folder, from before its journal was finished on
 desktop_ran : {first before after : FolderTold} {end : SessionEnd} → before.contents ≡ option_map finished first.contents → StandsAsItDid first before
@@ -194,12 +195,12 @@ module _ {cable : Cable} {slots : List SlotValue} (before after : SyncTold) {por
             {B = PortSession cable slots port after.port desk after.desk talk.said report} {C = SentNothing cable before after status report}
             {D = SessionRan cable before after status report} silent_sync session_sync talk.talked.shown;
         blames = record {
-          port = λ e. rose_earlier (2 ^ 64 - 1) before.port.faults port.faults after.port.faults opened.port_later
+          port = λ e. rose_before (2 ^ 64 - 1) before.port.faults port.faults after.port.faults opened.port_later
               (talk.talked.port (traced_port talk.said status said.status_is e));
-          desktop = λ e. rose_earlier (2 ^ 64 - 1) before.desk.faults desk.faults after.desk.faults opened.desk_later
+          desktop = λ e. rose_before (2 ^ 64 - 1) before.desk.faults desk.faults after.desk.faults opened.desk_later
               (talk.talked.desktop (traced_desktop talk.said status said.status_is e));
           in_use = λ e. absurd (not_in_use _ e);
-          trace = λ e. rose_earlier (2 ^ 64 - 1) before.trace.faults trace.faults after.trace.faults opened.trace_later (said.failed e);
+          trace = λ e. rose_before (2 ^ 64 - 1) before.trace.faults trace.faults after.trace.faults opened.trace_later (said.failed e);
         };
         opened = record {
           port = inr (talk.talked.port_paths ∙ opened.port_opened);

@@ -1,5 +1,5 @@
 -- What a link's talk tells of the acts that went out over it, and what the handheld made of them.
-use Rattle.std.proofs.Common.{◌≡◌, ◌⊎◌, ℕ, List, [], ◌∷◌, ◌++◌, length, map, take, inl, inr, refl, sym, ap, subst, ◌∙◌, arith, append-nil, append_assoc}
+use Rattle.std.proofs.Common.{◌≡◌, ◌⊎◌, ℕ, List, [], ◌∷◌, ◌++◌, length, map, take, inl, inr, refl, sym, ap, subst, ◌∙◌, arith, append-nil}
 use Rattle.std.specs.Prelude.{Option, Some, None, filter}
 use Rattle.std.specs.List.{flat_map}
 use Rattle.std.specs.Option.{option_to_list}
@@ -10,7 +10,7 @@ use Rattle.dlp_commands.specs.Changes.{changes, given_in}
 use Rattle.dlp_commands.specs.DeviceRuns.{DeviceRun, Exchange, exchanged}
 use Rattle.dlp_commands.specs.Talks.{Talk, asked, fresh, issued}
 use Rattle.desktop_session.specs.Acts.{Act, text}
-use Rattle.desktop_session.specs.Says.{Begins, IsPrefix, grown, said, said_one, saying, sent}
+use Rattle.desktop_session.specs.Says.{Begins, IsPrefix, grown, said, saying, sent}
 use Rattle.desktop_session.specs.Stops.{Does}
 use Rattle.desktop_session.specs.Tellings.{device_after, exchanges}
 use Rattle.desktop_session.proofs.TellLaws.{said_device, said_exchanges}
@@ -25,14 +25,10 @@ use Rattle.port_link.specs.Standing.{exchanges_of, talk_of}
 use Rattle.port_link.proofs.LinkLaws.{same_some}
 use Rattle.port_link.specs.Hands.{HandRan}
 use Rattle.port_run.specs.Ends.{given_by}
+use Rattle.hotsync_run.proofs.EndLaws.{said_left}
+use Rattle.hotsync_run.proofs.BackupSpoke.{prefix-on}
 
 -- ---- lists that begin others
-
-pub prefix-then : {xs ys zs : List (List ℕ)} → IsPrefix xs ys → IsPrefix ys zs → IsPrefix xs zs
-prefix-then {xs} {ys} {zs} first next = record {
-  rest = first.rest ++ next.rest;
-  is = sym (append_assoc xs first.rest next.rest) ∙ ap (λ (l : List (List ℕ)). l ++ next.rest) first.is ∙ next.is;
-}
 
 pub prefix-same : {xs ys : List (List ℕ)} → xs ≡ ys → IsPrefix xs ys
 prefix-same {xs} same = record { rest = []; is = append-nil xs ∙ same }
@@ -55,10 +51,6 @@ begins-behind first talk old new before whole was all is begins =
     let told : IsPrefix (issued talk) (issued first ++ whole) = subst (λ (o : Option Talk). Begins (sent (Some talk)) (grown (sent o) whole)) was
     (subst (λ (o : Option Talk). Begins (sent o) (grown (sent (talk_of old)) whole)) is begins) in
     subst (λ (l : List (List ℕ)). IsPrefix (issued talk) (l ++ whole)) all told
-
-said_left : (acts : List Act) (talk : Talk) → talk.left ≡ None → (said acts talk).left ≡ None
-said_left [] talk none = none
-said_left (act ∷ acts) talk none = said_left acts (said_one act talk) refl
 
 -- these acts went out over a fresh talk, and each was answered
 pub record ToldAll (acts : List Act) (device : Device) (talk : Talk) : Type 0 where
@@ -127,7 +119,7 @@ pub front_of : (meeting : Meeting) {talk : Talk} {hand : Hand} → HandRan meeti
     → MeetingFront meeting (write_count hand.performed) (given_by hand) hand.device
 unfolding write_count
 front_of meeting {talk} {hand} ran begins =
-    let whole = prefix-then (performed-begins ran) begins in
+    let whole = prefix-on (performed-begins ran) begins in
     let front : take (length hand.performed) (requests meeting) ≡ hand.performed =
     ap (λ (l : List (List ℕ)). take (length hand.performed) l) (sym whole.is) ∙ take-append_seam hand.performed whole.rest in
     record {

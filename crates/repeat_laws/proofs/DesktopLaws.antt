@@ -30,7 +30,7 @@ use Rattle.repeat_laws.proofs.ResumeLaws.{replaced_put, purges_put, rows_behind,
 
 -- ---- ids that are free among more records
 
-first_place : (i : ℕ) (records : List Record) → first i records ≡ None → place_of_id i records ≡ None
+pub first_place : (i : ℕ) (records : List Record) → first i records ≡ None → place_of_id i records ≡ None
 first_place i [] e = refl
 first_place i (r ∷ records) e = grind (arith, e, first_place i records)
 
@@ -77,7 +77,7 @@ same_kept : (keep : ℕ → Option ContentValue) (h1 h : ℕ → SideState) (g :
 same_kept keep h1 h g [] none same = refl
 same_kept keep h1 h g (r ∷ records) none same = grind (arith, same_kept keep h1 h g records)
 
-new_none : (j : ℕ) (o : Option Record) → new_under j o None ≡ []
+pub new_none : (j : ℕ) (o : Option Record) → new_under j o None ≡ []
 new_none j o = grind arith
 
 new_same : (keep : ℕ → Option ContentValue) (g : ℕ) (a : ContentValue) (records : List Record) → keep g ≡ None → (j : ℕ)

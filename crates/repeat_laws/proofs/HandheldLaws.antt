@@ -29,7 +29,7 @@ use Rattle.repeat_laws.proofs.NewsLaws.{ended_by}
 
 -- ---- a stop before the commit
 
-take_none : (n : ℕ) {ws : List Write} → ws ≡ [] → take n ws ≡ []
+pub take_none : (n : ℕ) {ws : List Write} → ws ≡ [] → take n ws ≡ []
 take_none n is = grind arith
 
 -- it gave nothing

@@ -1,5 +1,5 @@
 -- What a session costs the desktop where it is run again behind one that stopped.
-use Rattle.std.proofs.lemmas.Bool.{cases_lt}
+use Rattle.std.proofs.lemmas.Bool.{cases_lt, or_parts}
 use Rattle.std.proofs.lemmas.Bool.Decides.{nat_tests}
 use Rattle.std.proofs.lemmas.List.{append_assoc}
 use Rattle.std.proofs.lemmas.List.Folds.{list_any-append}
@@ -130,15 +130,11 @@ lost_by false s t grows is = refl
 lost_by true true t grows is = rw (grows refl)
 lost_by true false t grows is = absurd cc
 
-or_parts_false : (a b : Bool) → (a || b) ≡ false → (a ≡ false) × (b ≡ false)
-or_parts_false false b is = (refl, is)
-or_parts_false true b is = absurd cc
-
 none-lost : (ch now : Choice) → ((c : ContentValue) → stays (kept_rows ch.keep) ch.adds c ≡ true → stays (kept_rows now.keep) now.adds c ≡ true)
     → (rows : List Record) → list_any (lost_of ch) rows ≡ false → list_any (lost_of now) rows ≡ false
 none-lost ch now grows [] is = refl
 none-lost ch now grows (r ∷ rows) is =
-    let parts = or_parts_false (lost_of ch r) (list_any (lost_of ch) rows) is in
+    let parts = or_parts (lost_of ch r) (list_any (lost_of ch) rows) is in
     let here : lost_of now r ≡ false = lost_by (not r.deleted) (stays (kept_rows ch.keep) ch.adds r.content)
     (stays (kept_rows now.keep) now.adds r.content) (grows r.content) parts.0 in
     rw here (none-lost ch now grows rows parts.1)

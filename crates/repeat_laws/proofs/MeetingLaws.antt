@@ -35,7 +35,7 @@ under_way-slow next task is = grind arith
 
 -- ---- one meeting after the other
 
-same_action : {meeting next : Meeting} (name : List ℕ) → AsksTheSame meeting next → action_at next name ≡ action_at meeting name
+pub same_action : {meeting next : Meeting} (name : List ℕ) → AsksTheSame meeting next → action_at next name ≡ action_at meeting name
 same_action name asks = ap (λ items. action_or_sync (action_of_word (action_for name items))) asks.actions
 
 pub among-news : (meeting next : Meeting) (given : List ℕ → List ℕ) (count : List ℕ → ℕ) (name : List ℕ) → LeftAmongNews meeting next given count

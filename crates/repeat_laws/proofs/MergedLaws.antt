@@ -4,7 +4,7 @@ use Rattle.std.specs.Str.{bytes_eq}
 use Rattle.std.proofs.lemmas.Slice.Eq.{bytes_eq-Decides}
 use Rattle.pdb_values.specs.Databases.{DatabaseValue}
 use Rattle.pdb_values.specs.NamedDatabases.{database_of}
-use Rattle.pdb_values.proofs.NamedLaws.{database_of-name, database_of-with_put}
+use Rattle.pdb_values.proofs.NamedLaws.{bytes_eq-own, database_of-name, database_of-with_put}
 use Rattle.palm_device.specs.Records.{with_records}
 use Rattle.record_merge.specs.Merging.{merged_records}
 use Rattle.session_plan.specs.Choosing.{choice, seen_held, add_count}
@@ -48,9 +48,6 @@ others-stay {m} {put} is (t ∷ ts) given databases name are unnamed =
     others-stay is ts (drop (add_count m t) given) (put t (take (add_count m t) given) databases) name are.2 unnamed.1
     ∙ is.other t (take (add_count m t) given) databases name are.0 unnamed.0
 
-same_name : (name : List ℕ) → bytes_eq name name ≡ true
-same_name name = (bytes_eq-Decides name name).1 refl
-
 not_here : (t : Task) (name : List ℕ) (ts : List Task) → NotNamed name ts → IsTask t ts → bytes_eq t.name name ≡ false
 not_here t name [] unnamed is = absurd is
 not_here t name (u ∷ ts) unnamed is = grind (arith, not_here t name ts unnamed.1)
@@ -59,7 +56,7 @@ turned : (a b : List ℕ) → bytes_eq a b ≡ false → bytes_eq b a ≡ false
 turned a b is = by (bytes_eq b a) refl
   where
     by : (c : Bool) → bytes_eq b a ≡ c → bytes_eq b a ≡ false
-    by true same = absurd (let no_other : true ≡ false = sym (same_name a) ∙ ap (bytes_eq a) (sym ((bytes_eq-Decides b a).0 same)) ∙ is in cc)
+    by true same = absurd (let no_other : true ≡ false = sym (bytes_eq-own a) ∙ ap (bytes_eq a) (sym ((bytes_eq-Decides b a).0 same)) ∙ is in cc)
     by false same = same
 
 pub own-changes : {m : Meeting} {put : Task → List ℕ → List DatabaseValue → List DatabaseValue}
@@ -74,7 +71,7 @@ own-changes {m} {put} {own} is (u ∷ ts) given databases t are there =
       others-stay is ts (drop (add_count m u) given) (put u (take (add_count m u) given) databases) u.name are.2 are.1,
       take (add_count m u) given,
       drop (add_count m u) given,
-      same_name u.name,
+      bytes_eq-own u.name,
       turned t.name u.name,
       not_here t u.name ts are.1,
       own-changes is ts (drop (add_count m u) given) (put u (take (add_count m u) given) databases) t are.2,
@@ -121,7 +118,7 @@ handheld-own m = record {
     here_by t ids databases (Some b) named =
         database_of-with_put t.name (merged_by m t ids b) databases
         ∙ ap (λ n. cond (bytes_eq n t.name) (Some (merged_by m t ids b)) (database_of t.name databases)) (named b refl)
-        ∙ ap (λ c. cond c (Some (merged_by m t ids b)) (database_of t.name databases)) (same_name t.name)
+        ∙ ap (λ c. cond c (Some (merged_by m t ids b)) (database_of t.name databases)) (bytes_eq-own t.name)
 
 merged-puts : (m : Meeting) (ts : List Task) (given : List ℕ) (databases : List DatabaseValue)
     → merged_databases m ts given databases ≡ puts m (put_handheld m) ts given databases

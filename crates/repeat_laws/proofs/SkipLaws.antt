@@ -27,13 +27,13 @@ passes_none : (test : ℕ → Bool) → Keeps test → (own other now : Option D
     → passes test other ≡ false → passes test now ≡ false
 passes_none test keeps own other now like no_own no_other = grind arith
 
-left_false : (a b : Bool) → (a || b) ≡ false → a ≡ false
+pub left_false : (a b : Bool) → (a || b) ≡ false → a ≡ false
 left_false a b is = grind arith
 
-right_false : (a b : Bool) → (a || b) ≡ false → b ≡ false
+pub right_false : (a b : Bool) → (a || b) ≡ false → b ≡ false
 right_false a b is = grind arith
 
-both_false : {a b : Bool} → a ≡ false → b ≡ false → (a || b) ≡ false
+pub both_false : {a b : Bool} → a ≡ false → b ≡ false → (a || b) ≡ false
 both_false {b} no_a no_b = ap (λ x. x || b) no_a ∙ no_b
 
 one_none : (test : ℕ → Bool) → Keeps test → (h r h1 r1 : Option DbHead) → IsLikeFirst h r h1 → IsLikeFirst r h r1 → one_passes test h r ≡ false

@@ -40,15 +40,15 @@ rows_there date h r there = grind arith
 handheld_there : (h r : Option DatabaseValue) → (is_some h || is_some r) ≡ true → is_some (handheld_before h r) ≡ true
 handheld_there h r there = grind arith
 
-before_records : (h r : Option DatabaseValue) {b : DatabaseValue} → handheld_before h r ≡ Some b → b.records ≡ records_of h
+pub before_records : (h r : Option DatabaseValue) {b : DatabaseValue} → handheld_before h r ≡ Some b → b.records ≡ records_of h
 before_records h r is = grind arith
 
 -- the slot's shelves are the merged ones
-slot_shelves : (m : Meeting) (given : List ℕ) → (merged_slot m given).shelves ≡ merged_shelves m (active m) given (slot_of m).shelves
+pub slot_shelves : (m : Meeting) (given : List ℕ) → (merged_slot m given).shelves ≡ merged_shelves m (active m) given (slot_of m).shelves
 unfolding merged_slot
 slot_shelves m given = refl
 
-device_databases : (m : Meeting) (given : List ℕ) → (merged_device m given).databases ≡ merged_databases m (active m) given m.device.databases
+pub device_databases : (m : Meeting) (given : List ℕ) → (merged_device m given).databases ≡ merged_databases m (active m) given m.device.databases
 unfolding merged_device
 device_databases m given = refl
 
