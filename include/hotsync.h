@@ -170,11 +170,13 @@ int64_t hs_device_new(const uint8_t *files, size_t len, uint8_t *state, size_t n
    takes the place of the old one, what it says goes into `room`, and the answer is how long the new state is: both of them,
    or none, as above. No bytes (count 0) are a tick of silence: the piece that waits is said once more, ten times at most.
    Each request is done once, however often it comes, and what it changes is in the state before its reply is said. Once the
-   talk is over nothing is heard any more. HS_FORM for bytes that are no state. */
+   talk is over nothing is heard any more. HS_FORM for bytes that are no state; HS_FILES for one with files that
+   hs_device_new takes for none of a handheld. */
 int64_t hs_device_take(uint8_t *state, size_t n, size_t len, const uint8_t *bytes, size_t count, uint8_t *room, size_t m,
                        struct hs_told *told);
 
-/* The list of the files that a handheld has. */
+/* The list of the files that a handheld has. HS_FORM for bytes that are no state. The files are not looked into, so HS_FILES
+   never comes. */
 int64_t hs_device_files(const uint8_t *state, size_t len, uint8_t *room, size_t n);
 
 /* ---- a serial line ---- */

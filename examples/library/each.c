@@ -621,6 +621,20 @@ static void handhelds(void)
     not_stepped("hs_device_take of nothing", &kept, 0, 0, READ, HS_FORM);
     not_stepped("hs_device_take of a part", &kept, kept.length - 1, 0, READ, HS_FORM);
     not_stepped("hs_device_take of more than there is", &kept, sizeof kept.bytes + 1, 0, READ, HS_FORM);
+
+    /* The number of requests, less whole rounds of 254, is never 254, so these are the bytes of no handheld. */
+    struct kept other = kept;
+    other.bytes[27] = 254;
+    refused("hs_device_files of no talk", hs_device_files, other.bytes, other.length, HS_FORM);
+    not_stepped("hs_device_take of no talk", &other, other.length, 0, READ, HS_FORM);
+
+    /* Its file renamed to one that should be a database is still listed. */
+    other = kept;
+    memcpy(other.bytes + other.length - 12, "pdb", 3);
+    length = bytes_of(BAD_FILE, file);
+    in_rooms("hs_device_files of a bad file", hs_device_files, other.bytes, other.length, (const char *)file, length);
+    not_stepped("hs_device_take of a bad file", &other, other.length, 0, READ, HS_FILES);
+
     not_stepped("hs_device_new of no list", &kept, 0, 1, "00", HS_FORM);
     not_stepped("hs_device_new of one name twice", &kept, 0, 1, ONE_FILE ONE_FILE, HS_FORM);
     not_stepped("hs_device_new of a bad file", &kept, 0, 1, BAD_FILE, HS_FILES);

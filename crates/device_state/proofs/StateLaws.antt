@@ -39,7 +39,7 @@ use Rattle.device_stream.specs.Parts.{SameTalkParts, are_talk_parts, hand_of}
 use Rattle.device_stream.specs.declared.parts.TalkParts.{TalkParts}
 use Rattle.device_stream.proofs.AlikeLaws.{Alike-back, Alike-itself, Alike-through}
 use Rattle.device_state.specs.Laws.{IsOneHandheld}
-use Rattle.device_state.specs.Refusals.{RefusesList, RefusesState, of_list, of_parts}
+use Rattle.device_state.specs.Refusals.{IsNoState, RefusesList, RefusesState, SaysNone, of_list, of_parts}
 use Rattle.device_state.specs.States.{IsOpenedList, IsState, mark}
 use Rattle.device_state.specs.declared.fault.StateFault.{StateFault}
 use Rattle.device_state.specs.declared.fault.StateFault.TheVariants.{Form, BadFiles, NoMemory}
@@ -159,13 +159,13 @@ IsState-alike state x y held alike is = record {
 
 -- the files of a state are no list
 pub refused-list : (state : List ℕ) (parts : TalkParts) (held rest : List ℕ) → length state < 2 ^ 64 → length parts.handles ≡ 8
-    → state ≡ front_text parts held rest → ((files : List NamedFile) → IsFileList files → rest ≡ list_text files → ⊥) → RefusesState state Form
+    → state ≡ front_text parts held rest → ((files : List NamedFile) → IsFileList files → rest ≡ list_text files → ⊥) → IsNoState state
 refused-list state parts held rest short eight is none other left files says =
     none files says.are_files (front-one state parts other held left rest (list_text files) short eight says.eight is says.is).rest_is
 
 -- its parts are none of a talk
 pub refused-parts : (state : List ℕ) (parts : TalkParts) (held rest : List ℕ) → length state < 2 ^ 64 → length parts.handles ≡ 8
-    → state ≡ front_text parts held rest → are_talk_parts parts ≡ false → RefusesState state Form
+    → state ≡ front_text parts held rest → are_talk_parts parts ≡ false → IsNoState state
 refused-parts state parts held rest short eight is none other left files says =
     let front = front-one state parts other held left rest (list_text files) short eight says.eight is says.is in
     no_both _ (sym (are_talk_parts-same parts other front.parts) ∙ says.are_parts) none
@@ -184,6 +184,16 @@ module _ (state : List ℕ) (parts : TalkParts) (held rest : List ℕ) (short : 
   refused-of_list list_fault.Form none = refused-list state parts held rest short eight is (none refl)
   refused-of_list list_fault.NoMemory none = tt
 
+  -- the same where no files are looked for
+  pub SaysNone-of_parts : (fault : PartsFault) → (fault ≡ parts_fault.Form → are_talk_parts parts ≡ false) → SaysNone state (of_parts fault)
+  SaysNone-of_parts parts_fault.Form none = refused-parts state parts held rest short eight is (none refl)
+  SaysNone-of_parts parts_fault.NoMemory none = tt
+
+  pub SaysNone-of_list : (fault : ListFault) → (fault ≡ list_fault.Form → (files : List NamedFile) → IsFileList files → rest ≡ list_text files → ⊥)
+      → SaysNone state (of_list fault)
+  SaysNone-of_list list_fault.Form none = refused-list state parts held rest short eight is (none refl)
+  SaysNone-of_list list_fault.NoMemory none = tt
+
   pub refused-opened : (fault : StateFault) → RefusesList rest fault → RefusesState state fault
   refused-opened Form none = refused-list state parts held rest short eight is none
   refused-opened BadFiles list = record {
@@ -197,10 +207,6 @@ module _ (state : List ℕ) (parts : TalkParts) (held rest : List ℕ) (short : 
   refused-opened NoMemory list = tt
 
   -- ---- what is read
-
-  pub true_by : (b : Bool) → (b ≡ false → ⊥) → b ≡ true
-  true_by true other = refl
-  true_by false other = absurd (other refl)
 
   pub IsState-opened : {told : Option FileMap} {databases : List DatabaseValue} {user : UserInfo} → are_talk_parts parts ≡ true → AreNamed parts.handles
       → IsOpenedList rest told databases user

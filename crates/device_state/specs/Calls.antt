@@ -10,7 +10,7 @@ use Rattle.device_stream.specs.Hands.{Hand, wake_said, woken}
 use Rattle.device_stream.specs.declared.talk_end.TalkEnd.{TalkEnd}
 use Rattle.device_stream.specs.declared.parts.TalkParts.{TalkParts}
 use Rattle.device_state.specs.Hearing.{HearsBytes, HearsSilence}
-use Rattle.device_state.specs.States.{IsState, state_text}
+use Rattle.device_state.specs.States.{IsState, SaysState}
 
 -- A handheld begins that has the files of a list: its talk is woken over what these stand for, with
 -- nothing open, and says its wake.
@@ -43,11 +43,10 @@ pub record GoesOn (state bytes next said : List ℕ) (over : Option TalkEnd)
   pub is : IsState next new left
   pub over_is : over ≡ new.over
 
--- the list of the files that a handheld has
+-- the list of the files that bytes say
 pub record HasFiles (state bytes : List ℕ) : Type 0 where
   pub parts : TalkParts
   pub held : List ℕ
   pub files : List NamedFile
-  pub are_files : IsFileList files
-  pub is : state ≡ state_text parts held files
+  pub says : SaysState state parts held files
   pub list_is : bytes ≡ list_text files

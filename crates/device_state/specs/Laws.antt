@@ -29,3 +29,10 @@ pub record HearsSome (state bytes next said : List ℕ) : Type 0 where
   pub spent : Bool
   pub goes_on : GoesOn state bytes next said over spent
   pub short : length next < 2 ^ 64
+
+-- two such calls, one after the other, from a state of fewer than 2^64 bytes
+pub record HearInTurn (state bytes said more later last : List ℕ) : Type 0 where
+  pub short : length state < 2 ^ 64
+  pub next : List ℕ
+  pub first : HearsSome state bytes next said
+  pub second : HearsSome next more last later

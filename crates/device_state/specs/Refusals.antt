@@ -58,9 +58,20 @@ pub record StatesBadFiles (state : List ℕ) : Type 0 where
   pub is : state ≡ state_text parts held files
   pub bad : HoldsBadFiles (held_of files)
 
+-- bytes say no state
+abbrev pub IsNoState : List ℕ → Type 0
+IsNoState state =
+    (parts : TalkParts) (held : List ℕ) (files : List NamedFile)
+    → ¬ SaysState state parts held files
+
 -- why bytes are no handheld
 abbrev pub RefusesState : List ℕ → StateFault → Type 0
-RefusesState state Form =
-    (parts : TalkParts) (held : List ℕ) (files : List NamedFile) → ¬ SaysState state parts held files
+RefusesState state Form = IsNoState state
 RefusesState state BadFiles = StatesBadFiles state
 RefusesState state NoMemory = ⊤
+
+-- why there are no files in bytes: what the files are is no reason
+abbrev pub SaysNone : List ℕ → StateFault → Type 0
+SaysNone state Form = IsNoState state
+SaysNone state BadFiles = ⊥
+SaysNone state NoMemory = ⊤

@@ -9,9 +9,11 @@ use Rattle.talk_text.specs.Texts.{talk_text}
 use Rattle.pdb_values.specs.Databases.{DatabaseValue}
 use Rattle.pdb_values.specs.declared.user.UserInfo.{UserInfo}
 use Rattle.handheld_files.specs.Handhelds.{StandFor}
+use Rattle.handheld_files.specs.Openings.{Stands}
 use Rattle.device_stream.specs.Alikeness.{Alike}
 use Rattle.device_stream.specs.Hands.{Hand}
 use Rattle.device_stream.specs.Parts.{are_talk_parts, hand_of}
+use Rattle.device_stream.specs.Talks.{TalkValue}
 use Rattle.device_stream.specs.declared.parts.TalkParts.{TalkParts}
 
 -- what such bytes begin with
@@ -42,6 +44,11 @@ pub record IsState (state : List ℕ) (hand : Hand) (held : List ℕ) : Type 0 w
   pub says : SaysState state parts held files
   pub stands : StandFor (finmap.get (held_of files)) hand.device.databases hand.device.user
   pub alike : Alike hand (hand_of hand.device parts)
+
+-- the folder of a talk stands for its hand's databases and user
+abbrev pub StandsByHand : {F : Type 0} → (F → Option FileMap) → TalkValue F → Type 0
+StandsByHand contents talk =
+    Stands (contents talk.folder) talk.hand.device.databases talk.hand.device.user
 
 -- a folder that tells these files has those of a list, and they stand for these databases and user
 pub record IsOpenedList (bytes : List ℕ) (told : Option FileMap) (databases : List DatabaseValue)

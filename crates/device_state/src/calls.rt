@@ -1,20 +1,24 @@
 //! The calls of a handheld in memory.
-ghost use Rattle.std.specs.Prelude.{◌≡◌, None, false, true, IfErr, IfOk};
-ghost use Rattle.handheld_files.specs.Openings.{Stands};
+ghost use Rattle.std.specs.Prelude.{◌≡◌, ◌↔◌, None, false, true, IfErr, IfOk, IsErrOf};
 ghost use Rattle.palm_device.specs.Soundness.{IsDevice};
+ghost use Rattle.device_stream.specs.Parts.{are_talk_parts};
 ghost use Rattle.device_state.specs.Calls.{Begins, GoesOn, HasFiles};
-ghost use Rattle.device_state.specs.Refusals.{RefusesList, RefusesState};
-ghost use Rattle.device_state.specs.States.{IsState};
+ghost use Rattle.device_state.specs.Refusals.{RefusesList, RefusesState, SaysNone};
+ghost use Rattle.device_state.specs.States.{IsState, StandsByHand};
 
 use crate::fault::StateFault;
 use crate::hearing::{Heard, hear_any};
 use crate::state::{StateFront, open_files, read_front, write_state};
 use arrayvec::ArrayVec;
-use device_stream::{Talk, TalkEnd};
+use device_stream::{PartsFault, Talk, TalkEnd, TalkParts};
 use file_lists::read_files;
 use handheld_server::Server;
 use hs_folders::{Folder, MemFolder};
+use padp_end::End;
 use std::alloc::{AllocError, Global};
+
+// How many transactions the requests of a talk have: they come round.
+const TRANSACTIONS: u8 = 254;
 
 /// What a call makes of a handheld, and what the handheld says.
 #[derive(Drop)]
@@ -63,8 +67,7 @@ pub fn next_state(alloc: Global, state: &[u8], bytes: &[u8]) -> Result<Step, Sta
 // The talk of a handheld, and the bytes of the next packet that it holds.
 fn talk_of(alloc: Global, state: &[u8]) -> Result<(Talk<MemFolder>, &[u8]), StateFault>
     ensures is { IfOk result (λ made. IsState state.now made.0.hand made.1.now) }
-    ensures stands { IfOk result (λ made. Stands (⟦<MemFolder as Folder>⟧.contents made.0.folder)
-        made.0.hand.device.databases made.0.hand.device.user) }
+    ensures stands { IfOk result (λ made. StandsByHand ⟦<MemFolder as Folder>⟧.contents made.0) }
     ensures sound { IfOk result (λ made. made.0.sound ≡ true) }
     ensures device { IfOk result (λ made. IsDevice made.0.hand.device) }
     ensures refused { IfErr result (RefusesState state.now) }
@@ -77,8 +80,7 @@ fn talk_of(alloc: Global, state: &[u8]) -> Result<(Talk<MemFolder>, &[u8]), Stat
 
 // What a call leaves that ends with this talk, which heard this.
 fn step_of(alloc: Global, talk: Talk<MemFolder>, heard: Heard) -> Result<Step, AllocError>
-    requires stands { Stands (⟦<MemFolder as Folder>⟧.contents talk.folder)
-        talk.hand.device.databases talk.hand.device.user }
+    requires stands { StandsByHand ⟦<MemFolder as Folder>⟧.contents talk }
     requires device { IsDevice talk.hand.device }
     ensures state { IfOk result (λ step. IsState step.state.items talk.hand heard.left.items) }
     ensures said { IfOk result (λ step. step.said ≡ heard.said) }
@@ -96,12 +98,24 @@ fn step_of(alloc: Global, talk: Talk<MemFolder>, heard: Heard) -> Result<Step, A
     })
 }
 
-/// The list of the files that a handheld has.
+/// The list of the files that a handheld has. The files are not opened for it: whether a handheld holds them is not asked.
 pub fn files_in(alloc: Global, state: &[u8]) -> Result<&[u8], StateFault>
     ensures files { IfOk result (λ list. HasFiles state.now list.now) }
-    ensures refused { IfErr result (RefusesState state.now) }
+    ensures refused { IfErr result (SaysNone state.now) }
 {
-    let front = read_front(alloc, state)?;
-    let _folder = read_files(alloc, front.files)?;
-    Ok(front.files)
+    let StateFront { parts, files, .. } = read_front(alloc, state)?;
+    let _folder = read_files(alloc, files)?;
+    check_parts(alloc, &parts)?;
+    Ok(files)
+}
+
+// Answers `Form` exactly where these are the parts of no talk.
+fn check_parts(alloc: Global, parts: &TalkParts) -> Result<(), PartsFault>
+    ensures { IsErrOf result PartsFault.Form ↔ (are_talk_parts parts.now ≡ false) }
+{
+    if parts.number >= TRANSACTIONS {
+        return Err(PartsFault::Form);
+    }
+    let _end = End::of_parts(alloc, &parts.end)?;
+    Ok(())
 }

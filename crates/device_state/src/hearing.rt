@@ -1,12 +1,12 @@
 //! A talk hears bytes, or silence.
 ghost use Rattle.std.specs.Prelude.{◌≡◌, ◌∷◌, [], None, Some, false, true, IfOk, OnOk};
-ghost use Rattle.handheld_files.specs.Openings.{Stands};
 ghost use Rattle.palm_device.specs.Soundness.{IsDevice};
 ghost use Rattle.slp_frames.specs.PacketValues.{lent_value};
 ghost use Rattle.slp_frames.specs.Streams.{IsDrained};
 ghost use Rattle.device_stream.specs.Courses.{HasTalked, Hears, IsReady, PerformsAny};
 ghost use Rattle.device_state.specs.Calls.{HearsAny};
 ghost use Rattle.device_state.specs.Hearing.{HearsBytes, HearsSilence};
+ghost use Rattle.device_state.specs.States.{StandsByHand};
 
 use arrayvec::ArrayVec;
 use device_stream::{MAX_SAID, Talk};
@@ -32,9 +32,8 @@ pub(crate) fn hear_any<F: Folder>(
     requires { talk.old.sound ≡ true }
     ensures hears { IfOk result (λ heard. HearsAny talk.old.hand held.now bytes.now heard.said.items
         talk.new.hand heard.left.items heard.spent) }
-    ensures stands { OnOk result (Stands (F.contents talk.old.folder) talk.old.hand.device.databases
-        talk.old.hand.device.user → Stands (F.contents talk.new.folder)
-        talk.new.hand.device.databases talk.new.hand.device.user) }
+    ensures stands { OnOk result (StandsByHand F.contents talk.old
+        → StandsByHand F.contents talk.new) }
     ensures device { OnOk result (IsDevice talk.old.hand.device → IsDevice talk.new.hand.device) }
 {
     if bytes.is_empty() {

@@ -1,12 +1,12 @@
 //! A handheld is read from its bytes, and written.
 ghost use Rattle.std.specs.Prelude.{◌≡◌, ◌++◌, ℕ, List, IfErr, IfOk, IsErrOf, length, true};
 ghost use Rattle.file_lists.specs.Strings.{string_text};
-ghost use Rattle.handheld_files.specs.Openings.{Stands, opened_device};
+ghost use Rattle.handheld_files.specs.Openings.{opened_device};
 ghost use Rattle.palm_device.specs.Soundness.{IsDevice};
 ghost use Rattle.talk_text.specs.Opened.{AreNamed};
 ghost use Rattle.talk_text.specs.Texts.{talk_text};
 ghost use Rattle.device_state.specs.Refusals.{RefusesList};
-ghost use Rattle.device_state.specs.States.{IsOpenedList, IsState, mark};
+ghost use Rattle.device_state.specs.States.{IsOpenedList, IsState, StandsByHand, mark};
 ghost use Rattle.device_stream.specs.declared.parts.TalkParts.{TalkParts};
 
 use crate::fault::StateFault;
@@ -76,8 +76,7 @@ pub(crate) fn write_state(
     talk: Talk<MemFolder>,
     held: &[u8],
 ) -> Result<Vec<u8>, AllocError>
-    requires stands { Stands (⟦<MemFolder as Folder>⟧.contents talk.folder)
-        talk.hand.device.databases talk.hand.device.user }
+    requires stands { StandsByHand ⟦<MemFolder as Folder>⟧.contents talk }
     requires device { IsDevice talk.hand.device }
     ensures { IfOk result (λ state. IsState state.items talk.hand held.now) }
 {

@@ -18,8 +18,8 @@ abbrev pub refusal_of : FileFault → Refusal
 refusal_of NoMemory = Memory
 refusal_of _ = Form
 
--- a call that puts such a text into the room, or refuses so and leaves the room as it was; a refusal
--- has this number
+-- a call that puts such a text into the room, or refuses so and leaves the room as it was; a
+-- refusal has this number
 abbrev pub AnswersBy : {R : Type 0} → (R → ℤ) → (List ℕ → Type 0) → (R → Type 0) → List ℕ → List ℕ
     → ℤ → Type 0
 AnswersBy {R} number IsText Refuses room room_after answer =

@@ -30,6 +30,10 @@ pub record Rooms : Type 0 where
   pub said : List ℕ
   pub told : HsTold
 
+-- such memory with this in it
+abbrev pub rooms_of : List ℕ → List ℕ → HsTold → Rooms
+rooms_of state said told = record { state = state; said = said; told = told }
+
 -- both texts have room
 abbrev pub have_room : List ℕ → List ℕ → Rooms → Bool
 have_room state said rooms =

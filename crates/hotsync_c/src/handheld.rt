@@ -2,9 +2,9 @@
 
 ghost use Rattle.std.specs.Prelude.{◌≡◌, ◌≤◌, length, pos, take};
 ghost use Rattle.device_state.specs.Calls.{HasFiles};
-ghost use Rattle.device_state.specs.Refusals.{RefusesList, RefusesState};
+ghost use Rattle.device_state.specs.Refusals.{RefusesList, SaysNone};
 ghost use Rattle.hotsync_c.specs.Answers.{AnswersBy};
-ghost use Rattle.hotsync_c.specs.Handhelds.{AnswersStep, IsFirstStep, IsNextStep, IsStepOf, PutsStep, RefusesFirst, fault_answer, phase_of};
+ghost use Rattle.hotsync_c.specs.Handhelds.{AnswersStep, IsFirstStep, IsNextStep, IsStepOf, PutsStep, RefusesFirst, fault_answer, phase_of, rooms_of};
 
 use crate::room::put;
 use device_state::{StateFault, Step, files_in, new_state, next_state};
@@ -38,8 +38,7 @@ pub extern "C" fn hs_device_new(
     told: &mut HsTold,
 ) -> i64
     ensures { AnswersStep (IsFirstStep files.now) (RefusesList files.now)
-        (record { state = state.old; said = room.old; told = told.old })
-        (record { state = state.new; said = room.new; told = told.new }) result }
+        (rooms_of state.old room.old told.old) (rooms_of state.new room.new told.new) result }
 {
     match new_state(alloc, files) {
         Ok(step) => put_step(&step, state, room, told),
@@ -64,8 +63,7 @@ pub extern "C" fn hs_device_take(
     told: &mut HsTold,
 ) -> i64
     ensures { AnswersStep (IsNextStep (take count state.old) bytes.now) (RefusesFirst state.old count)
-        (record { state = state.old; said = room.old; told = told.old })
-        (record { state = state.new; said = room.new; told = told.new }) result }
+        (rooms_of state.old room.old told.old) (rooms_of state.new room.new told.new) result }
 {
     match step_of(alloc, state, count, bytes) {
         Ok(step) => put_step(&step, state, room, told),
@@ -73,12 +71,12 @@ pub extern "C" fn hs_device_take(
     }
 }
 
-/// Puts the list of the files that a handheld has into the room.
+/// Puts the list of the files that a handheld has into the room. The files are not looked into.
 ///
-/// The answer is how long it is; or -2 for bytes that are no handheld, or -1 where memory was refused.
+/// The answer is how long it is; or -2 for bytes that are no state of a handheld, or -1 where memory was refused.
 #[unsafe(no_mangle)]
 pub extern "C" fn hs_device_files(alloc: Global, state: &[u8], room: &mut [u8]) -> i64
-    ensures { AnswersBy fault_answer (HasFiles state.now) (RefusesState state.now)
+    ensures { AnswersBy fault_answer (HasFiles state.now) (SaysNone state.now)
         room.old room.new result }
 {
     match files_in(alloc, state) {
@@ -100,8 +98,7 @@ fn step_of(alloc: Global, room: &[u8], count: usize, bytes: &[u8]) -> Result<Ste
 // Puts a step into both rooms where it fits, and tells of it.
 fn put_step(step: &Step, state: &mut [u8], room: &mut [u8], told: &mut HsTold) -> i64
     ensures { PutsStep step.now.state.items step.now.said.items (phase_of step.now.over step.now.spent)
-        (record { state = state.old; said = room.old; told = told.old })
-        (record { state = state.new; said = room.new; told = told.new }) result }
+        (rooms_of state.old room.old told.old) (rooms_of state.new room.new told.new) result }
 {
     told.said = step.said.len() as u64;
     told.phase = phase_of(step);

@@ -1,8 +1,9 @@
 use Rattle.std.proofs.Common.{Err, ap, arith}
 use Rattle.hs_folders.proofs.CauseLaws.{ok_is_no_fault}
+use Rattle.std.proofs.lemmas.Bool.{true_from_ne_false}
 use Rattle.std.proofs.lemmas.Result.{err_from_is_err_and}
 use Rattle.device_stream.specs.Parts.{are_talk_parts}
-use Rattle.device_state.proofs.StateLaws.{IsDevice-handles, IsState-opened, refused-of_parts, refused-opened, true_by}
+use Rattle.device_state.proofs.StateLaws.{IsDevice-handles, IsState-opened, refused-of_parts, refused-opened}
 use Rattle.device_state.proofs.calls.talk_of.Goals as goal
 
 pub returns-in_err-store-clause-refused : goal.returns-in_err-store-clause-refused
@@ -23,8 +24,7 @@ pub returns-clause-is : goal.returns-clause-is
 returns-clause-is c =
     let front = c.in_ok-parts.field-0 in
     rw c.in_ok-talk.ensures.made (IsState-opened c.args.state.now front.parts front.held.now front.files.now (omega arith) c.in_ok-parts.ensures.eight
-    c.in_ok-parts.ensures.is (true_by c.args.state.now front.parts front.held.now front.files.now (omega arith) c.in_ok-parts.ensures.eight
-    c.in_ok-parts.ensures.is (are_talk_parts front.parts) (λ none. ok_is_no_fault _ _ (c.in_ok-talk.ensures.form.1 none))) c.in_ok-parts.ensures.named c.in_ok-store.ensures.opened)
+    c.in_ok-parts.ensures.is (true_from_ne_false (are_talk_parts front.parts) (λ none. ok_is_no_fault _ _ (c.in_ok-talk.ensures.form.1 none))) c.in_ok-parts.ensures.named c.in_ok-store.ensures.opened)
 
 pub returns-clause-device : goal.returns-clause-device
 returns-clause-device c =
