@@ -65,7 +65,8 @@ fn opened_text(alloc: Global, outcome: Result<(), FolderOpenFault>) -> Result<St
     String::from_str(alloc, said)
 }
 
-fn folder_text(alloc: Global, outcome: Result<(), FolderFault>) -> Result<String, AllocError> {
+/// What a folder's call that gives nothing answered.
+pub fn folder_text(alloc: Global, outcome: Result<(), FolderFault>) -> Result<String, AllocError> {
     let said = match outcome {
         Ok(()) => "ok",
         Err(FolderFault::Failed) => "failed",

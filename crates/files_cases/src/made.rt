@@ -1,6 +1,6 @@
 // Folders made of a seed and a count.
+use crate::contents::show_files;
 use case_words::{number_at, word};
-use hs_folders::{Folder, FolderFault, MemFolder};
 use made_folders::{MadeFolders, make_folders};
 use std::alloc::{AllocError, Global};
 
@@ -20,47 +20,10 @@ pub fn obey(alloc: Global, words: &[&str]) -> Result<String, AllocError> {
 fn show(alloc: Global, words: &[&str], made: &mut MadeFolders) -> Result<String, AllocError> {
     let mut said = words.join(alloc, " ")?;
     let whole = word(words, 0) == "files";
-    let device = show_files(alloc, "palm", &mut made.device, whole, &mut said);
-    let desk = show_files(alloc, "desk", &mut made.desk, whole, &mut said);
+    let device = show_files(alloc, "palm ", &mut made.device, whole, &mut said);
+    let desk = show_files(alloc, "desk ", &mut made.desk, whole, &mut said);
     match (device, desk) {
         (Ok(()), Ok(())) => Ok(said),
         _ => String::from_str(alloc, "failed"),
     }
-}
-
-fn show_files(
-    alloc: Global,
-    side: &str,
-    folder: &mut MemFolder,
-    whole: bool,
-    said: &mut String,
-) -> Result<(), FolderFault> {
-    for name in folder.list(alloc)? {
-        let bytes = folder.read(alloc, &name)?;
-        write!(said, "\n{side} {name} ")?;
-        show_bytes(alloc, &bytes, whole, said)?;
-    }
-    Ok(())
-}
-
-// The bytes in hexadecimal, or their number and their sum.
-fn show_bytes(
-    alloc: Global,
-    bytes: &[u8],
-    whole: bool,
-    said: &mut String,
-) -> Result<(), AllocError> {
-    if whole {
-        said.push_str(&hex::encode(alloc, bytes)?)
-    } else {
-        write!(said, "{} {}", bytes.len(), sum_of(bytes))
-    }
-}
-
-fn sum_of(bytes: &[u8]) -> u32 {
-    let mut sum: u32 = 0;
-    for byte in bytes {
-        sum = sum.wrapping_mul(31).wrapping_add(u32::from(*byte));
-    }
-    sum
 }

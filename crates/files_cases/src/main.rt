@@ -1,8 +1,10 @@
-//! Calls on folders, sources and sinks, in memory and of the system, values of Palm databases, whole databases and their
-//! files, and folders that are made, as the lines of standard input ask for them.
+//! Calls on folders, sources and sinks, in memory and of the system, values of Palm databases, whole databases and
+//! their files, folders that are made, the conduit's table and plans, and a desktop's files, its journal and its
+//! folder, as the lines of standard input ask for them.
 //!
-//! Bytes are hexadecimal, and `-` stands for none. In a name of a folder's file `~` stands for a space and `^` for a zero
-//! byte, and `-` alone is the empty name. `case TEXT` is printed as it is.
+//! Bytes are hexadecimal, and `-` stands for none. In a name of a folder's file `~` stands for a space and `^` for a
+//! zero byte, and `-` alone is the empty name. `case TEXT` is printed as it is, and begins with an empty folder of a
+//! desktop.
 //!
 //! - A folder: `open PATH`, `list`, `some` (whether it lists a name), `read NAME`, `replace NAME H`, `remove NAME`. A source:
 //!   `open PATH`, `read ROOM`. A sink: `open PATH`, `write H`.
@@ -32,21 +34,47 @@
 //!   a desktop's.
 //! - Folders made of a seed and a count: `made files SEED COUNT` prints each file with its bytes, and `made sums SEED COUNT`
 //!   with its length and the number that its bytes are as digits to the base 31, modulo 2 to the 32.
+//! - The conduit: `cell HANDHELD DESKTOP EQUAL`, a cell of its table; `plan COUNTS ACTION|VIEW|ROWS|BASE`, the plan of
+//!   a database. COUNTS is `yes` where gone rows count, ACTION `sync`, which may be left out, `handheld` or `desktop`,
+//!   and a record is written as its id, a mark and its text: `:` for a live one, `!` for one with the delete bit, and
+//!   in views `-` for a deleted one and `?` for one that wasn't read.
+//! - Files of a desktop: `names H ATTRIBUTES SLOT`, those of the database of this name and what stands in front of
+//!   them in a slot; `reads NAME`, whether a handheld reads this file and whether a desktop keeps it; `device H` and
+//!   `desktop H`, an information file, read and written again; `holds SLOTS NAME H`, what a file of a desktop with so
+//!   many slots holds; `journal H`, read and written again.
+//! - A desktop's folder, beside those above: `file NAME H` and `many N` put files into it, `fail N` makes its Nth call
+//!   fail, `works` none, and these print nothing. `files` shows it; `finish` finishes its journal, and `change H`
+//!   carries out a journal's entries, too.
+//! - The desktop: `open`, and `close`, which prints nothing; of the opened one `users`, and how many databases have
+//!   rows in all slots; `pick PLACE`, an old slot or a new one behind the last; of the picked one `marks`, `list`,
+//!   `rows H`, `base H` and `archive H` by name; `commit USER SECONDS NAME H ROWS BASE ARCHIVE`, new marks and a
+//!   change of one database whose files are given. Once it is closed `moment N`, the desktop of the folder at one
+//!   moment, slot after slot, and `steps`, the files that each change of the folder replaced, or removed, with a
+//!   minus.
 #![tactic(auto)]
 
 mod calls;
 mod categories;
+mod contents;
 mod database;
+mod desk_change;
+mod desk_files;
+mod desk_text;
+mod desktop;
+mod desktop_cases;
 mod export;
 mod file;
+mod journal;
 mod made;
 mod memory;
 mod shelf;
+mod steps;
 mod system;
 mod value;
 
 use case_words::word;
 use database::Loaded;
+use desktop::Desktop;
 use export::Exports;
 use memory::Memory;
 use pdb_values::Database;
@@ -69,6 +97,7 @@ struct Cases<'r> {
     shelf: Vec<Database>,
     loaded: Loaded,
     exports: Exports,
+    desktop: Desktop,
 }
 
 impl<'r> Cases<'r> {
@@ -81,6 +110,7 @@ impl<'r> Cases<'r> {
             shelf: Vec::new(alloc),
             loaded: Loaded::new(alloc),
             exports: Exports::new(alloc),
+            desktop: Desktop::new(alloc),
         }
     }
 
@@ -92,18 +122,21 @@ impl<'r> Cases<'r> {
     }
 
     fn answer(&mut self, line: &str) -> io::Result<()> {
-        let said = self.said(line)?;
-        println!(self.rt; "{said}")
-    }
-
-    fn said(&mut self, line: &str) -> Result<String, AllocError> {
         let words: Vec<&str> = line.split(' ').collect(self.alloc)?;
-        self.obey(line, &words)
+        match word(&words, 0) {
+            "file" | "many" | "fail" | "works" | "close" => self.desktop.prepare(&words)?,
+            _ => {
+                let said = self.obey(line, &words)?;
+                println!(self.rt; "{said}")?;
+            }
+        }
+        Ok(())
     }
 
     fn obey(&mut self, line: &str, words: &[&str]) -> Result<String, AllocError> {
         let call = words.get(1..).unwrap_or(words);
         match word(words, 0) {
+            "case" => self.begin(line),
             "folder" => self.memory.ask_folder(call),
             "source" => self.memory.ask_source(call),
             "sink" => self.memory.ask_sink(call),
@@ -113,7 +146,14 @@ impl<'r> Cases<'r> {
             "export" => self.exports.obey(call),
             "categories" => categories::obey(self.alloc, call),
             "made" => made::obey(self.alloc, call),
-            _ => value::obey(self.alloc, line, words),
+            "cell" | "plan" => desktop_cases::obey(self.alloc, line, words),
+            _ => self.desktop.obey(line, words),
         }
+    }
+
+    // Begins a case.
+    fn begin(&mut self, line: &str) -> Result<String, AllocError> {
+        self.desktop = Desktop::new(self.alloc);
+        String::from_str(self.alloc, line)
     }
 }

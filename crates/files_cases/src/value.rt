@@ -7,10 +7,9 @@ use pdb_values::{
 };
 use std::alloc::{AllocError, Global};
 
-/// What a line on values asks for, the line itself where it names a case, or that there is no such line.
+/// What a line on values asks for, or that there is no such line.
 pub fn obey(alloc: Global, line: &str, words: &[&str]) -> Result<String, AllocError> {
     match word(words, 0) {
-        "case" => String::from_str(alloc, line),
         "name" => named(alloc, &bytes_at(alloc, words, 1)),
         "stem" => stem(alloc, &bytes_at(alloc, words, 1)),
         "user" => user(alloc, &bytes_at(alloc, words, 1)),

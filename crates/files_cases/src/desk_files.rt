@@ -1,7 +1,8 @@
-// What a line itself says: cells and plans, names of files, information files, and what a file of a desktop holds.
-use crate::folder::journal;
-use crate::plans::{cell, plan_text};
-use crate::shown::{Hex, MarksLine};
+// Names of files, information files, and what a file of a desktop holds.
+use crate::database::head_of;
+use crate::desk_text::marks_text;
+use crate::journal::journal;
+use crate::value;
 use case_words::{bytes_at, number_at, short_in, word};
 use desk_store::{DeskFile, DeskFileFault, Role, read_desk_file};
 use folder_files::{
@@ -9,43 +10,23 @@ use folder_files::{
     read_desktop_info, read_device_info, rows_file, slot_prefix, write_desktop_info,
     write_device_info,
 };
-use pdb_values::{DbHead, DbName, FourCc, Marks, PalmDate};
 use std::alloc::{AllocError, Global};
-use std::fmt;
 
-/// What is to be printed of a line.
-pub fn said(alloc: Global, line: &str, words: &[&str]) -> Result<String, AllocError> {
+/// What a line on files of a desktop asks for, or on values.
+pub fn obey(alloc: Global, line: &str, words: &[&str]) -> Result<String, AllocError> {
     match word(words, 0) {
-        "cell" => String::from_str(alloc, cell(words)),
-        "plan" => plan_text(alloc, line),
         "names" => names(alloc, words),
         "reads" => reads(alloc, word(words, 1)),
         "device" => device(alloc, words),
         "desktop" => desktop(alloc, words),
         "holds" => holds(alloc, words),
         "journal" => journal(alloc, words),
-        _ => String::from_str(alloc, "no such line"),
+        _ => value::obey(alloc, line, words),
     }
 }
 
-/// The head of a database of this name. None: it is no name.
-pub fn head_of(name: &[u8], attributes: u16) -> Option<DbHead> {
-    Some(DbHead {
-        name: DbName::new(name).ok()?,
-        attributes,
-        version: 0,
-        created: PalmDate::of_seconds(0),
-        modified: PalmDate::of_seconds(0),
-        backup: PalmDate::of_seconds(0),
-        modnum: 0,
-        seed: 0,
-        kind: FourCc(*b"DATA"),
-        creator: FourCc(*b"memo"),
-    })
-}
-
 fn names(alloc: Global, words: &[&str]) -> Result<String, AllocError> {
-    let Some(head) = head_of(&bytes_at(alloc, words, 1), short_in(word(words, 2))) else {
+    let Some(head) = head_of(&bytes_at(alloc, words, 1), short_in(word(words, 2)), 0) else {
         return String::from_str(alloc, "no name");
     };
     let database = database_file(alloc, &head)?;
@@ -81,24 +62,17 @@ fn device(alloc: Global, words: &[&str]) -> Result<String, AllocError> {
     }
 }
 
-// The marks of a desktop, a line each.
-#[derive(Clone, Copy)]
-struct MarksLines<'m>(&'m [Marks]);
-
-impl fmt::Display for MarksLines<'_> {
-    fn fmt<W: fmt::Write>(&self, f: &mut fmt::Formatter<W>) -> fmt::Result {
-        for marks in self.0 {
-            write!(f, "{}\n", MarksLine(marks))?;
-        }
-        Ok(())
-    }
-}
-
+// The marks of a desktop, a line each, and its information file.
 fn desktop(alloc: Global, words: &[&str]) -> Result<String, AllocError> {
     match read_desktop_info(alloc, &bytes_at(alloc, words, 1)) {
         Ok(slots) => {
-            let text = write_desktop_info(alloc, &slots)?;
-            format!(in alloc; "{}{text}", MarksLines(&slots))
+            let mut said = String::new(alloc);
+            for marks in &slots {
+                said.push_str(&marks_text(alloc, marks)?)?;
+                said.push_str("\n")?;
+            }
+            said.push_str(&write_desktop_info(alloc, &slots)?)?;
+            Ok(said)
         }
         Err(InfoFault::Bad(bad)) => format!(in alloc; "bad {}", bad.place),
         Err(InfoFault::NoMemory) => Err(AllocError),
@@ -114,7 +88,7 @@ fn holds(alloc: Global, words: &[&str]) -> Result<String, AllocError> {
                 Role::Base => "base rows",
                 Role::Archive => "archive",
             };
-            let name = Hex(database.head().name.as_bytes());
+            let name = hex::encode(alloc, database.head().name.as_bytes())?;
             format!(in alloc; "{role} of {name} in slot {slot}")
         }
         Ok(DeskFile::Other) => String::from_str(alloc, "other"),

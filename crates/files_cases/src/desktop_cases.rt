@@ -1,12 +1,20 @@
-// Cells of the conduit's table, and plans.
+// What a desktop decides: cells of the conduit's table, and plans.
 use case_words::word;
 use conduit_rules::{Action, Archive, Keep, Plan, Seen, SeenState, Side, View, decide, plan};
 use pdb_values::{Category, Content, Record, RecordId};
 use std::alloc::{AllocError, Global};
-use std::{fmt, str};
+use std::str;
 
-/// A cell in the words of the table: b is the base row's content, h the handheld's, d the desktop's.
-pub fn cell(words: &[&str]) -> &'static str {
+/// What a line on the conduit asks for.
+pub fn obey(alloc: Global, line: &str, words: &[&str]) -> Result<String, AllocError> {
+    match word(words, 0) {
+        "cell" => String::from_str(alloc, cell(words)),
+        _ => plan_text(alloc, line),
+    }
+}
+
+// A cell in the words of the table: b is the base row's content, h the handheld's, d the desktop's.
+fn cell(words: &[&str]) -> &'static str {
     let (handheld, desktop) = (side(word(words, 1)), side(word(words, 2)));
     let cell = decide(handheld, desktop, word(words, 3) == "equal");
     match (cell.keep, cell.archive, cell.news) {
@@ -34,8 +42,8 @@ fn side(word: &str) -> Side {
     }
 }
 
-/// The plan of the database that a line gives.
-pub fn plan_text(alloc: Global, line: &str) -> Result<String, AllocError> {
+// The plan of the database that a line gives.
+fn plan_text(alloc: Global, line: &str) -> Result<String, AllocError> {
     let parts: Vec<&str> = line.split('|').collect(alloc)?;
     let front = word(&parts, 0);
     let view = view_of(alloc, word(&parts, 1))?;
@@ -43,7 +51,7 @@ pub fn plan_text(alloc: Global, line: &str) -> Result<String, AllocError> {
     let base = records_of(alloc, word(&parts, 3))?;
     let counts = front.starts_with("plan yes");
     let plan = plan(alloc, &view, &rows, &base, counts, action_in(front))?;
-    format!(in alloc; "plan {}", PlanText(&plan))
+    plan_entries(alloc, &plan)
 }
 
 // The action that stands in front of the first part's end.
@@ -104,41 +112,27 @@ fn record_of(alloc: Global, entry: &str) -> Option<(Record, u8)> {
 }
 
 // A plan, each entry with the name of its list.
-#[derive(Clone, Copy)]
-struct PlanText<'p>(&'p Plan);
-
-impl fmt::Display for PlanText<'_> {
-    fn fmt<W: fmt::Write>(&self, f: &mut fmt::Formatter<W>) -> fmt::Result {
-        let plan = self.0;
-        write!(
-            f,
-            "{}{}{}{}",
-            Rows("kept", &plan.kept),
-            Rows("replace", &plan.replace),
-            Rows("archive", &plan.archive),
-            Rows("gone", &plan.gone)
-        )?;
-        for content in &plan.adds {
-            write!(f, "add {}; ", text_of(content))?;
-        }
-        for id in &plan.purge {
-            write!(f, "purge {}; ", id.number())?;
-        }
-        Ok(())
+fn plan_entries(alloc: Global, plan: &Plan) -> Result<String, AllocError> {
+    let mut said = String::from_str(alloc, "plan ")?;
+    put_rows(&mut said, "kept", &plan.kept)?;
+    put_rows(&mut said, "replace", &plan.replace)?;
+    put_rows(&mut said, "archive", &plan.archive)?;
+    put_rows(&mut said, "gone", &plan.gone)?;
+    for content in &plan.adds {
+        write!(said, "add {}; ", text_of(content))?;
     }
+    for id in &plan.purge {
+        write!(said, "purge {}; ", id.number())?;
+    }
+    Ok(said)
 }
 
-// Rows under the name of their list.
-#[derive(Clone, Copy)]
-struct Rows<'r>(&'static str, &'r Vec<(RecordId, Content)>);
-
-impl fmt::Display for Rows<'_> {
-    fn fmt<W: fmt::Write>(&self, f: &mut fmt::Formatter<W>) -> fmt::Result {
-        for (id, content) in self.1 {
-            write!(f, "{} {} {}; ", self.0, id.number(), text_of(content))?;
-        }
-        Ok(())
+// Puts rows, each behind the name of its list.
+fn put_rows(said: &mut String, list: &str, rows: &[(RecordId, Content)]) -> Result<(), AllocError> {
+    for (id, content) in rows {
+        write!(said, "{list} {} {}; ", id.number(), text_of(content))?;
     }
+    Ok(())
 }
 
 fn text_of(content: &Content) -> &str {
