@@ -1,5 +1,5 @@
-/* A plain reader of packets, to compare with: it takes 1,040 bytes again and again, as hotsync_bench does, looks for the
- * signature, tests the sum of the header and the CRC by a table, and counts. */
+/* A plain reader of packets, to compare with: it takes 1,040 bytes again and again, as `bench packets` of session_cases
+ * does, looks for the signature, tests the sum of the header and the CRC by a table, and counts. */
 #include <stdint.h>
 #include <stdio.h>
 #include <stdlib.h>

@@ -95,8 +95,8 @@ fn mark_in(alloc: Global, call: &str) -> Option<UserInfo> {
     })
 }
 
-// A head of this name and these attributes.
-fn head_of(name: DbName, attributes: u16) -> DbHead {
+/// A head of this name and these attributes.
+pub fn head_of(name: DbName, attributes: u16) -> DbHead {
     DbHead {
         name,
         attributes,

@@ -2,6 +2,7 @@
 ghost use Rattle.std.specs.Prelude.{◌≡◌, true, IfSome};
 ghost use Rattle.handheld_files.specs.Openings.{Stands};
 
+use crate::bench;
 use crate::fake::{FakeLink, Then};
 use crate::lines::{cause_text, frames_text, messages_text, numbers_of};
 use crate::palmed::{Palmed, losses_in, session_with, talk_to};
@@ -79,6 +80,7 @@ impl Cases {
             ("ported", _) => session_over(alloc, rest),
             ("frames", Some(log)) => frames_text(alloc, &log.frames, rest),
             ("replies", _) => messages_text(alloc, &self.replies),
+            ("bench", _) => bench::obey(alloc, rest),
             _ => String::from_str(alloc, "what?"),
         }
     }

@@ -1,4 +1,5 @@
-//! Sessions of a desktop, what its mirrors read and send, and the line below them, as the lines of standard input ask for them.
+//! Sessions of a desktop, what its mirrors read and send, and the line below them, as the lines of standard input ask
+//! for them; and what `scripts/bench` measures.
 //!
 //! Bytes are hexadecimal. A line that says something prints one line. `case TEXT` is printed as it is, and begins with an empty
 //! folder and an empty script.
@@ -18,10 +19,11 @@
 //!   ID.CATEGORY.H with a comma between them and `-` before a gone one; `news:PLAN` sends a plan's replacements and adds,
 //!   `purge:PLAN` purges. PLAN is REPLACE:ADDS:PURGE, lists with a comma between entries: of REPLACE ID.CATEGORY.H, of ADDS
 //!   CATEGORY.H, of PURGE an id. A category above 15 is a secret record's, less 16.
-//! - The line: `script N FATE, N FATE ..` is its script. `talk REQUEST..` greets a server over it and sends these requests, one
-//!   after the other. A request is bytes, or `read*COUNT`: ReadRecord by index of so many records of the open database. It
-//!   prints why the line is down, how many frames there are, how many bytes and packets each end's reader took, and how many
-//!   requests were issued, performed and answered. `frames N..`: the trace of these frames. `replies`: what the handheld replied.
+//! - The line: `script N FATE, N FATE ..` is its script. `talk REQUEST..` greets a server over it and sends these
+//!   requests, one after the other. A request is bytes, `H*COUNT`, these bytes so often, or `read*COUNT`, ReadRecord
+//!   by index of so many records of the open database. It prints why the line is down, how many frames there are, how
+//!   many bytes and packets each end's reader took, and how many requests were issued, performed and answered.
+//!   `frames N..`: the trace of these frames. `replies`: what the handheld replied.
 //! - A port: `port GOOD PIECES REQUEST..` greets a handheld over a port in memory and sends these requests, one after the
 //!   other. PIECES are what comes, a read each, with a comma between them; an empty one is a tick of silence, and behind the
 //!   last one all is silent. The port fails behind GOOD calls, with `-` never. It prints why the link answered no more, how many
@@ -33,10 +35,20 @@
 //!   being 0, TICKS those of the reads between packets before which its clock ticks once more: with commas between them, or as
 //!   FIRST..END, or `-` for none. It prints why the link answered no more, and how many requests were performed and answered;
 //!   `replies` as above. `palmed TOWARD BACK TICKS USERS ADD CALL..` says a session to it so, and prints what `session` does.
+//! - One part of the work again and again: `bench packets TIMES` feeds the longest packet to a packet reader so often,
+//!   and `bench noise TIMES` as many bytes without a packet. `bench agreed RECORDS TIMES` plans a database so often,
+//!   where the handheld, the desktop and the base have the same records, `bench new RECORDS TIMES` where the handheld
+//!   and the desktop have and the base has none. `bench id RECORDS TIMES`, `bench index ..`, `bench write ..` and
+//!   `bench add ..` ask a server so often for a record by its id, by its index, to write one, or to write a new one,
+//!   over a database of records of 100 bytes in a folder in memory. It prints what came of it.
 #![tactic(auto)]
 
 mod answer;
 mod asked;
+mod bench;
+mod bench_packets;
+mod bench_plans;
+mod bench_requests;
 mod cases;
 mod fake;
 mod lines;

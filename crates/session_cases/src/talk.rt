@@ -2,7 +2,7 @@
 ghost use Rattle.std.specs.Prelude.{◌≡◌, true, false, OnOk};
 ghost use Rattle.dlp_commands.specs.Links.{MayExchange};
 
-use case_words::bytes_in;
+use case_words::{bytes_in, short_in};
 use dlp_commands::{Link, LinkFault, Message};
 use std::alloc::{AllocError, Global};
 
@@ -11,7 +11,8 @@ pub fn requests_in(alloc: Global, words: &[&str]) -> Result<Vec<Vec<u8>>, AllocE
     let mut requests = Vec::new(alloc);
     for word in words {
         match word.split_once('*') {
-            Some((_, count)) => add_reads(alloc, &mut requests, count.parse().unwrap_or(0))?,
+            Some(("read", count)) => add_reads(alloc, &mut requests, short_in(count))?,
+            Some((bytes, count)) => add_often(alloc, &mut requests, bytes, short_in(count))?,
             None => requests.push(bytes_in(alloc, word))?,
         }
     }
@@ -24,6 +25,19 @@ fn add_reads(alloc: Global, requests: &mut Vec<Vec<u8>>, count: u16) -> Result<(
         let [high, low] = index.to_be_bytes();
         let request = [0x20, 1, 0x21, 8, 1, 0, high, low, 0, 0, 0xFF, 0xFF];
         requests.push(Vec::from_slice(alloc, &request)?)?;
+    }
+    Ok(())
+}
+
+// Adds a request of these bytes so often.
+fn add_often(
+    alloc: Global,
+    requests: &mut Vec<Vec<u8>>,
+    bytes: &str,
+    count: u16,
+) -> Result<(), AllocError> {
+    for _ in 0..count {
+        requests.push(bytes_in(alloc, bytes))?;
     }
     Ok(())
 }

@@ -1,11 +1,12 @@
 // A server over a database, and what it is asked.
+use crate::asked::head_of;
+use crate::bench_plans::record_of;
 use dlp_commands::Message;
 use handheld_server::Server;
 use handheld_store::Store;
 use hs_folders::MemFolder;
-use palm_device::new_head;
 use pdb_files::write_database;
-use pdb_values::{Category, Content, Database, DbName, FourCc, Record, RecordId};
+use pdb_values::{Database, DbName};
 use std::alloc::{AllocError, Global};
 
 /// OpenDB of the database `B`, for reading and writing.
@@ -96,32 +97,21 @@ fn database_of(alloc: Global, count: u16) -> Result<Database, AllocError> {
     let Ok(name) = DbName::new(b"B") else {
         return Err(AllocError);
     };
-    let head = new_head(name, FourCc(*b"DATA"), FourCc(*b"test"), 0, 1);
-    let mut database = Database::new(alloc, head);
+    let mut database = Database::new(alloc, head_of(name, 0));
     for number in 0..count {
-        push_record(alloc, &mut database, u32::from(number) + 1)?;
+        push_record(alloc, &mut database, number)?;
     }
     Ok(database)
 }
 
-fn push_record(alloc: Global, database: &mut Database, number: u32) -> Result<(), AllocError> {
-    let (Some(id), Some(category)) = (RecordId::new(number), Category::new(0)) else {
-        return Err(AllocError);
-    };
-    let Ok(content) = Content::new(category, false, Vec::from_slice(alloc, &[b'r'; 100])?) else {
+fn push_record(alloc: Global, database: &mut Database, number: u16) -> Result<(), AllocError> {
+    let Some(record) = record_of(number, Vec::from_slice(alloc, &[b'r'; 100])?) else {
         return Err(AllocError);
     };
     if database.head().holds_resources() {
         return Err(AllocError);
     }
-    let item = Record {
-        id,
-        deleted: false,
-        dirty: false,
-        busy: false,
-        content,
-    };
-    match database.push_record(item) {
+    match database.push_record(record) {
         Ok(()) => Ok(()),
         Err(_) => Err(AllocError),
     }
