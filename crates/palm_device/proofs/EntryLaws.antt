@@ -72,15 +72,6 @@ pub map_next : {X : Type 0} (change : X → X) (xs : List X) (k : ℕ)
     → change_at change k (map change (take k xs) ++ drop k xs) ≡ map change (take (k + 1) xs) ++ drop (k + 1) xs
 map_next change xs k = rw add-one (map_next_suc change xs k)
 
--- leaving out an entry that isn't kept keeps the same
-pub filter_out : {X : Type 0} (keep : X → Bool) (xs : List X) (k : ℕ) {x : X} → slice_get xs k ≡ Some x → keep x ≡ false
-    → filter keep (remove xs k) ≡ filter keep xs
-filter_out keep [] k here lost = absurd cc
-filter_out keep (y ∷ ys) zero {x} here lost =
-    let same : y ≡ x = cc in
-    rw (same, lost) refl
-filter_out keep (y ∷ ys) (suc k) here lost = grind (arith, filter_out keep ys k)
-
 -- where each entry is kept, all are
 pub filter_all : {X : Type 0} (keep : X → Bool) (xs : List X) → list_all keep xs ≡ true → filter keep xs ≡ xs
 filter_all keep [] all = refl

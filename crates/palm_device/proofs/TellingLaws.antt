@@ -59,7 +59,7 @@ placed_any {X = X} test xs = is_some-position test xs ∙ found xs
     found (y ∷ ys) = let rest = found ys in
         elim (test y) as (λ b. is_some (cond b (Some y) (find test ys)) ≡ (b || list_any test ys)) [ true ↦ refl | false ↦ rest ]
 
-none_where : {X : Type 0} (o : Option X) → is_some o ≡ false → o ≡ None
+pub none_where : {X : Type 0} (o : Option X) → is_some o ≡ false → o ≡ None
 none_where o e = grind arith
 
 -- ---- an answer

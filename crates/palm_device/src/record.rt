@@ -177,14 +177,7 @@ fn take_others_out(database: &mut Database, kept: &Kept)
     ensures { database.new ≡ with_records
         (filter (is_kept kept.now) database.old.records) database.old }
 {
-    let mut place = 0;
-    while place < database.records().len() {
-        if kept.keeps(&database.records()[place]) {
-            place += 1;
-        } else {
-            take_out(database, place);
-        }
-    }
+    database.retain_records(|item| kept.keeps(item));
 }
 
 /// Takes out all records. Answers whether that makes another database.

@@ -1,6 +1,8 @@
 // A database in memory.
 ghost use Rattle.std.specs.Prelude.{◌≡◌, ◌<◌, ◌≤◌, ◌++◌, ◌∷◌, [], ◌⊎◌, ◌↔◌, All, IfErr, IfNone, IfSome, IsErr, IsSome, OnErr, OnOk, false, length, remove, slice_get, true};
 ghost use Rattle.std.specs.Borrow.{sem};
+ghost use Rattle.std.specs.Fn.{CalledAt};
+ghost use Rattle.std.specs.List.Retain.{IsFiltered};
 ghost use Rattle.std.specs.Option.{option_copied};
 ghost use Rattle.pdb_values.specs.Heads.{holds_resources};
 
@@ -216,6 +218,15 @@ impl Database {
             return None;
         }
         Some(self.records.remove(place))
+    }
+
+    /// Keeps the records at which `keep` answers `true`, in their order, in one pass.
+    pub fn retain_records<F: FnMut(&Record) -> bool>(&mut self, keep: F)
+        requires { F.IsAlwaysCallable keep }
+        ensures kept { IsFiltered (CalledAt F.FnMut) keep self.old.records self.new.records }
+        ensures rest { self.new ≡ record self.old { records = self.new.records } }
+    {
+        self.records.retain(keep);
     }
 
     /// Takes one resource out. The others keep their order.
