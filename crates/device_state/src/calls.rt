@@ -1,7 +1,6 @@
 //! The calls of a handheld in memory.
-ghost use Rattle.std.specs.Prelude.{◌≡◌, ◌↔◌, None, false, true, IfErr, IfOk, IsErrOf};
+ghost use Rattle.std.specs.Prelude.{◌≡◌, None, false, true, IfErr, IfOk};
 ghost use Rattle.palm_device.specs.Soundness.{IsDevice};
-ghost use Rattle.device_stream.specs.Parts.{are_talk_parts};
 ghost use Rattle.device_state.specs.Calls.{Begins, GoesOn, HasFiles};
 ghost use Rattle.device_state.specs.Refusals.{RefusesList, RefusesState, SaysNone};
 ghost use Rattle.device_state.specs.States.{IsState, StandsByHand};
@@ -10,15 +9,11 @@ use crate::fault::StateFault;
 use crate::hearing::{Heard, hear_any};
 use crate::state::{StateFront, open_files, read_front, write_state};
 use arrayvec::ArrayVec;
-use device_stream::{PartsFault, Talk, TalkEnd, TalkParts};
+use device_stream::{Talk, TalkEnd};
 use file_lists::read_files;
 use handheld_server::Server;
 use hs_folders::{Folder, MemFolder};
-use padp_end::End;
 use std::alloc::{AllocError, Global};
-
-// How many transactions the requests of a talk have: they come round.
-const TRANSACTIONS: u8 = 254;
 
 /// What a call makes of a handheld, and what the handheld says.
 #[derive(Drop)]
@@ -105,17 +100,6 @@ pub fn files_in(alloc: Global, state: &[u8]) -> Result<&[u8], StateFault>
 {
     let StateFront { parts, files, .. } = read_front(alloc, state)?;
     let _folder = read_files(alloc, files)?;
-    check_parts(alloc, &parts)?;
+    let _end = parts.make_end(alloc)?;
     Ok(files)
-}
-
-// Answers `Form` exactly where these are the parts of no talk.
-fn check_parts(alloc: Global, parts: &TalkParts) -> Result<(), PartsFault>
-    ensures { IsErrOf result PartsFault.Form ↔ (are_talk_parts parts.now ≡ false) }
-{
-    if parts.number >= TRANSACTIONS {
-        return Err(PartsFault::Form);
-    }
-    let _end = End::of_parts(alloc, &parts.end)?;
-    Ok(())
 }

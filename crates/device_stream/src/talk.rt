@@ -236,10 +236,7 @@ impl<F: Folder + Drop> Talk<F> {
         }) }
         ensures form { IsErrOf result PartsFault.Form ↔ (are_talk_parts parts ≡ false) }
     {
-        if parts.number >= TRANSACTIONS {
-            return Err(PartsFault::Form);
-        }
-        let end = End::of_parts(alloc, &parts.end)?;
+        let end = parts.make_end(alloc)?;
         Ok(Talk {
             alloc,
             server: Server::with_handles(store, parts.handles),

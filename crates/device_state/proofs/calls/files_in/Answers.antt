@@ -13,12 +13,12 @@ returns-in_err-_folder-clause-refused c =
     rw (p.1, p.2) (SaysNone-of_list c.args.state.now front.parts front.held.now front.files.now (omega arith) c.in_ok-parts.ensures.eight c.in_ok-parts.ensures.is
     c.in_err-_folder.field-0.0 (λ same. c.in_err-_folder.ensures.form (ap Err same)))
 
-pub returns-in_err-check_parts-clause-refused : goal.returns-in_err-check_parts-clause-refused
-returns-in_err-check_parts-clause-refused c =
-    let p = err_from_is_err_and c.from_residual-in_err-check_parts.result c.from_residual-in_err-check_parts.ensures.1 in
+pub returns-in_err-_end-clause-refused : goal.returns-in_err-_end-clause-refused
+returns-in_err-_end-clause-refused c =
+    let p = err_from_is_err_and c.from_residual-in_err-_end.result c.from_residual-in_err-_end.ensures.1 in
     let front = c.in_ok-parts.field-0 in
     rw (p.1, p.2) (SaysNone-of_parts c.args.state.now front.parts front.held.now front.files.now (omega arith) c.in_ok-parts.ensures.eight
-    c.in_ok-parts.ensures.is c.in_err-check_parts.field-0.0 (λ same. c.in_err-check_parts.ensures.0 (ap Err same)))
+    c.in_ok-parts.ensures.is c.in_err-_end.field-0.0 (λ same. c.in_err-_end.ensures.form.0 (ap Err same)))
 
 pub returns-clause-files : goal.returns-clause-files
 returns-clause-files c =
@@ -30,7 +30,7 @@ returns-clause-files c =
       held = front.held.now;
       files = list.files;
       says = record {
-        are_parts = true_from_ne_false (are_talk_parts front.parts) (λ none. ok_is_no_fault _ _ (c.in_ok-check_parts.ensures.1 none));
+        are_parts = true_from_ne_false (are_talk_parts front.parts) (λ none. ok_is_no_fault _ _ (c.in_ok-_end.ensures.form.1 none));
         eight = c.in_ok-parts.ensures.eight;
         named = c.in_ok-parts.ensures.named;
         are_files = list.form;
