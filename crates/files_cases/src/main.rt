@@ -55,13 +55,13 @@
 
 mod calls;
 mod categories;
+mod conduit;
 mod contents;
 mod database;
 mod desk_change;
 mod desk_files;
 mod desk_text;
 mod desktop;
-mod desktop_cases;
 mod export;
 mod file;
 mod journal;
@@ -146,7 +146,7 @@ impl<'r> Cases<'r> {
             "export" => self.exports.obey(call),
             "categories" => categories::obey(self.alloc, call),
             "made" => made::obey(self.alloc, call),
-            "cell" | "plan" => desktop_cases::obey(self.alloc, line, words),
+            "cell" | "plan" => conduit::obey(self.alloc, line, words),
             _ => self.desktop.obey(line, words),
         }
     }

@@ -3,7 +3,7 @@
 //! and those that speak of whole sessions, stand on its definitions and its laws.
 //!
 //! The plan whose writes these are is made by `conduit_rules`, of a view of the handheld's records, the
-//! desktop's rows and its base rows (`desktop_cases` has this line):
+//! desktop's rows and its base rows (`files_cases` has this line):
 //!
 //! ```text
 //! let plan = plan(alloc, &view, &rows, &base, counts, action_in(front))?;
