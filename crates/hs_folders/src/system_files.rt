@@ -3,7 +3,7 @@ ghost use Rattle.std.specs.Prelude.{◌≢◌, ◌≤◌, All, IfOk, IsSorted, O
 ghost use Rattle.std.specs.String.{string_cmp};
 
 use std::alloc::Global;
-use std::fs::{File, OpenFile, TryLockError};
+use std::fs::{DirEntry, File, OpenFile, TryLockError};
 use std::io::ErrorKind;
 use std::path::Path;
 use std::rt::Files;
@@ -53,14 +53,28 @@ pub(crate) fn list_names<R: Files>(rt: &R, alloc: Global, folder: &str) -> io::R
 {
     let mut names = Vec::new(alloc);
     for entry in fs::read_dir(&(rt, alloc), folder)? {
-        match entry {
-            Ok(entry) => add_name(alloc, &mut names, entry.file_name())?,
-            Err(error) if error.kind() == ErrorKind::InvalidFilename => {}
-            Err(error) => return Err(error),
-        }
+        add_entry(alloc, &mut names, entry)?;
     }
     names.sort()?;
     Ok(names)
+}
+
+// Adds the name of an entry, unless it is that of the temporary file or no text.
+fn add_entry<R: Files>(
+    alloc: Global,
+    names: &mut Vec<String>,
+    entry: io::Result<DirEntry<(&R, Global)>>,
+) -> io::Result<()>
+    requires no_temporary { All (λ name. string_bytes name ≢ codes "hotsync.tmp") names.old.items }
+    requires few { vec_len names.old ≤ 4_294_967_295 }
+    ensures no_temporary { All (λ name. string_bytes name ≢ codes "hotsync.tmp") names.new.items }
+    ensures few { OnOk result (vec_len names.new ≤ 4_294_967_295) }
+{
+    match entry {
+        Ok(entry) => add_name(alloc, names, entry.file_name()),
+        Err(error) if error.kind() == ErrorKind::InvalidFilename => Ok(()),
+        Err(error) => Err(error),
+    }
 }
 
 // Adds a name, unless it is that of the temporary file.
