@@ -14,9 +14,9 @@ use crate::backup_talk::backup_talk;
 use crate::report::SessionEnd;
 use crate::script::script_of;
 use crate::sides::{open_files, open_handheld};
-use crate::tracing::{open_trace, write_frames};
+use crate::tracing::open_trace;
 use handheld_store::Store;
-use hotsync_looks::{Status, print_status};
+use hotsync_looks::Status;
 use hs_folders::{Folder, Sink, Source};
 use line_script::Script;
 use run_clap::BetweenWords;
@@ -44,19 +44,7 @@ pub fn backup_folder<H: Folder, D: Folder, S: Source, T: Sink, O: Sink>(
     ensures trace { words.now.trace ≡ None → trace.new ≡ trace.old }
 {
     let answer = judged_backup(alloc, words, device, desk, source, trace);
-    let Answer {
-        status,
-        report,
-        device,
-        desk,
-    } = answer;
-    let status = print_status(alloc, status, &report.databases, out);
-    Answer {
-        status,
-        report,
-        device,
-        desk,
-    }
+    answer.printed(alloc, out)
 }
 
 // Judges the script, the handheld's folder and that for the files, in this order, opens the trace, and backs up.
@@ -120,17 +108,5 @@ fn traced_backup<H: Folder, D: Folder, T: Sink>(
     ensures trace { words.now.trace ≡ None → trace.new ≡ trace.old }
 {
     let answer = backup_talk(alloc, store, files, script);
-    let Answer {
-        status,
-        report,
-        device,
-        desk,
-    } = answer;
-    let status = write_frames(alloc, words.trace, status, &report.frames, trace);
-    Answer {
-        status,
-        report,
-        device,
-        desk,
-    }
+    answer.traced(alloc, words.trace, trace)
 }

@@ -17,7 +17,7 @@ use crate::script::script_of;
 use crate::sides::{open_desktop, open_handheld};
 use crate::tracing::open_trace;
 use folder_copies::{CopiedFolder, copy_folder};
-use hotsync_looks::{Status, print_status};
+use hotsync_looks::Status;
 use hs_folders::{Folder, FolderOpenFault, Sink, Source};
 use run_clap::RunWords;
 use std::alloc::Global;
@@ -45,19 +45,7 @@ pub fn dry_run_folders<H: Folder, D: Folder, S: Source, T: Sink, O: Sink>(
     ensures trace { words.now.trace ≡ None → trace.new ≡ trace.old }
 {
     let answer = judged_dry_run(alloc, words, device, desk, source, trace);
-    let Answer {
-        status,
-        report,
-        device,
-        desk,
-    } = answer;
-    let status = print_status(alloc, status, &report.databases, out);
-    Answer {
-        status,
-        report,
-        device,
-        desk,
-    }
+    answer.printed(alloc, out)
 }
 
 // Judges the script, and copies and judges the handheld's folder and the desktop's, in this order; opens the trace, and runs

@@ -13,9 +13,9 @@ ghost use Rattle.hotsync_run.specs.Traces.{TracesReport};
 use crate::answer::Answer;
 use crate::install_talk::install_talk;
 use crate::sides::open_handheld;
-use crate::tracing::{open_trace, write_frames};
+use crate::tracing::open_trace;
 use handheld_store::Store;
-use hotsync_looks::{Status, print_status, read_install_file};
+use hotsync_looks::{Status, read_install_file};
 use hs_folders::{Folder, Sink, Source};
 use pdb_values::Database;
 use run_clap::BetweenWords;
@@ -40,19 +40,7 @@ pub fn install_file<H: Folder, D: Folder, S: Source, T: Sink, O: Sink>(
     ensures trace { words.now.trace ≡ None → trace.new ≡ trace.old }
 {
     let answer = judged_install(alloc, words, device, desk, source, trace);
-    let Answer {
-        status,
-        report,
-        device,
-        desk,
-    } = answer;
-    let status = print_status(alloc, status, &report.databases, out);
-    Answer {
-        status,
-        report,
-        device,
-        desk,
-    }
+    answer.printed(alloc, out)
 }
 
 // Judges the file and the handheld's folder, in this order, opens the trace, and installs.
@@ -110,17 +98,5 @@ fn traced_install<H: Folder, D: Folder, T: Sink>(
     ensures trace { words.now.trace ≡ None → trace.new ≡ trace.old }
 {
     let answer = install_talk(alloc, store, desk, database);
-    let Answer {
-        status,
-        report,
-        device,
-        desk,
-    } = answer;
-    let status = write_frames(alloc, words.trace, status, &report.frames, trace);
-    Answer {
-        status,
-        report,
-        device,
-        desk,
-    }
+    answer.traced(alloc, words.trace, trace)
 }

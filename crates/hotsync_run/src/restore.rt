@@ -17,9 +17,9 @@ use crate::report::SessionEnd;
 use crate::restore_talk::restore_talk;
 use crate::script::script_of;
 use crate::sides::open_handheld;
-use crate::tracing::{open_trace, write_frames};
+use crate::tracing::open_trace;
 use handheld_store::Store;
-use hotsync_looks::{Status, print_status};
+use hotsync_looks::Status;
 use hs_folders::{Folder, Sink, Source};
 use line_script::Script;
 use run_clap::BetweenWords;
@@ -47,19 +47,7 @@ pub fn restore_folder<H: Folder, D: Folder, S: Source, T: Sink, O: Sink>(
     ensures trace { words.now.trace ≡ None → trace.new ≡ trace.old }
 {
     let answer = judged_restore(alloc, words, device, desk, source, trace);
-    let Answer {
-        status,
-        report,
-        device,
-        desk,
-    } = answer;
-    let status = print_status(alloc, status, &report.databases, out);
-    Answer {
-        status,
-        report,
-        device,
-        desk,
-    }
+    answer.printed(alloc, out)
 }
 
 // Judges the script, the handheld's folder and that of the backups, in this order, opens the trace, and restores.
@@ -127,17 +115,5 @@ fn traced_restore<H: Folder, D: Folder, T: Sink>(
     ensures trace { words.now.trace ≡ None → trace.new ≡ trace.old }
 {
     let answer = restore_talk(alloc, store, backups, script);
-    let Answer {
-        status,
-        report,
-        device,
-        desk,
-    } = answer;
-    let status = write_frames(alloc, words.trace, status, &report.frames, trace);
-    Answer {
-        status,
-        report,
-        device,
-        desk,
-    }
+    answer.traced(alloc, words.trace, trace)
 }

@@ -17,10 +17,10 @@ use crate::report::SessionEnd;
 use crate::script::script_of;
 use crate::sides::{open_desktop, open_handheld};
 use crate::talk::talk;
-use crate::tracing::{open_trace, write_frames};
+use crate::tracing::open_trace;
 use desk_store::Desk;
 use handheld_store::Store;
-use hotsync_looks::{Status, print_status};
+use hotsync_looks::Status;
 use hs_folders::{Folder, Sink, Source};
 use line_script::Script;
 use run_clap::RunWords;
@@ -48,19 +48,7 @@ pub fn run_folders<H: Folder, D: Folder, S: Source, T: Sink, O: Sink>(
     ensures trace { words.now.trace ≡ None → trace.new ≡ trace.old }
 {
     let answer = judged_run(alloc, words, device, desk, source, trace);
-    let Answer {
-        status,
-        report,
-        device,
-        desk,
-    } = answer;
-    let status = print_status(alloc, status, &report.databases, out);
-    Answer {
-        status,
-        report,
-        device,
-        desk,
-    }
+    answer.printed(alloc, out)
 }
 
 // Judges the script, the handheld's folder and the desktop's, in this order, opens the trace, and runs the session.
@@ -129,17 +117,5 @@ pub(crate) fn traced_talk<H: Folder, D: Folder, T: Sink>(
     ensures trace { words.now.trace ≡ None → trace.new ≡ trace.old }
 {
     let answer = talk(alloc, words, store, desk, script);
-    let Answer {
-        status,
-        report,
-        device,
-        desk,
-    } = answer;
-    let status = write_frames(alloc, words.trace, status, &report.frames, trace);
-    Answer {
-        status,
-        report,
-        device,
-        desk,
-    }
+    answer.traced(alloc, words.trace, trace)
 }

@@ -1,7 +1,6 @@
-use Rattle.std.proofs.Common.{ap}
 use Rattle.handheld_files.specs.Openings.{opened_device}
 use Rattle.hotsync_run.specs.Told.{sides_told}
-use Rattle.hotsync_run.proofs.RetoldLaws.{talk_traced, unprinted_traced}
+use Rattle.hotsync_run.proofs.RetoldLaws.{talk_traced}
 use Rattle.hotsync_run.proofs.BackupSpoke.{backup_retold}
 use Rattle.hotsync_run.proofs.backup.traced_backup.Goals as goal
 
@@ -9,21 +8,7 @@ pub returns-clause-talk : goal.returns-clause-talk
 returns-clause-talk g c =
     let before = sides_told g.H.Folder g.D.Folder c.args.store.folder c.args.files in
     let after = sides_told g.H.Folder g.D.Folder c.backup_talk-answer.result.device c.backup_talk-answer.result.desk in
-    talk_traced c.write_frames-status.result
+    let end = c.traced.ensures in
+    rw (end.report, end.device, end.desk) (talk_traced c.traced.result.status
     (backup_retold c.args.script (opened_device c.args.store.databases c.args.store.user) before after)
-    c.backup_talk-answer.ensures.talk c.write_frames-status.ensures.traces.stands.status_is
-
-pub returns-clause-unprinted : goal.returns-clause-unprinted
-returns-clause-unprinted g c =
-    unprinted_traced c.backup_talk-answer.result.status c.write_frames-status.result c.backup_talk-answer.ensures.unsaid
-    c.write_frames-status.ensures.traces.stands.status_is
-
-pub returns-clause-traced : goal.returns-clause-traced
-returns-clause-traced g c =
-    let traces = c.write_frames-status.ensures.traces in
-    record {
-      traced = traces.traced_is;
-      silent = λ none. ap (λ sink. g.T.Sink.taken sink) (c.write_frames-status.ensures.silent none);
-      failed = traces.stands.failed;
-      paths = traces.stands.paths;
-    }
+    c.backup_talk-answer.ensures.talk end.status)

@@ -1,9 +1,6 @@
-use Rattle.std.proofs.Common.{◌≡◌, ◌∙◌, ap}
 use Rattle.run_words.specs.Views.{between_view}
-use Rattle.hotsync_looks.specs.Lines.{done_lines}
 use Rattle.hotsync_looks.specs.Told.{sink_told, source_told}
 use Rattle.hotsync_run.specs.Told.{CallTold, folder_told}
-use Rattle.hotsync_looks.proofs.PrintedLaws.{printed_weaken}
 use Rattle.hotsync_run.proofs.RestoreRuns.{restore_printed}
 use Rattle.hotsync_run.proofs.RestoreWell.{restore_ends_well}
 use Rattle.hotsync_run.proofs.restore.restore_folder.Goals as goal
@@ -25,12 +22,12 @@ returns-clause-restore g c =
       trace = sink_told g.T.Sink c.judged_restore-answer.new.trace;
     } in
     let out = sink_told g.O.Sink c.args.out.now in
-    let out_after = sink_told g.O.Sink c.print_status-status.new.out in
-    let printed = c.print_status-status.ensures.printed in
-    let status = c.print_status-status.result in
-    let ran = restore_printed c.judged_restore-answer.ensures.ran status c.print_status-status.ensures.status in
-    record {
+    let out_after = sink_told g.O.Sink c.printed.new.out in
+    let end = c.printed.ensures in
+    let status = c.printed.result.status in
+    let ran = restore_printed c.judged_restore-answer.ensures.ran status end.status in
+    rw (end.report, end.device, end.desk) (record {
       ran = ran;
-      complete = restore_ends_well words before after out out_after status answer.report ran printed;
-      printed = printed_weaken (λ text. text ≡ done_lines answer.report.databases.items) (λ text is. is ∙ ap done_lines c.deref.ensures.value) printed;
-    }
+      complete = restore_ends_well words before after out out_after status answer.report ran end.printed;
+      printed = end.printed;
+    })
