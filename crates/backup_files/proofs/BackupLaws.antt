@@ -1,59 +1,26 @@
 -- What the files of a folder of backups hold, one file after the other.
-use Rattle.std.proofs.Common.{◌≡◌, ℕ, ◌||◌, Bool, true, false, cond, List, [], ◌∷◌, ◌++◌, refl, ap, sym, ◌∙◌, subst}
+use Rattle.std.proofs.Common.{◌≡◌, ℕ, Bool, true, false, cond, List, [], ◌∷◌, ◌++◌, refl, ap, sym, ◌∙◌, subst}
 use Rattle.std.specs.Prelude.{Option, Some, None, bytes_eq, find, string_bytes}
-use Rattle.std.specs.Option.{option_or}
 use Rattle.std.specs.FinMap as finmap
 use Rattle.std.specs.List.{AllByRecursion, list_any}
 use Rattle.std.specs.declared.alloc.Global.{Global}
-use Rattle.std.proofs.lemmas.List.Folds.{find-append, list_any-append}
+use Rattle.std.proofs.lemmas.List.Folds.{find-append}
 use Rattle.hs_folders.specs.FileMaps.{FileMap}
 use Rattle.pdb_values.specs.Databases.{DatabaseValue}
 use Rattle.pdb_values.specs.NamedDatabases.{NamesRise, database_of, with_new}
 use Rattle.pdb_values.proofs.NamedLaws.{NamesRise-with_new, bytes_eq-is, bytes_eq-own, database_of-with_new}
 use Rattle.pdb_files.specs.Files.{IsFileText}
-use Rattle.pdb_files.proofs.FileLaws.{one_database}
+use Rattle.pdb_files.proofs.FileLaws.{one_database, or_none}
 use Rattle.handheld_files.specs.Handhelds.{Files}
 use Rattle.handheld_files.specs.Openings.{among}
-use Rattle.handheld_files.proofs.StandLaws.{among-keys, differs}
+use Rattle.handheld_files.proofs.StandLaws.{among-keys, differs, true_no_false, among-next, among-more, among-other, among-this, none_stays, held_still}
 use Rattle.backup_files.specs.BackupFolders.{AreBackups, HasBackup, HoldsDatabase, IsOneOf}
 use Rattle.backup_files.specs.BackupNames.{is_backup}
 use Rattle.backup_files.specs.FoundFiles.{Adds, is_origin}
 use Rattle.backup_files.specs.declared.found.Origin.{Origin}
+use Rattle.pdb_files.proofs.WriteLaws.{all_behind}
 
 -- ---- one more name
-
-more_of : (a b : Bool) (found : Option (List ℕ)) → cond (a || (b || false)) found None ≡ cond b found (cond a found None)
-more_of true true found = refl
-more_of true false found = refl
-more_of false true found = refl
-more_of false false found = refl
-
-among-next : (before : List (List ℕ)) (name : List ℕ) (held : FileMap) (q : List ℕ)
-    → among (before ++ name ∷ []) held q ≡ cond (bytes_eq q name) (finmap.get held q) (among before held q)
-among-next before name held q = ap (λ b. cond b (finmap.get held q) None) (list_any-append (bytes_eq q) before (name ∷ []))
-    ∙ more_of (list_any (bytes_eq q) before) (bytes_eq q name) (finmap.get held q)
-
-stays_found : (a b : Bool) (found : Option (List ℕ)) (bytes : List ℕ) → cond a found None ≡ Some bytes → cond b found (cond a found None) ≡ Some bytes
-stays_found true true found bytes h = h
-stays_found true false found bytes h = h
-stays_found false b found bytes h = absurd cc
-
-among-more : (before : List (List ℕ)) (name : List ℕ) (held : FileMap) (q bytes : List ℕ) → among before held q ≡ Some bytes
-    → among (before ++ name ∷ []) held q ≡ Some bytes
-among-more before name held q bytes found = among-next before name held q
-    ∙ stays_found (list_any (bytes_eq q) before) (bytes_eq q name) (finmap.get held q) bytes found
-
-among-other : (before : List (List ℕ)) (name : List ℕ) (held : FileMap) (q : List ℕ) → bytes_eq q name ≡ false
-    → among (before ++ name ∷ []) held q ≡ among before held q
-among-other before name held q other = among-next before name held q ∙ rw other refl
-
-among-this : (before : List (List ℕ)) (name : List ℕ) (held : FileMap) → among (before ++ name ∷ []) held name ≡ finmap.get held name
-among-this before name held = among-next before name held name ∙ rw (bytes_eq-own name) refl
-
-none_stays : (a b : Bool) (found : Option (List ℕ)) → (b ≡ true → found ≡ None) → cond a found None ≡ cond b found (cond a found None)
-none_stays true true found none = refl
-none_stays false true found none = sym (none refl)
-none_stays a false found none = refl
 
 -- ---- what was found
 
@@ -77,9 +44,6 @@ backups_missing held before name databases none are =
     backups_same (among before held) (among (before ++ name ∷ []) held) databases
     (λ q. none_stays (list_any (bytes_eq q) before) (bytes_eq q name) (finmap.get held q) (λ e. ap (finmap.get held) (bytes_eq-is q name e) ∙ none)
     ∙ sym (among-next before name held q)) are
-
-true_no_false : true ≡ false → ⊥
-true_no_false h = absurd cc
 
 -- a file keeps its database where names are added
 pub holds_more : (before : List (List ℕ)) (name : List ℕ) (held : FileMap) (file : List ℕ) (database : DatabaseValue)
@@ -116,16 +80,6 @@ backups_unread held before name databases unread are =
     }
 
 -- ---- one more database
-
-found_still : (name : List ℕ) (new old : DatabaseValue) (databases : List DatabaseValue) → database_of new.head.name databases ≡ None
-    → database_of name databases ≡ Some old → database_of name (with_new new databases) ≡ Some old
-found_still name new old databases none found =
-    database_of-with_new name new databases none
-    ∙ elim (bytes_eq new.head.name name) as (λ b. bytes_eq new.head.name name ≡ b → cond b (Some new) (database_of name databases) ≡ Some old) [
-      | true ↦ λ e. absurd (let no : ◌≡◌ {A = Option DatabaseValue} None (Some old) = sym none
-          ∙ ap (λ n. database_of n databases) (bytes_eq-is new.head.name name e) ∙ found in cc)
-      | false ↦ λ e. found
-    ] refl
 
 module _ (held : FileMap) (before : List (List ℕ)) (name bytes : List ℕ) (old : List DatabaseValue) (stored : DatabaseValue)
     (there : finmap.get held name ≡ Some bytes) (is : is_backup name ≡ true) (text : IsFileText stored bytes)
@@ -173,7 +127,7 @@ module _ (held : FileMap) (before : List (List ℕ)) (name bytes : List ℕ) (ol
       subst (IsOneOf (with_new stored old)) (sym same) (record { database = stored; text = text; found = own })
   new_file q found false e q_is there' =
       let was = are.each_file q found q_is (sym (among-other before name held q e) ∙ there') in
-      record { database = was.database; text = was.text; found = found_still was.database.head.name stored was.database old none was.found }
+      record { database = was.database; text = was.text; found = held_still was.database.head.name stored was.database old none was.found }
 
   new_database : (q : List ℕ) (database : DatabaseValue) (b : Bool) → bytes_eq stored.head.name q ≡ b
       → cond b (Some stored) (database_of q old) ≡ Some database → HasBackup now database
@@ -210,10 +164,6 @@ pub origins_past : (held : FileMap) (before : List (List ℕ)) (name : List ℕ)
     → AllByRecursion (IsOriginIn (among before held)) origins → AllByRecursion (IsOriginIn (among (before ++ name ∷ []) held)) origins
 origins_past held before name origins each = each_more before name held origins each
 
-each_and : {X : Type 0} (P : X → Type 0) (xs : List X) (x : X) → AllByRecursion P xs → P x → AllByRecursion P (xs ++ x ∷ [])
-each_and P [] x each is = (is, tt)
-each_and P (y ∷ xs) x each is = (each.0, each_and P xs x each.1 is)
-
 pub origins_added : (held : FileMap) (before : List (List ℕ)) (name bytes : List ℕ) (old new : List DatabaseValue) (origins origins' : List Origin)
     → finmap.get held name ≡ Some bytes → is_backup name ≡ true → Adds old origins name bytes new origins'
     → AllByRecursion (IsOriginIn (among before held)) origins → AllByRecursion (IsOriginIn (among (before ++ name ∷ []) held)) origins'
@@ -223,7 +173,7 @@ origins_added held before name bytes old new origins origins' there is adds each
     let holds : HoldsDatabase (among (before ++ name ∷ []) held) name stored = record { is_named = is; bytes = bytes; there = here; text = adds.text } in
     let origin_holds = subst (λ n. HoldsDatabase (among (before ++ name ∷ []) held) n stored) (sym adds.file) holds in
     subst (AllByRecursion (IsOriginIn (among (before ++ name ∷ []) held))) (sym adds.noted)
-    (each_and (IsOriginIn (among (before ++ name ∷ []) held)) origins adds.origin (each_more before name held origins each)
+    (all_behind (IsOriginIn (among (before ++ name ∷ []) held)) origins adds.origin (each_more before name held origins each)
     (stored, origin_holds, sym adds.database))
 
 -- ---- whatever the folder tells
@@ -236,10 +186,6 @@ pub record AreNoted (databases : List DatabaseValue) (origins : List Origin) : T
 pub noted_none : AreNoted [] []
 noted_none = record { order = tt; all = λ name none. refl }
 
-first_none : {X : Type 0} (a b : Option X) → option_or a b ≡ None → (a ≡ None) × (b ≡ None)
-first_none None b is = (refl, is)
-first_none (Some x) b is = absurd cc
-
 last_none : (b : Bool) (origin : Origin) → cond b (Some origin) None ≡ None → b ≡ false
 last_none true origin is = absurd cc
 last_none false origin is = refl
@@ -251,7 +197,7 @@ noted_added old new origins origins' name bytes adds are =
     let none = are.all stored.head.name adds.is_new in
     subst (AreNoted new) (sym adds.noted) (subst (λ ds. AreNoted ds (origins ++ adds.origin ∷ [])) (sym adds.made) (record {
       order = NamesRise-with_new stored old none are.order;
-      all = λ q missing. (let parts = first_none (find (is_origin q) origins) (find (is_origin q) (adds.origin ∷ []))
+      all = λ q missing. (let parts = or_none (find (is_origin q) origins) (find (is_origin q) (adds.origin ∷ []))
           (sym (find-append (is_origin q) origins (adds.origin ∷ [])) ∙ missing) in
           let other = last_none (is_origin q adds.origin) adds.origin parts.1 in
           database_of-with_new q stored old none ∙ rw (sym (ap (λ n. bytes_eq n q) adds.database) ∙ other) (are.all q parts.0));

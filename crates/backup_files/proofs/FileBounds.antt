@@ -1,17 +1,13 @@
 -- The database of a file keeps the bounds of its types.
-use Rattle.std.proofs.Common.{ℕ, arith, rules, List, [], ◌∷◌, ◌++◌}
+use Rattle.std.proofs.Common.{ℕ, arith, rules, List, [], ◌∷◌}
 use Rattle.std.specs.List.{AllByRecursion}
 use Rattle.pdb_values.specs.Databases.{DatabaseValue, IsDatabase}
 use Rattle.pdb_values.specs.declared.record.Record.{Record}
-use Rattle.pdb_values.specs.declared.resource.Resource.{Resource}
 use Rattle.pdb_files.specs.Blocks.{AreShort}
-use Rattle.pdb_files.specs.Entries.{record_data, resource_data}
-use Rattle.pdb_files.specs.Files.{FitsRecord, FitsResource, IsFileText}
+use Rattle.pdb_files.specs.Entries.{record_data}
+use Rattle.pdb_files.specs.Files.{FitsRecord, IsFileText}
 use Rattle.palm_device.specs.Bounds.{IsBoundedDatabase, IsBoundedRecord, IsBoundedResource}
-
-all-back : {A : Type 0} (P : A → Type 0) (xs ys : List A) → AllByRecursion P (xs ++ ys) → AllByRecursion P ys
-all-back P [] ys all = all
-all-back P (x ∷ xs) ys all = all-back P xs ys all.1
+use Rattle.handheld_files.proofs.BoundLaws.{all-back, resources_bounded}
 
 records_bounded : (items : List Record) → AllByRecursion FitsRecord items → AreShort (record_data items) → AllByRecursion IsBoundedRecord items
 records_bounded [] fits short = tt
@@ -23,11 +19,6 @@ records_bounded (item ∷ items) fits short = (
   },
   records_bounded items fits.1 short.1,
 )
-
-resources_bounded : (items : List Resource) → AllByRecursion FitsResource items → AreShort (resource_data items) → AllByRecursion IsBoundedResource items
-resources_bounded [] fits short = tt
-resources_bounded (item ∷ items) fits short =
-    (record { kind = fits.0.kind; id = fits.0.id; short = short.0 }, resources_bounded items fits.1 short.1)
 
 -- the entries, of whichever sort they are
 record HasEntries (database : DatabaseValue) : Type 0 where

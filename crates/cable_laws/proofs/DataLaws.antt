@@ -26,7 +26,7 @@ use Rattle.cable_laws.proofs.SayLaws.{ack-arrives, none-waiting, number_within}
 use Rattle.cable_laws.proofs.StepLaws.{counted, counted-from, counted-to, counted_side, more-from}
 use Rattle.cable_laws.proofs.TakeLaws.{oldest}
 
-nothing : {X : Type 0} {a : X} → None ≡ Some a → ⊥
+pub nothing : {X : Type 0} {a : X} → None ≡ Some a → ⊥
 nothing e = cc
 
 -- ---- the sender whose message was answered

@@ -1,6 +1,6 @@
 pub mod QueueLaws
 mod SayLaws
 mod StepLaws
-mod TakeLaws
+pub mod TakeLaws
 mod DataLaws
 pub mod MomentLaws

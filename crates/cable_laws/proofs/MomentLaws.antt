@@ -17,14 +17,11 @@ use Rattle.padp_link.specs.declared.piece.Piece.{Piece}
 use Rattle.cable_laws.specs.Cables.{AcksPiece, BearsFor, Cable, Count, HasParts, IsAhead, IsOver, IsPiece, Rise, Side, Parcel, Way}
 use Rattle.cable_laws.specs.Cables.{key_now, number_now, packet_of, part_count, piece_now, parcels}
 use Rattle.cable_laws.specs.Moments.{BeginsOne, SaysAgain, TakesOne}
-use Rattle.cable_laws.proofs.DataLaws.{key_newest, takes_piece}
+use Rattle.cable_laws.proofs.DataLaws.{key_newest, takes_piece, nothing}
 use Rattle.cable_laws.proofs.QueueLaws.{bear-on}
 use Rattle.cable_laws.proofs.SayLaws.{count_some, flags_within, newest_text, now-waiting, waiting-now}
 use Rattle.cable_laws.proofs.StepLaws.{Begun, MayBegin, begins_piece, begun_more, counted, counted-from, counted-to, counted_side, lost-to, more-from, newest-arrives, newest_said}
 use Rattle.cable_laws.proofs.TakeLaws.{acked, oldest, takes_last, takes_next, takes_repeat, takes_silent}
-
-nothing : {X : Type 0} {a : X} → None ≡ Some a → ⊥
-nothing e = cc
 
 pub turned : (x y : Side) (there back : List Parcel) → Cable x y there back → Cable y x back there
 turned x y there back cable = record {

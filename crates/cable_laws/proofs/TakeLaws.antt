@@ -29,7 +29,7 @@ use Rattle.cable_laws.proofs.StepLaws.{Begun, MayBegin, begins_piece, begun_more
 nothing : {X : Type 0} {a : X} → None ≡ Some a → ⊥
 nothing e = cc
 
-some_of : {X : Type 0} {a b : X} → Some a ≡ Some b → a ≡ b
+pub some_of : {X : Type 0} {a b : X} → Some a ≡ Some b → a ≡ b
 some_of e = cc
 
 quiet : heard.Nothing ≡ heard.Message → ⊥

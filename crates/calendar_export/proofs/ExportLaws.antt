@@ -10,10 +10,11 @@ use Rattle.content_lines.specs.Lines.{lines_text}
 use Rattle.calendar_export.specs.Components.{SourceValue, closing_lines, opening_lines}
 use Rattle.calendar_export.specs.Items.{IsItem, calendar_text, item_lines}
 use Rattle.calendar_export.specs.declared.kind.Kind.{Kind}
-use Rattle.calendar_export.proofs.LineLaws.{lines-3, lines_text-append}
+use Rattle.calendar_export.proofs.LineLaws.{lines-3}
 use Rattle.export_choice.specs.declared.choice.Privacy.{Privacy}
 use Rattle.export_choice.specs.Choices.{BadItem, first_bad, is_exported, or_later}
 use Rattle.calendar_export.specs.Exports.{IsSaid, exported, item_of, items_text, source_of}
+use Rattle.content_lines.proofs.TextLaws.{lines_text-append}
 
 -- ---- the first bad record
 

@@ -1,11 +1,9 @@
 -- Lines that grow, in characters.
 use Rattle.std.proofs.lemmas.Bool.{and_parts}
 use Rattle.std.proofs.lemmas.Bool.Decides.{nat_tests}
-use Rattle.std.proofs.lemmas.Str.{encode_ascii, encodes-append, chars-IsAscii, chars-append, chars-encodes}
+use Rattle.std.proofs.lemmas.Str.{encode_ascii, chars-IsAscii, chars-append, chars-encodes}
 use Rattle.std.proofs.Common.{arith, ◌≡◌, ◌<◌, ◌++◌, ◌∷◌, [], ◌∙◌, ◌+◌, ◌&&◌, ap, refl, sym, ℕ, zero, suc, true, List, append_assoc, append-nil, add-one, drop, drop-cons, get_or, length}
 use Rattle.std.specs.Prelude.{chars, encode_utf8, encode_utf8_all, IsUtf8, nat_lt}
-use Rattle.std.proofs.lemmas.List.Concat.{flat_map-append}
-use Rattle.std.specs.List.{flat_map}
 use Rattle.std.specs.Str.{IsAscii, all_scalars}
 use Rattle.pdb_values.specs.Stems.{stem_byte, stem_of}
 use Rattle.palm_text.specs.Characters.{char_of, characters}
@@ -15,6 +13,7 @@ use Rattle.calendar_export.specs.ContentLines.{is_plain}
 use Rattle.hex.specs.Hex.{encode_lower, encode_with}
 use Rattle.calendar_export.specs.Moments.{digit}
 use Rattle.calendar_export.specs.Components.{IsBytes}
+use Rattle.content_lines.proofs.TextLaws.{lines_text-more}
 
 pub plain-ascii : (text : List ℕ) → is_plain text ≡ true → IsAscii text
 plain-ascii [] e i = omega arith
@@ -64,10 +63,6 @@ pub line-grown : (old new bytes line : List ℕ) → new ≡ old ++ encode_utf8_
 line-grown old new bytes line grown is =
     grown ∙ ap (λ l. old ++ encode_utf8_all l) (ap (folded 0) is ∙ sym (append-nil (folded 0 line)))
 
--- lines behind others
-pub lines_text-append : (a b : List (List ℕ)) → lines_text (a ++ b) ≡ lines_text a ++ lines_text b
-lines_text-append a b = ap encode_utf8_all (flat_map-append (folded 0) a b) ∙ encodes-append (flat_map (folded 0) a) (flat_map (folded 0) b)
-
 pub grown-2 : (old one new a b : List ℕ) → one ≡ old ++ a → new ≡ one ++ b → new ≡ old ++ (a ++ b)
 grown-2 old one new a b e f = f ∙ (ap (λ l. l ++ b) e ∙ append_assoc old a b)
 
@@ -83,12 +78,9 @@ pub grown-5 : (old one two three four new a b c d k : List ℕ) → one ≡ old 
 grown-5 old one two three four new a b c d k e f g h m =
     grown-2 old one new a (b ++ (c ++ (d ++ k))) e (grown-4 one two three four new b c d k f g h m)
 
-pub lines-2 : (old one new : List ℕ) (a b : List (List ℕ)) → one ≡ old ++ lines_text a → new ≡ one ++ lines_text b → new ≡ old ++ lines_text (a ++ b)
-lines-2 old one new a b e f = grown-2 old one new (lines_text a) (lines_text b) e f ∙ ap (λ l. old ++ l) (sym (lines_text-append a b))
-
 pub lines-3 : (old one two new : List ℕ) (a b c : List (List ℕ)) → one ≡ old ++ lines_text a → two ≡ one ++ lines_text b → new ≡ two ++ lines_text c
     → new ≡ old ++ lines_text (a ++ (b ++ c))
-lines-3 old one two new a b c e f g = lines-2 old one new a (b ++ c) e (lines-2 one two new b c f g)
+lines-3 old one two new a b c e f g = lines_text-more old one new a (b ++ c) e (lines_text-more one two new b c f g)
 
 pub lines-5 : (old one two three four new : List ℕ) (a b c d k : List (List ℕ)) → one ≡ old ++ lines_text a → two ≡ one ++ lines_text b
     → three ≡ two ++ lines_text c → four ≡ three ++ lines_text d → new ≡ four ++ lines_text k → new ≡ old ++ lines_text (a ++ (b ++ (c ++ (d ++ k))))
@@ -135,4 +127,4 @@ pub lines-6 : (old one two three four five new : List ℕ) (a b c d k m : List (
     → three ≡ two ++ lines_text c → four ≡ three ++ lines_text d → five ≡ four ++ lines_text k → new ≡ five ++ lines_text m
     → new ≡ old ++ lines_text (a ++ (b ++ (c ++ (d ++ (k ++ m)))))
 lines-6 old one two three four five new a b c d k m e f g h i j =
-    lines-2 old one new a (b ++ (c ++ (d ++ (k ++ m)))) e (lines-5 one two three four five new b c d k m f g h i j)
+    lines_text-more old one new a (b ++ (c ++ (d ++ (k ++ m)))) e (lines-5 one two three four five new b c d k m f g h i j)

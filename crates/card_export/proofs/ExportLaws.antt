@@ -32,7 +32,7 @@ items_text-filter stem app wanted [] = refl
 items_text-filter stem app wanted (item ∷ items) =
     by_item (is_exported wanted item) stem app wanted item items refl (items_text-filter stem app wanted items)
 
-taken : (f : Record → List ℕ) (items : List Record) (i : ℕ) (item : Record) → i < length items
+pub taken : (f : Record → List ℕ) (items : List Record) (i : ℕ) (item : Record) → i < length items
     → flat_map f (take (i + 1) items) ≡ flat_map f (take i items) ++ f (get_or items i item)
 taken f items i item inside =
     ap (flat_map f) (take_more items i item inside)

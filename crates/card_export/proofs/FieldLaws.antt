@@ -18,6 +18,7 @@ use Rattle.content_lines.specs.Lines.{lines_text}
 use Rattle.content_lines.proofs.TextLaws.{lines_text-more}
 use Rattle.card_export.specs.Cards.{CardValue, PersonValue}
 use Rattle.card_export.specs.Properties.{card_lines, form_lines, class_lines, custom_lines, field_lines, value_lines, head_lines, name_line, person_lines, phone_line, place_lines, property, shown_name, tail_lines, uid_line, unread_lines, id_digits}
+use Rattle.card_export.proofs.PropertyLaws.{begin_chars}
 
 -- a value under a literal name
 given_literal : (old new word v w : List ℕ) → chars word ≡ word → v ≡ w → new ≡ old ++ lines_text (value_lines (chars word) v) → new ≡ old ++ lines_text (value_lines word w)
@@ -76,10 +77,6 @@ person_text s0 s1 s2 s3 last first person e1 e2 is_last is_first e3 =
 
 literal_line : (old new word : List ℕ) → chars word ≡ word → new ≡ old ++ lines_text (chars word ∷ []) → new ≡ old ++ lines_text (word ∷ [])
 literal_line old new word same grown = grown ∙ ap (λ l. old ++ lines_text (l ∷ [])) same
-
-begin_chars : chars (codes "BEGIN:VCARD") ≡ codes "BEGIN:VCARD"
-unfolding chars
-begin_chars = refl
 
 version_chars : chars (codes "VERSION:3.0") ≡ codes "VERSION:3.0"
 unfolding chars

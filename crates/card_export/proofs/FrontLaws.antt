@@ -17,7 +17,7 @@ use Rattle.card_export.specs.Properties.{custom_lines, custom_name, value_lines,
 pub IsBytes-nil : IsBytes []
 IsBytes-nil i = omega arith
 
-IsBytes-rest : (byte : ℕ) (bytes : List ℕ) → IsBytes (byte ∷ bytes) → IsBytes bytes
+pub IsBytes-rest : (byte : ℕ) (bytes : List ℕ) → IsBytes (byte ∷ bytes) → IsBytes bytes
 IsBytes-rest byte bytes h i = h (suc i)
 
 characters_injective : (v w : List ℕ) → IsBytes v → IsBytes w → characters v ≡ characters w → v ≡ w

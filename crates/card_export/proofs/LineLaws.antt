@@ -15,7 +15,7 @@ use Rattle.content_lines.proofs.TextLaws.{lines_text_injective}
 use Rattle.card_export.specs.Cards.{CardValue, CustomValue, FormValue, IsBytes, IsCard, IsCustom, IsForm, IsPerson, IsPhone, IsPlace, PersonValue, PhoneValue, PlaceValue}
 use Rattle.card_export.specs.Cards.FormValue.{Person, Unread}
 use Rattle.card_export.specs.Properties.{card_lines, cards_text, class_lines, custom_lines, custom_name, field_lines, first_text, first_phone, form_lines, full_name, value_lines, head_lines, id_digits, is_nowhere, kind_words, label_name, name_line, parts, person_lines, phone_line, place_line, place_lines, preference, property, shown_name, tail_lines, uid_line, unread_lines, value_chars}
-use Rattle.card_export.proofs.FrontLaws.{IsBytes-nil}
+use Rattle.card_export.proofs.FrontLaws.{IsBytes-nil, IsBytes-rest}
 use Rattle.card_export.proofs.CardLaws.{cards_injective}
 
 -- ---- texts without line breaks
@@ -50,9 +50,6 @@ unbroken-char false c is a = rw is (unbroken-escape c (c == 92 || (c == 44 || c 
 no_return : (byte : ℕ) → byte < 256 → (char_of byte == 13) ≡ false
 no_return byte small =
     elim (cases_eq (char_of byte) 13) [ inl same ↦ absurd (char_of-return byte small same) | inr other ↦ grind (arith, nat_tests) ]
-
-IsBytes-rest : (byte : ℕ) (bytes : List ℕ) → IsBytes (byte ∷ bytes) → IsBytes bytes
-IsBytes-rest byte bytes h i = h (suc i)
 
 pub unbroken-value : (value : List ℕ) → IsBytes value → has_no_break (value_chars value) ≡ true
 unfolding escaped
@@ -108,7 +105,7 @@ given_lines name (byte ∷ rest) unbroken told h =
 
 -- ---- names
 
-IsBytes-cons : (byte : ℕ) (rest : List ℕ) → byte < 256 → IsBytes rest → IsBytes (byte ∷ rest)
+pub IsBytes-cons : (byte : ℕ) (rest : List ℕ) → byte < 256 → IsBytes rest → IsBytes (byte ∷ rest)
 IsBytes-cons byte rest small h zero = small
 IsBytes-cons byte rest small h (suc i) = h i
 

@@ -17,17 +17,10 @@ use Rattle.content_lines.specs.Lines.{has_no_break}
 use Rattle.card_export.specs.Cards.{IsBytes, IsCard, IsCustom, IsForm, IsPerson, IsPhone}
 use Rattle.card_export.specs.Exports.{IsItem, IsStored, card_of, custom_of, customs_before, field_text, form_of, has_number, has_text, person_of, phone_of, phones_before, text_of}
 use Rattle.card_export.specs.Labels.{custom_label, label_place}
-use Rattle.card_export.proofs.FrontLaws.{IsBytes-nil}
-use Rattle.card_export.proofs.LineLaws.{unbroken-append}
+use Rattle.card_export.proofs.FrontLaws.{IsBytes-nil, IsBytes-rest}
+use Rattle.card_export.proofs.LineLaws.{unbroken-append, IsBytes-cons}
 
 -- ---- bytes of bytes
-
-IsBytes-cons : (byte : ℕ) (rest : List ℕ) → byte < 256 → IsBytes rest → IsBytes (byte ∷ rest)
-IsBytes-cons byte rest small h zero = small
-IsBytes-cons byte rest small h (suc i) = h i
-
-IsBytes-rest : (byte : ℕ) (bytes : List ℕ) → IsBytes (byte ∷ bytes) → IsBytes bytes
-IsBytes-rest byte bytes h i = h (suc i)
 
 IsBytes-take : (n : ℕ) (bytes : List ℕ) → IsBytes bytes → IsBytes (take n bytes)
 IsBytes-take zero bytes h = IsBytes-nil

@@ -18,7 +18,7 @@ use Rattle.category_mirror.specs.Sides.{write_count}
 
 -- ---- how many of them write
 
-changes-act : (one : Act) → changes (text one) ≡ is_change (function_number one.asks)
+pub changes-act : (one : Act) → changes (text one) ≡ is_change (function_number one.asks)
 unfolding text
 changes-act one = changes-text one.asks
 

@@ -5,12 +5,12 @@ use Rattle.dlp_replies.specs.ReplyValues.{ReplyValue}
 use Rattle.dlp_replies.specs.declared.fault.ReplyFault.{ReplyFault}
 use Rattle.desktop_session.specs.Answers.{block_of, or_none}
 use Rattle.desktop_session.specs.Requests.{reading_app}
-use Rattle.desktop_session.specs.Says.{grown, sent}
 use Rattle.session_parts.proofs.LinkWords.{Act, AsksOne, LinkFault, SessionFault, SessionValue, Talk, acted, answer_by, said_in, saying}
 use Rattle.slow_mirror.specs.Asks.{Asks}
 use Rattle.slow_mirror.proofs.AskLaws.{asked_part, asks_then, none_said, one_said, said_all, said_part}
 use Rattle.category_mirror.specs.Blocks.{MergeValue, blocks_merge, written_block}
 use Rattle.category_mirror.specs.FilingActs.{IsMergeTold, app_told, block_in, block_or_none, filed_under, writes_where}
+use Rattle.slow_mirror.proofs.ReadLaws.{grown_untold}
 
 -- a block that was read
 pub block_said : (fault : Option LinkFault) (read : Result ReplyValue ReplyFault) (block : Option (List ℕ))
@@ -32,10 +32,6 @@ pub merge_told : (o : Option Talk) (handle : ℕ) (rows_app block : Option (List
     → merge ≡ blocks_merge block rows_app → IsMergeTold rows_app o handle merge
 merge_told None handle rows_app block merge told is = tt
 merge_told (Some talk) handle rows_app block merge told is = is ∙ ap (λ b. blocks_merge b rows_app) (sym told)
-
-grown_untold : (xs ys : List (List ℕ)) → grown (sent None) xs ≡ grown (sent None) ys
-unfolding grown sent
-grown_untold xs ys = refl
 
 saying_untold : (xs ys : List Act) → saying xs None ≡ saying ys None
 unfolding saying

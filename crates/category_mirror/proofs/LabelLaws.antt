@@ -1,10 +1,10 @@
 -- The labels of a merged table are those of both tables, so that it has a text.
 use Rattle.std.proofs.lemmas.Grind.{common_steps}
 use Rattle.std.proofs.lemmas.Bool.Decides.{nat_tests}
-use Rattle.std.proofs.lemmas.List.{length-map, length-replicate}
+use Rattle.std.proofs.lemmas.List.{length-map}
 use Rattle.std.proofs.lemmas.List.Elements.{All-from_get_or}
 use Rattle.std.proofs.Common.{arith, ◌≡◌, refl, ℕ, zero, suc, ◌+◌, ◌-◌, ◌*◌, ◌<◌, ◌==◌, Bool, true, false, List, [], ◌∷◌, ◌++◌}
-use Rattle.std.proofs.Common.{length, length-append, map, replicate, take, set}
+use Rattle.std.proofs.Common.{length, length-append, map, take, set}
 use Rattle.std.specs.Prelude.{Option, None, Some, position}
 use Rattle.std.specs.List.{flat_map, range_with_len}
 use Rattle.palm_records.specs.Strings.{first_zero, until_zero}
@@ -12,6 +12,7 @@ use Rattle.category_tables.specs.Tables.{CategoryValue, IsTable, TableValue, ent
 use Rattle.category_tables.specs.Merges.{MergingValue, begun, by_id, by_label, filled, is_new, joined, kept_at, labelled, merged_table, merging, rounds}
 use Rattle.category_tables.specs.Texts.{HasText, HoldsTable, IsLabel, entry_in, id_of, label_bytes, label_text, table_in, table_text}
 use Rattle.category_tables.proofs.MergedLaws.{merged_is_table}
+use Rattle.category_tables.proofs.TextLaws.{length-label}
 
 -- each entry has a label that can be written
 abbrev pub AreLabels : List CategoryValue → Type 0
@@ -127,10 +128,6 @@ merged_text handheld desktop one other labels more = record {
 }
 
 -- ---- the length of a text
-
-length-label : (entry : CategoryValue) → length entry.label < 16 → length (label_text entry) ≡ 16
-length-label entry less =
-    omega (arith, length-append entry.label (replicate {A = ℕ} (16 - length entry.label) 0), length-replicate {A = ℕ} (16 - length entry.label) 0)
 
 length-labels : (entries : List CategoryValue) → AreLabels entries → length (flat_map label_text entries) ≡ 16 * length entries
 length-labels [] are = refl

@@ -30,10 +30,11 @@ use Rattle.session_parts.specs.declared.stop.Stop.TheVariants as stop
 use Rattle.session_parts.proofs.CauseLaws.{later_by, later_said}
 use Rattle.session_parts.proofs.LinkWords.{Act, Does, Halted, IsTellable, LinkFault, SessionFault, Stops, Talk, acted, device_after, listing, no_more, reading_user, said_in, saying, text, told, user_of}
 use Rattle.session_parts.proofs.MeetLaws.{greeted_slot, seated_with}
-use Rattle.session_parts.proofs.RestLaws.{after-append, greeting_same, listings_same}
+use Rattle.session_parts.proofs.RestLaws.{greeting_same}
 use Rattle.session_parts.proofs.StretchLaws.{Leads, Tells, tells_on}
 use Rattle.category_mirror.specs.FilingEnds.{IsFilingStop, StopsFor, seat_of, users_in}
 use Rattle.category_mirror.specs.Sides.{Filing, heads_of}
+use Rattle.desktop_session.proofs.ListLaws.{after_append, listings_same}
 
 -- ---- lists
 
@@ -143,7 +144,7 @@ module _ (filing : Filing) where
 
   front_same : device_after meeting_front filing.device ≡ filing.device
   front_same =
-      after-append greeting (listings list_count) filing.device ∙ ap (device_after (listings list_count)) (greeting_same filing.device)
+      after_append greeting (listings list_count) filing.device ∙ ap (device_after (listings list_count)) (greeting_same filing.device)
       ∙ listings_same list_count filing.device
 
   -- what was said and learnt

@@ -1,5 +1,5 @@
 -- Databases of which each is changed, and keeps its name; and the names of a session.
-use Rattle.std.proofs.lemmas.Bool.{and_parts, or_parts}
+use Rattle.std.proofs.lemmas.Bool.{and_parts}
 use Rattle.std.proofs.Common.{arith, ◌≡◌, ◌∙◌, ap, refl, sym, subst, ℕ, Bool, true, false, cond, List, [], ◌∷◌, ◌&&◌, ◌||◌, map}
 use Rattle.std.specs.Prelude.{Option, Some, find, insert, if◌then◌else◌}
 use Rattle.std.specs.List.{list_all, list_any, position_or_len}
@@ -12,6 +12,9 @@ use Rattle.pdb_values.proofs.NamedLaws.{bytes_eq-is, bytes_eq-own, comes_before-
 use Rattle.session_plan.specs.Jobs.{head_named}
 use Rattle.session_plan.specs.Tasks.{names_of, with_name, with_names}
 use Rattle.category_mirror.specs.Sides.{heads_of, is_among}
+use Rattle.folder_files.proofs.ValueLaws.{or_first}
+use Rattle.desk_store.proofs.FindLaws.{or_true}
+use Rattle.session_plan.proofs.ArchiveLaws.{or_later}
 
 -- ---- each changed, under its name
 
@@ -78,15 +81,6 @@ at_place-cons : (name n : List ℕ) (names : List (List ℕ))
     → at_place name (n ∷ names) ≡ cond (comes_before name n) (name ∷ n ∷ names) (n ∷ at_place name names)
 at_place-cons name n names = grind arith
 
-or-swap : (a b c : Bool) → (a || (b || c)) ≡ (b || (a || c))
-or-swap true true c = refl
-or-swap true false c = refl
-or-swap false b c = refl
-
-or-true : (b : Bool) → (b || true) ≡ true
-or-true true = refl
-or-true false = refl
-
 any-at_place : (test : List ℕ → Bool) (name : List ℕ) (names : List (List ℕ))
     → list_any test (at_place name names) ≡ (test name || list_any test names)
 any-at_place test name [] = refl
@@ -96,7 +90,7 @@ any-at_place test name (n ∷ names) =
     by : (b : Bool) → list_any test (at_place name names) ≡ (test name || list_any test names)
         → list_any test (cond b (name ∷ n ∷ names) (n ∷ at_place name names)) ≡ (test name || (test n || list_any test names))
     by true later = refl
-    by false later = ap (λ b. test n || b) later ∙ or-swap (test n) (test name) (list_any test names)
+    by false later = ap (λ b. test n || b) later ∙ or_later (test n) (test name) (list_any test names)
 
 among-at : (test : List ℕ → Bool) (name : List ℕ) (names : List (List ℕ)) → test name ≡ true
     → list_any test (insert names (position_or_len (λ other. comes_before name other) names) name) ≡ true
@@ -104,7 +98,7 @@ among-at test name names here = any-at_place test name names ∙ ap (λ b. b || 
 
 among-more : (test : List ℕ → Bool) (name : List ℕ) (names : List (List ℕ)) → list_any test names ≡ true
     → list_any test (insert names (position_or_len (λ other. comes_before name other) names) name) ≡ true
-among-more test name names here = any-at_place test name names ∙ ap (λ b. test name || b) here ∙ or-true (test name)
+among-more test name names here = any-at_place test name names ∙ ap (λ b. test name || b) here ∙ or_true (test name)
 
 among-own : (name : List ℕ) (names : List (List ℕ)) → is_among name (with_name name names) ≡ true
 among-own name names = by (list_any (λ other. bytes_eq other name) names) refl
@@ -162,6 +156,3 @@ not-among name (n ∷ names) behind =
         by : (b : Bool) → bytes_eq one other ≡ b → b ≡ false
         by true same = absurd (let both = sym (bytes_eq-own other) ∙ ap (bytes_eq other) (sym (bytes_eq-is one other same)) ∙ differ in cc)
         by false same = refl
-
-pub or_left : (a b : Bool) → (a || b) ≡ false → a ≡ false
-or_left a b none = (or_parts a b none).0

@@ -1,6 +1,6 @@
 -- One database of a handheld on which nothing is open: its block is read, and another one written.
 use Rattle.std.proofs.Common.{arith, ◌≡◌, ◌∙◌, ◌≤◌, ap, refl, sym, subst, ℕ, not, true, false, List, [], ◌∷◌, ◌++◌, length, lit<}
-use Rattle.std.specs.Prelude.{Option, Some, None, Ok, nat_le}
+use Rattle.std.specs.Prelude.{Option, Some, None, Ok}
 use Rattle.std.specs.List.{AllByRecursion}
 use Rattle.pdb_values.specs.Blocks.{block_length}
 use Rattle.pdb_values.specs.Databases.{DatabaseValue}
@@ -29,6 +29,7 @@ use Rattle.desktop_session.proofs.TellLaws.{act_sayable, acted_reads, after_prop
 use Rattle.session_parts.specs.Rests.{IsAtRest}
 use Rattle.session_parts.proofs.RestLaws.{closes_does, leads_to, opened_on, opened_proper, opens_does, reads_same}
 use Rattle.category_mirror.specs.FilingActs.{app_told, block_or_none, writes_where}
+use Rattle.desktop_session.proofs.LentLaws.{none_past}
 
 -- ---- acts that may be asked one after another, and what the handheld is then
 
@@ -82,9 +83,6 @@ with_databases databases device = record device { databases = databases }
 -- its acts: its block is read, and this one written
 abbrev pub acts_with : List ℕ → Option (List ℕ) → List Act
 acts_with name written = opening name ∷ ((reading_app 1 ∷ writes_where 1 written) ++ closing 1 ∷ [])
-
-none_past : (n : ℕ) → nat_le 0 n ≡ true
-none_past n = grind arith
 
 module _ (device : Device) (rests : IsAtRest device) (name : List ℕ) (database : DatabaseValue) (there : database_of name device.databases ≡ Some database)
     (may : is_read_only database.head.attributes ≡ false) where

@@ -61,7 +61,7 @@ unfolding refiled_rows
 rows_head None d = refl
 rows_head (Some merge) d = refl
 
-some_same : {x y : DatabaseValue} → ◌≡◌ {A = Option DatabaseValue} (Some x) (Some y) → x ≡ y
+pub some_same : {x y : DatabaseValue} → ◌≡◌ {A = Option DatabaseValue} (Some x) (Some y) → x ≡ y
 some_same {x} {y} eq = let same : x ≡ y = cc in same
 
 -- the laws of one database, in their parts

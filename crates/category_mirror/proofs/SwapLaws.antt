@@ -1,12 +1,12 @@
 -- Two numbers that were exchanged are exchanged back.
 use Rattle.std.proofs.lemmas.Bool.Decides.{nat_tests}
-use Rattle.std.proofs.Common.{arith, ◌≡◌, ◌∙◌, ap, refl, sym, ℕ, zero, suc, ◌<◌, ◌≤◌, ◌==◌, Bool, true, false, List, [], ◌∷◌, get_or, map, cond}
+use Rattle.std.proofs.Common.{arith, ◌≡◌, ◌∙◌, ap, refl, sym, ℕ, zero, suc, ◌<◌, ◌≤◌, true, List, [], ◌∷◌, get_or, map}
 use Rattle.std.specs.List.{AllByRecursion}
 use Rattle.pdb_values.specs.declared.record.Record.{Record}
 use Rattle.category_tables.specs.Merges.{places_of}
 use Rattle.category_tables.specs.Swaps.{IsSwapOf, swapped}
 use Rattle.category_tables.specs.Tables.{IsTable, TableValue, entry_at, has_label, is_used}
-use Rattle.category_tables.proofs.MergedLaws.{merged_settled, swapped_back}
+use Rattle.category_tables.proofs.MergedLaws.{merged_settled, swapped_back, swapped_within}
 use Rattle.category_tables.proofs.OwnedLaws.{labelled_used}
 use Rattle.category_mirror.specs.Filings.{swapped_record}
 use Rattle.category_mirror.specs.Refiled.{refiled_record}
@@ -17,19 +17,11 @@ swapped_twice i j k = grind (arith, nat_tests)
 swapped_zero : (i j : ℕ) → 1 ≤ i → 1 ≤ j → swapped i j 0 ≡ 0
 swapped_zero i j one two = grind (arith, nat_tests)
 
-swapped_some : (i j k : ℕ) → (1 ≤ i) × (i < 16) → (1 ≤ j) × (j < 16) → 1 ≤ k → k < 16 → (1 ≤ swapped i j k) × (swapped i j k < 16)
-swapped_some i j k one two some few = by (k == i) (k == j)
-  where
-    by : (a b : Bool) → (1 ≤ cond a j (cond b i k)) × (cond a j (cond b i k) < 16)
-    by true b = two
-    by false true = one
-    by false false = (some, few)
-
 module _ (handheld desktop : TableValue) (i j : ℕ) (one : IsTable handheld) (other : IsTable desktop) (swap : IsSwapOf i j handheld.entries desktop.entries) where
   back : (k : ℕ) → k < 16 → is_used handheld.entries k ≡ true → get_or (places_of handheld desktop) (swapped i j k) 0 ≡ k
   back zero few used = ap (λ n. get_or (places_of handheld desktop) n 0) (swapped_zero i j swap.one.0 swap.two.0) ∙ (merged_settled handheld desktop one other).first
   back (suc k) few used =
-      let there = swapped_some i j (suc k) swap.one swap.two (omega arith) few in
+      let there = swapped_within i j (suc k) swap.one swap.two (omega arith) few in
       let entry : entry_at desktop.entries (swapped i j (suc k)) ≡ entry_at handheld.entries (suc k) =
       swap.entry (swapped i j (suc k)) there.0 there.1 ∙ ap (λ n. entry_at handheld.entries n) (swapped_twice i j (suc k)) in
       let used_there : is_used desktop.entries (swapped i j (suc k)) ≡ true =

@@ -21,13 +21,15 @@ use Rattle.session_parts.specs.Fronts.{Front}
 use Rattle.session_parts.specs.Meets.{greeting}
 use Rattle.session_parts.specs.Rests.{IsAtRest}
 use Rattle.session_parts.specs.declared.skip.Skip.{Skip}
-use Rattle.session_parts.proofs.RestLaws.{all-append, closes_does, greeting_same, listing_same, listings_same}
+use Rattle.session_parts.proofs.RestLaws.{closes_does, greeting_same, listing_same}
 use Rattle.session_plan.specs.Fits.{Rise}
 use Rattle.category_mirror.specs.Sides.{Filing, StandsBehind, before_end, device_among, filed_device, filing_acts, is_among, job_acts, job_named, jobs, names, write_count}
 use Rattle.category_mirror.proofs.AlongLaws.{Along, IsStill, all_plain, along_last, still_along, still_count, along_on, along_take, along_then, count-append, count-is, count_of, run_is, take-texts}
 use Rattle.category_mirror.proofs.DoneLaws.{among_are, before_goes, end_goes, filed_closed, list_count, names_rise, session_goes}
 use Rattle.category_mirror.proofs.EvolveLaws.{AreFree, IsBehind, acts_are, acts_none, behind_next, behind_none, free_next, free_none, jobs_named, own_there, own_written, turn, whole}
 use Rattle.category_mirror.proofs.OneLaws.{acts_with, changed, closed_same, opens, read_same, wrote}
+use Rattle.desk_journal.proofs.StepLaws.{all_and}
+use Rattle.desktop_session.proofs.ListLaws.{listings_same}
 
 module _ (filing : Filing) (rests : IsAtRest filing.device) where
   -- some of the databases are done, as many blocks were written, and the others are as they were
@@ -147,7 +149,7 @@ module _ (filing : Filing) (rests : IsAtRest filing.device) where
   unfolding listings
   listings_still zero = tt
   listings_still (suc count) =
-      all-append (IsStill filing.device) (listings count) (listing count ∷ []) (listings_still count)
+      all_and (IsStill filing.device) (listings count) (listing count ∷ []) (listings_still count)
       (record { quiet = refl; same = listing_same filing.device count }, tt)
 
   abbrev listed : List Act

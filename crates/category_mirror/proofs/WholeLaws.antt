@@ -15,6 +15,7 @@ use Rattle.session_plan.specs.Skips.{head_of, one_passes, reason}
 use Rattle.category_mirror.specs.Jobs.{filing_job, filing_reason, or_missing}
 use Rattle.category_mirror.specs.Sides.{heads_of}
 use Rattle.category_mirror.proofs.NamedMaps.{head-named, listed_of}
+use Rattle.folder_files.proofs.SlotLaws.{not_true}
 
 -- the handheld's database may be written, and rows and base rows hold records
 pub record IsWhole (databases : List DatabaseValue) (shelves : ShelvesValue) (name : List ℕ) : Type 0 where
@@ -36,10 +37,6 @@ or_none None false none = absurd cc
 else_none : (b : Bool) (x : Skip) (rest : Option Skip) → (if b then Some x else rest) ≡ None → (b ≡ false) × (rest ≡ None)
 else_none true x rest none = absurd cc
 else_none false x rest none = (refl, none)
-
-not_of : (b : Bool) → not b ≡ true → b ≡ false
-not_of true is = absurd cc
-not_of false is = refl
 
 -- it holds records on both sides, and may be written
 abbrev MayFile : Option DbHead → Option DbHead → Type 0
@@ -74,7 +71,7 @@ whole_by databases shelves name (Some handheld) (Some rows) (Some base_rows) her
       rows_records = first.1;
       base = base_rows;
       base_there = base;
-      base_records = not_of (holds_resources base_rows.head.attributes) parts.1;
+      base_records = not_true (holds_resources base_rows.head.attributes) parts.1;
     }
 
 pub whole_of : (databases : List DatabaseValue) (shelves : ShelvesValue) (name : List ℕ)

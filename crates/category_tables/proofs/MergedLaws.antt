@@ -201,7 +201,7 @@ pub known_place : (handheld desktop : TableValue) (j p : ℕ) → IsTable handhe
 unfolding places_of
 known_place handheld desktop j p one other some few used at = (merged_placed handheld desktop one other).known j p some few used at
 
-swapped_within : (i j k : ℕ) → (1 ≤ i) × (i < 16) → (1 ≤ j) × (j < 16) → 1 ≤ k → k < 16 → (1 ≤ swapped i j k) × (swapped i j k < 16)
+pub swapped_within : (i j k : ℕ) → (1 ≤ i) × (i < 16) → (1 ≤ j) × (j < 16) → 1 ≤ k → k < 16 → (1 ≤ swapped i j k) × (swapped i j k < 16)
 swapped_within i j k one two some few = by_tests (k == i) (k == j)
   where
     by_tests : (a b : Bool) → (1 ≤ cond a j (cond b i k)) × (cond a j (cond b i k) < 16)

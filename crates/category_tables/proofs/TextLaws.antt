@@ -22,7 +22,7 @@ AreLabels entries = (k : ℕ) → k < length entries → IsLabel (entry_at entri
 short_of : (entries : List CategoryValue) → AreLabels entries → AreShort entries
 short_of entries are k less = (are k less).short
 
-length-label : (entry : CategoryValue) → length entry.label < 16 → length (label_text entry) ≡ 16
+pub length-label : (entry : CategoryValue) → length entry.label < 16 → length (label_text entry) ≡ 16
 length-label entry less =
     omega (arith, length-append entry.label (replicate {A = ℕ} (16 - length entry.label) 0), length-replicate {A = ℕ} (16 - length entry.label) 0)
 

@@ -52,7 +52,7 @@ pub rising-where : (p : ℕ → Bool) (n : ℕ) → IsRisingFrom 0 (each_below (
 rising-where p zero = rw (each_below-zero (where_true p)) (omega arith)
 rising-where p (suc n) = rw (each_below-suc (where_true p) n) (rising_if (each_below (where_true p) n) n (p n) (rising-where p n))
 
-at-append : {A : Type 0} (j : ℕ) (es fs : List (ℕ × A)) → at j (es ++ fs) ≡ option_or (at j es) (at j fs)
+pub at-append : {A : Type 0} (j : ℕ) (es fs : List (ℕ × A)) → at j (es ++ fs) ≡ option_or (at j es) (at j fs)
 at-append j [] fs = refl
 at-append j (e ∷ es) fs = grind (arith, common_steps, at-append j es fs)
 

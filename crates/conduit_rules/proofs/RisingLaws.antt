@@ -7,7 +7,7 @@ use Rattle.conduit_rules.proofs.ByIdLaws.{each_below-same, each_below-suc, each_
 use Rattle.conduit_rules.proofs.PlanLaws.{IsRisingFrom, ids_of}
 use Rattle.std.proofs.lemmas.Grind.{common_steps}
 
-rising_end : (low end : ℕ) (is : List ℕ) → IsRisingFrom low is end → low ≤ end
+pub rising_end : (low end : ℕ) (is : List ℕ) → IsRisingFrom low is end → low ≤ end
 rising_end low end [] rising = rising
 rising_end low end (i ∷ is) rising = let l : suc i ≤ end = rising_end (suc i) end is rising.1 in omega (arith, rising.0)
 

@@ -1,20 +1,18 @@
 -- How many records a handheld has at most while it is written.
-use Rattle.std.proofs.Common.{◌≡◌, ◌∙◌, ◌+◌, refl, ap, sym, ℕ, zero, suc, Bool, List, [], ◌∷◌, ◌++◌, length, filter, map, arith, is_none}
+use Rattle.std.proofs.Common.{◌≡◌, ◌∙◌, ◌+◌, refl, ap, ℕ, List, [], ◌∷◌, length, filter, map, arith, is_none}
 use Rattle.std.specs.Prelude.{Option}
 use Rattle.std.proofs.lemmas.List.{length-append}
 use Rattle.palm_device.proofs.BoundLaws.{length-map}
-use Rattle.std.proofs.lemmas.List.Elements.{filter-append}
 use Rattle.pdb_values.specs.Contents.{ContentValue}
 use Rattle.pdb_values.specs.declared.record.Record.{Record}
-use Rattle.conduit_rules.specs.ById.{each_below, each_id, id_bound}
+use Rattle.conduit_rules.specs.ById.{each_id, id_bound}
 use Rattle.conduit_rules.specs.Choices.{Choice}
 use Rattle.conduit_rules.specs.Plans.{replaced_rows}
 use Rattle.conduit_rules.specs.States.{SideState, first}
 use Rattle.conduit_rules.proofs.AgreedLaws.{RowsDiffer}
-use Rattle.conduit_rules.proofs.ByIdLaws.{each_below-zero, each_below-suc}
 use Rattle.conduit_rules.proofs.PlanLaws.{replaced_rise}
 use Rattle.record_merge.specs.Merging.{ShowsNoOther, new_under}
-use Rattle.record_merge.proofs.AfterLaws.{after-replaces, apart-rising, unheld}
+use Rattle.record_merge.proofs.AfterLaws.{after-replaces, apart-rising, unheld, filter-each_below}
 use Rattle.record_merge.proofs.PutLaws.{appended, put_all-is, replaced}
 use Rattle.database_merge.specs.Faults.{peak}
 
@@ -22,16 +20,10 @@ appended-filter : (rs : List Record) (es : List (ℕ × ContentValue)) → lengt
 appended-filter rs [] = refl
 appended-filter rs (e ∷ es) = grind (arith, is_none (first e.0 rs), appended-filter rs es)
 
-filter-below : {A : Type 0} (p : A → Bool) (f : ℕ → List A) (n : ℕ) → filter p (each_below f n) ≡ each_below (λ i. filter p (f i)) n
-filter-below p f zero = ap (filter p) (each_below-zero f) ∙ sym (each_below-zero (λ i. filter p (f i)))
-filter-below p f (suc n) =
-    ap (filter p) (each_below-suc f n) ∙ filter-append p (each_below f n) (f n)
-    ∙ ap (λ ys. ys ++ filter p (f n)) (filter-below p f n) ∙ sym (each_below-suc (λ i. filter p (f i)) n)
-
 -- as many as are kept under ids that no record has
 appended-count : (keep : ℕ → Option ContentValue) (h : ℕ → SideState) (rs : List Record) → ShowsNoOther h rs
     → length (appended rs (replaced_rows keep h)) ≡ length (each_id (λ i. new_under i (first i rs) (keep i)))
-appended-count keep h rs shown = grind (arith, appended-filter rs (replaced_rows keep h), filter-below (unheld rs), unheld rs, filter (unheld rs))
+appended-count keep h rs shown = grind (arith, appended-filter rs (replaced_rows keep h), filter-each_below (unheld rs), unheld rs, filter (unheld rs))
 
 -- those that it had, and the new ones
 pub peak-is : (ch : Choice) (h : ℕ → SideState) (records : List Record) → RowsDiffer records → ShowsNoOther h records

@@ -13,7 +13,6 @@ use Rattle.conduit_rules.specs.States.{SideState}
 use Rattle.conduit_rules.specs.Views.{slow_view, view_held}
 use Rattle.conduit_rules.specs.declared.planned.Plan.{Plan}
 use Rattle.handheld_files.specs.Settled.{are_ids, are_settled}
-use Rattle.palm_device.specs.FreshIds.{is_among}
 use Rattle.palm_device.specs.Records.{with_records}
 use Rattle.palm_device.specs.Soundness.{AreIds, ids_of}
 use Rattle.record_merge.specs.Merging.{AreBounded, merged_archive, merged_records, one_copy_behind}
@@ -32,19 +31,12 @@ use Rattle.database_merge.specs.Merges.{IsLeft, IsLeftOf, IsMerged, left_by}
 use Rattle.database_merge.specs.Seeing.{AreOpened, merge_choice, shown, sides, skip_of, writes}
 use Rattle.database_merge.specs.declared.both_sides.BothSides.{BothSides}
 use Rattle.database_merge.specs.declared.wishes.MergeWishes.{MergeWishes}
-use Rattle.std.proofs.lemmas.Bool.{and_parts, not-true}
-use Rattle.std.specs.Prelude.{not, ◌&&◌, ◌==◌}
+use Rattle.std.proofs.lemmas.Bool.{and_parts}
+use Rattle.std.specs.Prelude.{not}
 use Rattle.std.specs.List.{list_all}
+use Rattle.handheld_files.proofs.BoundLaws.{ids_are}
 
 -- ---- ids
-
-ids_are : (ids : List ℕ) → are_ids ids ≡ true → AreIds ids
-ids_are [] is = tt
-ids_are (id ∷ ids) is =
-    let first = and_parts (not (id == 0)) (not (is_among id ids) && are_ids ids) is in
-    let second = and_parts (not (is_among id ids)) (are_ids ids) first.1 in
-    let other : (id == 0) ≡ false = not-true (id == 0) first.0 in
-    (grind (arith, nat_tests, other), not-true (is_among id ids) second.0, ids_are ids second.1)
 
 settled_ids : (records : List Record) → are_settled records ≡ true → AreIds (ids_of records)
 settled_ids records is = ids_are (ids_of records) (and_parts (list_all (λ (item : Record). not item.busy) records) (are_ids (ids_of records)) is).1

@@ -1,32 +1,23 @@
 -- The view of all records.
-use Rattle.std.proofs.Common.{◌≡◌, ◌∙◌, ◌<◌, ℕ, List, [], ◌∷◌, ◌++◌, ◌+◌, ap, refl, sym, arith, get_or, length, map, take}
-use Rattle.std.specs.Prelude.{All, option_to_list, IfOk, Result, Ok, Err}
-use Rattle.std.specs.Option.{option_map}
+use Rattle.std.proofs.Common.{◌≡◌, ◌∙◌, ◌<◌, ℕ, List, [], ◌∷◌, ◌++◌, ◌+◌, ap, sym, get_or, length, map, take}
+use Rattle.std.specs.Prelude.{All, IfOk, Result, Ok, Err}
 use Rattle.std.specs.List.{AllByRecursion}
 use Rattle.std.proofs.lemmas.Bool.{lt-ltb}
-use Rattle.std.proofs.lemmas.Bool.Decides.{nat_tests}
-use Rattle.std.proofs.lemmas.Grind.{common_steps}
 use Rattle.std.proofs.lemmas.List.Elements.{All-from_recursion, recursion_from_All}
 use Rattle.pdb_values.specs.declared.record.Record.{Record}
 use Rattle.conduit_rules.specs.ById.{id_bound}
-use Rattle.conduit_rules.specs.States.{first}
-use Rattle.conduit_rules.specs.Views.{first_seen, slow_seen, slow_view}
+use Rattle.conduit_rules.specs.Views.{slow_seen, slow_view}
 use Rattle.conduit_rules.specs.declared.view.Seen.{Seen}
-use Rattle.conduit_rules.proofs.ByIdLaws.{each_below-same}
 use Rattle.record_merge.specs.Merging.{AreBounded}
 use Rattle.slow_mirror.specs.Entries.{AreBounded as AreSeenBounded, ordered}
 use Rattle.slow_mirror.proofs.NewsLaws.{split_at}
 use Rattle.std.proofs.lemmas.List.{map-append}
+use Rattle.pdb_files.proofs.WriteLaws.{all_behind}
+use Rattle.slow_mirror.proofs.ShownLaws.{ordered-slow}
 
-first-map : (i : ℕ) (records : List Record) → first_seen i (map slow_seen records) ≡ option_map slow_seen (first i records)
-first-map i [] = refl
-first-map i (r ∷ records) = grind (arith, common_steps, nat_tests, first-map i records)
-
--- the entries of all records in their order are the view
+-- the entries of all records in their order are the view, by a name that code can cite
 pub ordered_map : (records : List Record) → ordered (map slow_seen records) ≡ slow_view records
-ordered_map records =
-    each_below-same (λ i. option_to_list (first_seen i (map slow_seen records))) (λ i. option_to_list (option_map slow_seen (first i records))) id_bound
-    (λ i less. ap option_to_list (first-map i records))
+ordered_map records = ordered-slow records
 
 bounded_by : (records : List Record) → AllByRecursion (λ (entry : Seen). entry.id < id_bound) (map slow_seen records) → AreBounded records
 bounded_by [] all = tt
@@ -42,14 +33,10 @@ seen_more records k r seen new s within is shows push before =
     push ∙ ap (λ xs. xs ++ s ∷ []) before ∙ ap (λ x. map slow_seen (take k records) ++ x ∷ []) shows
     ∙ sym (ap (map slow_seen) (split_at records k r within is).next ∙ map-append slow_seen (take k records) (r ∷ []))
 
-append-one : {A : Type 0} (P : A → Type 0) (xs : List A) (x : A) → AllByRecursion P xs → P x → AllByRecursion P (xs ++ x ∷ [])
-append-one P [] x all one = (one, tt)
-append-one P (y ∷ ys) x all one = (all.0, append-one P ys x all.1 one)
-
 pub bounded_more : (seen : List Seen) (s : Seen) → AreSeenBounded seen → s.id < id_bound → AreSeenBounded (seen ++ s ∷ [])
 bounded_more seen s all one =
     let P : Seen → Type 0 = λ entry. entry.id < id_bound in
-    All-from_recursion P (seen ++ s ∷ []) (append-one P seen s (recursion_from_All P seen all) one)
+    All-from_recursion P (seen ++ s ∷ []) (all_behind P seen s (recursion_from_All P seen all) one)
 
 pub if_ok_any : {A E P : Type 0} (result : Result A E) → P → IfOk result (λ _. P)
 if_ok_any (Ok a) is = is

@@ -13,6 +13,7 @@ use Rattle.record_merge.specs.Writes.{AreFree, Write, add, adding, after, clean_
 use Rattle.record_merge.proofs.AfterLaws.{after-append}
 use Rattle.record_merge.proofs.PutLaws.{put_record-cons}
 use Rattle.slow_mirror.proofs.NewsLaws.{split_at}
+use Rattle.session_plan.proofs.RowLaws.{numbered-push}
 
 -- ---- replacements
 
@@ -51,13 +52,6 @@ full_replacing rows k row records now within is now_is none full =
     omega (arith, one, more, same, full)
 
 -- ---- adds
-
-numbered-push : (gs : List ℕ) (cs : List ContentValue) (g : ℕ) (c : ContentValue) → length gs ≡ length cs
-    → numbered (gs ++ g ∷ []) (cs ++ c ∷ []) ≡ numbered gs cs ++ (g, c) ∷ []
-numbered-push [] [] g c same = refl
-numbered-push [] (d ∷ cs) g c same = absurd (omega arith)
-numbered-push (h ∷ gs) [] g c same = absurd (omega arith)
-numbered-push (h ∷ gs) (d ∷ cs) g c same = ap (λ es. (h, d) ∷ es) (numbered-push gs cs g c (omega arith))
 
 free-push : (es : List (ℕ × ContentValue)) (e : ℕ × ContentValue) (records : List Record) → AreFree es records → IsFree e.0 (after (adding es) records)
     → AreFree (es ++ e ∷ []) records

@@ -13,8 +13,9 @@ use Rattle.desk_journal.specs.declared.entry.Entry.{Entry}
 use Rattle.desk_journal.specs.Entries.{AreEntries, EntryValue, IsJournal, entry_value, entry_values, is_named}
 use Rattle.desk_journal.specs.Overlays.{put_all}
 use Rattle.desk_journal.specs.Steps.{GoesThrough, GoesThroughAll, changed_in, commit_steps, has_bytes, is_changed}
-use Rattle.desk_journal.proofs.OverlayLaws.{get-put_all, last_of, same_files, same_name, same_name-other, same_name-true}
+use Rattle.desk_journal.proofs.OverlayLaws.{get-put_all, last_of, same_name, same_name-other, same_name-true}
 use Rattle.std.proofs.lemmas.Slice.Eq.{bytes_eq-Decides}
+use Rattle.hs_folders.proofs.FileTrees.{same_files}
 
 -- ---- fewer entries
 
@@ -53,7 +54,7 @@ named_none before (entry ∷ entries) q form named =
     (λ e. let no : is_named before q ≡ false = ap (is_named before) e ∙ form.1 in cc) in
     rw (named_none (before ++ entry ∷ []) entries q form.2 more, other) refl
 
-or_none : (a b : Option (List ℕ)) → option_or a b ≡ None → (a ≡ None) × (b ≡ None)
+pub or_none : (a b : Option (List ℕ)) → option_or a b ≡ None → (a ≡ None) × (b ≡ None)
 or_none None b none = (refl, none)
 or_none (Some x) b none = absurd cc
 

@@ -5,7 +5,7 @@ use Rattle.std.proofs.Common.{◌≡◌, ◌+◌, ◌<◌, ◌≤◌, ℕ, zero,
 use Rattle.std.proofs.Common.{Err, refl, sym, ap, ◌∙◌, arith}
 use Rattle.std.specs.Prelude.{IfSome, IsSome, OnErr, bytes_eq}
 use Rattle.std.specs.FinMap as finmap
-use Rattle.std.specs.FinMap.{get-insert, get-remove, same_map, nat_cmp-IsAntisymmetric, slice_cmp-IsAntisymmetric}
+use Rattle.std.specs.FinMap.{get-insert, get-remove}
 use Rattle.std.specs.Ordering.{nat_cmp, eq_by_cmp}
 use Rattle.std.specs.Cmp.Lexicographic.{slice_cmp, nat_list_cmp_total}
 use Rattle.std.specs.Option.{option_map, option_or}
@@ -20,6 +20,7 @@ use Rattle.desk_journal.specs.Entries.{AreEntries, EntryValue, IsJournal, entry_
 use Rattle.desk_journal.specs.Reading.{journal_in}
 use Rattle.desk_journal.specs.Overlays.{HasNoJournal, bad_of, finished, if_bad, overlay, put_all}
 use Rattle.desk_journal.proofs.ReadLaws.{journal_only}
+use Rattle.hs_folders.proofs.FileTrees.{same_files}
 
 -- ---- names
 
@@ -30,7 +31,7 @@ same_name = eq_by_cmp (slice_cmp nat_cmp)
 pub same_name-is : (a b : List ℕ) → same_name a b ≡ bytes_eq a b
 same_name-is a b = is_eq-slice_cmp a b
 
-same_name-refl : (a : List ℕ) → same_name a a ≡ true
+pub same_name-refl : (a : List ℕ) → same_name a a ≡ true
 same_name-refl a = same_name-is a a ∙ grind (arith, bytes_eq-Decides a a)
 
 pub same_name-true : (a b : List ℕ) → same_name a b ≡ true → a ≡ b
@@ -40,9 +41,6 @@ pub same_name-other : (a b : List ℕ) → (a ≡ b → ⊥) → same_name a b �
 same_name-other a b other = grind (arith, same_name, same_name-true)
 
 -- ---- files
-
-pub same_files : (m n : FileMap) → ((name : List ℕ) → finmap.get m name ≡ finmap.get n name) → m ≡ n
-same_files m n same = same_map nat_list_cmp_total (slice_cmp-IsAntisymmetric nat_cmp-IsAntisymmetric) m n same
 
 pub get_put : (held : FileMap) (name bytes q : List ℕ) → finmap.get (finmap.insert held name bytes) q ≡ cond (same_name q name) (Some bytes) (finmap.get held q)
 get_put held name bytes q = get-insert nat_list_cmp_total held name bytes q
@@ -67,7 +65,7 @@ get-put_all (entry ∷ entries) held q =
 
 -- ---- no entry is the journal
 
-not_kept : is_kept_file journal_file ≡ false
+pub not_kept : is_kept_file journal_file ≡ false
 not_kept = refl
 
 no_entry : (before entries : List EntryValue) → AreEntries before entries → last_of journal_file entries ≡ None

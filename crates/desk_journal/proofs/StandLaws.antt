@@ -13,12 +13,13 @@ use Rattle.desk_journal.specs.declared.bad_journal.BadJournal.{BadJournal}
 use Rattle.desk_journal.specs.Entries.{EntryValue, is_named}
 use Rattle.desk_journal.specs.Reading.{data_at, entries_at, entry_at, journal_in, kept_in, name_at, or_left, some_at}
 use Rattle.desk_journal.specs.Overlays.{FinishesAs, HasNoJournal, StandsAs, bad_of, entries_of, finished, overlay}
-use Rattle.desk_journal.proofs.OverlayLaws.{get-put_all, get_without, last_of, plain_overlay, same_name, same_name-is, same_name-other}
+use Rattle.desk_journal.proofs.OverlayLaws.{get-put_all, get_without, last_of, plain_overlay, same_name, same_name-is, same_name-other, not_kept}
 use Rattle.desk_journal.proofs.ReadLaws.{bind_some, both_true, front_is, guard_some, map_some, placed_is, some_is, test_some}
+use Rattle.desk_journal.proofs.ChangeLaws.{or_none}
 
 -- ---- no entry that is read is the journal
 
-kept_name : (bytes : List ℕ) {parts : List ℕ × List ℕ} → name_at bytes ≡ Some parts → is_kept_file parts.0 ≡ true
+pub kept_name : (bytes : List ℕ) {parts : List ℕ × List ℕ} → name_at bytes ≡ Some parts → is_kept_file parts.0 ≡ true
 unfolding name_at
 kept_name [] e = absurd cc
 kept_name (count ∷ bytes) e =
@@ -28,7 +29,7 @@ kept_name (count ∷ bytes) e =
     let is = both_true _ _ test.0 in
     subst (λ (p : List ℕ × List ℕ). is_kept_file p.0 ≡ true) (ap (λ (n : List ℕ). (n, some.0.1)) (some_is some.0.0 test.1) ∙ name.2) is.1
 
-kept_entry : (before : List EntryValue) (bytes : List ℕ) {found : EntryValue × List ℕ} → entry_at before bytes ≡ Some found
+pub kept_entry : (before : List EntryValue) (bytes : List ℕ) {found : EntryValue × List ℕ} → entry_at before bytes ≡ Some found
     → is_kept_file found.0.name ≡ true
 unfolding entry_at
 kept_entry before bytes e =
@@ -42,15 +43,8 @@ kept_entry before bytes e =
 abbrev NameNoJournal : List EntryValue → Type 0
 NameNoJournal entries = last_of journal_file entries ≡ None
 
-not_kept : is_kept_file journal_file ≡ false
-not_kept = refl
-
 other_name : (name : List ℕ) → is_kept_file name ≡ true → same_name journal_file name ≡ false
 other_name name kept = same_name-other journal_file name (λ e. let is : is_kept_file journal_file ≡ true = ap is_kept_file e ∙ kept in cc not_kept)
-
-or_none : (a b : Option (List ℕ)) → option_or a b ≡ None → (a ≡ None) × (b ≡ None)
-or_none None b e = (refl, e)
-or_none (Some x) b e = absurd cc
 
 one_more : (before : List EntryValue) (entry : EntryValue) → NameNoJournal before → is_kept_file entry.name ≡ true → NameNoJournal (before ++ entry ∷ [])
 one_more [] entry none kept = rw (other_name entry.name kept) refl

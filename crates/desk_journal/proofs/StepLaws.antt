@@ -10,6 +10,7 @@ use Rattle.desk_journal.specs.Entries.{EntryValue}
 use Rattle.desk_journal.specs.Overlays.{put_all}
 use Rattle.desk_journal.specs.Steps.{GoesThrough, GoesThroughAll, by_journal, journal_steps, last_told, replacements, with_entry, with_journal, without_journal}
 use Rattle.desk_journal.proofs.OverlayLaws.{put_one_more}
+use Rattle.hs_folders.proofs.MomentLaws.{joined, unmoved}
 
 -- ---- lists
 
@@ -36,15 +37,6 @@ pub last_told-append : (told : Option FileMap) (a b : List (Option FileMap)) →
 last_told-append told [] b = refl
 last_told-append told (next ∷ a) b = last_told-append next a b
 
-moments-append : (a b : List (Option FileMap)) (old : Moments)
-    → option_map (λ moments. moments ++ b) (option_map (λ moments. moments ++ a) old) ≡ option_map (λ moments. moments ++ (a ++ b)) old
-moments-append a b None = refl
-moments-append a b (Some moments) = ap Some (append_assoc moments a b)
-
-moments-nil : (old : Moments) → old ≡ option_map (λ moments. moments ++ []) old
-moments-nil None = refl
-moments-nil (Some moments) = ap Some (sym (append-nil moments))
-
 -- ---- going through steps
 
 -- no step was taken
@@ -54,7 +46,7 @@ through_none steps {before} {after} {old} {new} same still = record {
   passed = [];
   left = steps;
   are = refl;
-  moments = still ∙ moments-nil old;
+  moments = still ∙ unmoved old;
   stops = same;
 }
 
@@ -87,7 +79,7 @@ through_then steps {more} before mid {after} {old} {half} {new} is all it = reco
   passed = steps ++ it.passed;
   left = it.left;
   are = ap (λ (s : List (Option FileMap)). steps ++ s) it.are ∙ sym (append_assoc steps it.passed it.left);
-  moments = it.moments ∙ (ap (option_map (λ moments. moments ++ it.passed)) all ∙ moments-append steps it.passed old);
+  moments = it.moments ∙ (ap (option_map (λ moments. moments ++ it.passed)) all ∙ joined steps it.passed old);
   stops = it.stops ∙ (ap (λ (t : Option FileMap). last_told t it.passed) is ∙ sym (last_told-append before steps it.passed));
 }
 
@@ -101,10 +93,10 @@ through_one (Err e) next is one stays still = through_none (next ∷ []) stays s
 
 pub all_then : (steps more : List (Option FileMap)) (old half new : Moments) → GoesThroughAll steps old half → GoesThroughAll more half new
     → GoesThroughAll (steps ++ more) old new
-all_then steps more old half new all it = it ∙ (ap (option_map (λ moments. moments ++ more)) all ∙ moments-append steps more old)
+all_then steps more old half new all it = it ∙ (ap (option_map (λ moments. moments ++ more)) all ∙ joined steps more old)
 
 pub all_none : {old new : Moments} → new ≡ old → GoesThroughAll [] old new
-all_none {old} still = still ∙ moments-nil old
+all_none {old} still = still ∙ unmoved old
 
 -- what each step has, each moment has
 pub through_each : (P : Option FileMap → Type 0) {steps : List (Option FileMap)} {before after : Option FileMap} {old new : Moments}

@@ -1,8 +1,8 @@
 -- Slots within bounds: one item of a list after the other, a database more in a slot, and a slot behind the last.
-use Rattle.std.proofs.Common.{◌≡◌, ◌+◌, ◌++◌, ◌<◌, ◌≤◌, ◌^◌, ℕ, List, [], ◌∷◌, length, map, take, get_or, Result, subst, arith, rules}
+use Rattle.std.proofs.Common.{◌≡◌, ◌<◌, ◌≤◌, ◌^◌, ℕ, List, [], ◌∷◌, length, map, take, Result, subst, arith, rules}
 use Rattle.std.specs.Prelude.{OnOk}
 use Rattle.std.specs.List.{AllByRecursion}
-use Rattle.std.proofs.lemmas.List.{take_all, take_more}
+use Rattle.std.proofs.lemmas.List.{take_all}
 use Rattle.pdb_values.specs.Databases.{DatabaseValue}
 use Rattle.pdb_values.specs.declared.user.Marks.{Marks}
 use Rattle.pdb_values.proofs.NamedLaws.{AllByRecursion-with_put}
@@ -13,15 +13,7 @@ use Rattle.desk_store.specs.Shelves.{ShelvesValue, SlotValue, empty_slot, number
 use Rattle.desk_store.specs.declared.role.Role.{Role}
 use Rattle.desk_store.specs.declared.role.Role.TheVariants.{Rows, Base, Archive}
 use Rattle.desk_store.proofs.SlotListLaws.{each-at, each-set}
-
-push_each : {X : Type 0} (P : X → Type 0) (xs : List X) (x : X) → AllByRecursion P xs → P x → AllByRecursion P (xs ++ x ∷ [])
-push_each P [] x each here = (here, tt)
-push_each P (y ∷ ys) x each here = (each.0, push_each P ys x each.1 here)
-
--- one more of a list
-pub each_more : {X : Type 0} (P : X → Type 0) (xs : List X) (place : ℕ) {x : X} → place < length xs → x ≡ get_or xs place x → AllByRecursion P (take place xs)
-    → P x → AllByRecursion P (take (place + 1) xs)
-each_more P xs place less is each here = search (rules, take_more, push_each)
+use Rattle.pdb_files.proofs.WriteLaws.{all_behind, all_of_more}
 
 -- all of it
 pub each_taken : {X : Type 0} (P : X → Type 0) (xs : List X) (place : ℕ) → length xs ≤ place → AllByRecursion P (take place xs) → AllByRecursion P xs

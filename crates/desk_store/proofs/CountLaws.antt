@@ -5,9 +5,7 @@ use Rattle.std.specs.Prelude.{◌&&◌, ◌||◌, IfSome, IsSome, T, bytes_eq, c
 use Rattle.std.specs.FinMap as finmap
 use Rattle.std.specs.FinMap.Entries.{below_all, is_sorted}
 use Rattle.std.specs.List.{AllByRecursion, IsDistinct, list_all, list_any}
-use Rattle.std.specs.Ordering.{is_eq, is_lt, nat_cmp}
-use Rattle.std.specs.declared.cmp.Ordering.{Ordering}
-use Rattle.std.specs.declared.cmp.Ordering.TheVariants.{Equal}
+use Rattle.std.specs.Ordering.{is_lt, nat_cmp}
 use Rattle.std.specs.Cmp.{eq_by_cmp_equiv}
 use Rattle.std.specs.Cmp.Lexicographic.{slice_cmp, nat_list_cmp_total}
 use Rattle.std.proofs.lemmas.Bool.{and_parts, or_right}
@@ -18,10 +16,10 @@ use Rattle.std.proofs.lemmas.Map.Made.{length-from_same_keys}
 use Rattle.hs_folders.specs.FileMaps.{FileMap}
 use Rattle.pdb_values.specs.Databases.{DatabaseValue}
 use Rattle.pdb_values.specs.NamedDatabases.{NamesRise, comes_before, database_of}
-use Rattle.pdb_values.proofs.NamedLaws.{bytes_eq-is, bytes_eq-own, comes_before-differs_from}
+use Rattle.pdb_values.proofs.NamedLaws.{bytes_eq-is, bytes_eq-own, comes_before-differs_from, less_differs}
 use Rattle.pdb_files.specs.Reading.{database_in}
 use Rattle.folder_files.specs.FileNames.{has_ending}
-use Rattle.desk_journal.proofs.OverlayLaws.{same_name, same_name-is, same_name-other}
+use Rattle.desk_journal.proofs.OverlayLaws.{same_name, same_name-other, same_name-refl, same_name-true}
 use Rattle.desk_store.specs.DeskFiles.{file_in, role_of, slot_file}
 use Rattle.desk_store.specs.Desks.{IsDesk, IsDeskOf, all_rows}
 use Rattle.desk_store.specs.Finds.{rows_count}
@@ -29,26 +27,17 @@ use Rattle.desk_store.specs.Shelves.{AreInOrder, SlotValue, if_bad, if_database,
 use Rattle.desk_store.specs.declared.role.Role.TheVariants.{Rows}
 use Rattle.desk_store.proofs.CommitLaws.{good_file}
 use Rattle.desk_store.proofs.FileLaws.{ends}
-use Rattle.desk_store.proofs.OwnLaws.{database_is_own, each-append, good_database, same_file, slot_file-ends, slot_stem}
+use Rattle.desk_store.proofs.OwnLaws.{database_is_own, good_database, same_file, slot_file-ends, slot_stem}
 use Rattle.desk_store.proofs.SlotListLaws.{marks-length, slot_at-any}
 use Rattle.std.proofs.lemmas.Grind.{common_steps}
 use Rattle.std.proofs.lemmas.Bool.Decides.{nat_tests}
+use Rattle.desk_journal.proofs.StepLaws.{all_and}
 
-is_true : (b : Bool) → T b → b ≡ true
+pub is_true : (b : Bool) → T b → b ≡ true
 is_true true t = refl
 is_true false t = absurd t
 
-name_is : (a b : List ℕ) → same_name a b ≡ true → a ≡ b
-name_is a b e = bytes_eq-is a b (sym (same_name-is a b) ∙ e)
-
-name_same : (a : List ℕ) → same_name a a ≡ true
-name_same a = same_name-is a a ∙ bytes_eq-own a
-
 -- ---- the files of a folder differ
-
-less_differs : (o : Ordering) → is_lt o ≡ true → is_eq o ≡ false
-less_differs Equal less = absurd cc
-less_differs o less = refl
 
 abbrev Files : Type 0
 Files = List (List ℕ × List ℕ)
@@ -114,14 +103,14 @@ other_slots : (slot other : ℕ) (name : List ℕ) (slots : List SlotValue) → 
     → AllByRecursion (λ file. same_name (slot_file slot Rows name) file ≡ false) (files_from other slots)
 other_slots slot other name [] less few = tt
 other_slots slot other name (first ∷ slots) less few =
-    each-append (λ file. same_name (slot_file slot Rows name) file ≡ false) (files_of other first.shelves.rows) (files_from (suc other) slots)
+    all_and (λ file. same_name (slot_file slot Rows name) file ≡ false) (files_of other first.shelves.rows) (files_from (suc other) slots)
     (other_rows slot other name first.shelves.rows less (omega arith)) (other_slots slot (suc other) name slots (omega arith) (omega arith))
 
 distinct-append : (xs ys : List (List ℕ)) → IsDistinct same_name xs → IsDistinct same_name ys
     → AllByRecursion (λ x. AllByRecursion (λ y. same_name x y ≡ false) ys) xs → IsDistinct same_name (xs ++ ys)
 unfolding IsDistinct
 distinct-append [] ys first later apart = later
-distinct-append (x ∷ xs) ys first later apart = (each-append (λ y. same_name x y ≡ false) xs ys first.0 apart.0, distinct-append xs ys first.1 later apart.1)
+distinct-append (x ∷ xs) ys first later apart = (all_and (λ y. same_name x y ≡ false) xs ys first.0 apart.0, distinct-append xs ys first.1 later apart.1)
 
 distinct_none : IsDistinct same_name []
 unfolding IsDistinct
@@ -147,15 +136,15 @@ any_filter test q (name ∷ names) = by (test name) (same_name q name) refl refl
     by : (passes this : Bool) → test name ≡ passes → same_name q name ≡ this
         → list_any (same_name q) (filter test names) ≡ (test q && list_any (same_name q) names)
         → list_any (same_name q) (cond passes (name ∷ filter test names) (filter test names)) ≡ (test q && (this || list_any (same_name q) names))
-    by true true e is later = let here : test q ≡ true = ap test (name_is q name is) ∙ e in rw (is, here) refl
+    by true true e is later = let here : test q ≡ true = ap test (same_name-true q name is) ∙ e in rw (is, here) refl
     by true false e is later = rw is later
-    by false true e is later = let here : test q ≡ false = ap test (name_is q name is) ∙ e in later ∙ rw here refl
+    by false true e is later = let here : test q ≡ false = ap test (same_name-true q name is) ∙ e in later ∙ rw here refl
     by false false e is later = later
 
 in_rows : (slot : ℕ) (q : List ℕ) (rows : List DatabaseValue) → list_any (same_name q) (files_of slot rows) ≡ true
     → (name : List ℕ) × (q ≡ slot_file slot Rows name) × IsSome (database_of name rows)
 in_rows slot q [] there = absurd cc
-in_rows slot q (database ∷ rows) there = grind (arith, common_steps, nat_tests, same_name, in_rows slot q rows, name_is, bytes_eq-own)
+in_rows slot q (database ∷ rows) there = grind (arith, common_steps, nat_tests, same_name, in_rows slot q rows, same_name-true, bytes_eq-own)
 
 into_rows : (slot : ℕ) (name : List ℕ) (rows : List DatabaseValue) → IsSome (database_of name rows)
     → list_any (same_name (slot_file slot Rows name)) (files_of slot rows) ≡ true
@@ -169,7 +158,7 @@ into_rows slot name (database ∷ rows) some = by (bytes_eq database.head.name n
     by true is some later =
         let same : same_name (slot_file slot Rows name) (slot_file slot Rows database.head.name) ≡ true =
         ap (λ (n : List ℕ). same_name (slot_file slot Rows name) (slot_file slot Rows n)) (bytes_eq-is database.head.name name is)
-        ∙ name_same (slot_file slot Rows name) in
+        ∙ same_name-refl (slot_file slot Rows name) in
         ap (λ (b : Bool). b || list_any (same_name (slot_file slot Rows name)) (files_of slot rows)) same
     by false is some later = or_right _ _ (later some)
 
@@ -259,7 +248,7 @@ rows_there {held} {slots} file is ending there = by (finmap.get held file) refl 
               ∙ (ap (option_and_then (λ b. if_database (file_in (length slots) file b))) here ∙ ap if_database found.1)));
         }
 
-same_truth : (a b : Bool) → (a ≡ true → b ≡ true) → (b ≡ true → a ≡ true) → a ≡ b
+pub same_truth : (a b : Bool) → (a ≡ true → b ≡ true) → (b ≡ true → a ≡ true) → a ≡ b
 same_truth a b forth back = grind (arith, common_steps, nat_tests)
 
 same_members : {held : FileMap} {slots : List SlotValue} → IsDeskOf held slots → (q : List ℕ)

@@ -31,6 +31,7 @@ use Rattle.desk_store.proofs.OwnLaws.{IsOwn, database_is_own, journal_is_bad, sa
 use Rattle.desk_store.proofs.SlotListLaws.{database_of-with_at, length-with, marks_of-with}
 use Rattle.std.proofs.lemmas.Grind.{common_steps}
 use Rattle.std.proofs.lemmas.Bool.Decides.{nat_tests}
+use Rattle.pdb_files.proofs.FileLaws.{or_none}
 
 -- ---- names
 
@@ -102,7 +103,7 @@ AreRead held number names slots =
     (slot : ℕ) (role : Role) (name : List ℕ) → slot < number
     → database_of name (shelf_at slots slot role) ≡ where_read (is_among names (slot_file slot role name)) (database_at held number slot role name)
 
-or_true : (b : Bool) → (b || true) ≡ true
+pub or_true : (b : Bool) → (b || true) ≡ true
 or_true true = refl
 or_true false = refl
 
@@ -224,10 +225,6 @@ all_databases is slot role name less = grind (arith, common_steps, nat_tests, at
 
 -- ---- a bad journal
 
-none_first : {A : Type 0} (o : Option A) (rest : Option A) → option_or o rest ≡ None → (o ≡ None) × (rest ≡ None)
-none_first None rest e = (refl, e)
-none_first (Some x) rest e = absurd cc
-
 abbrev with_name : List ℕ → BadDeskFile → List ℕ × BadDeskFile
 with_name name bad = (name, bad)
 
@@ -238,7 +235,7 @@ not_bad (Some bad) name e = absurd cc
 good_among : (held : FileMap) (slots : ℕ) (names : List (List ℕ)) (q : List ℕ) → first_bad held slots names ≡ None → is_among names q ≡ true
     → bad_at held slots q ≡ None
 good_among held slots [] q good there = absurd cc
-good_among held slots (name ∷ names) q good there = grind (arith, common_steps, nat_tests, none_first, good_among held slots names q, bytes_eq-is, not_bad)
+good_among held slots (name ∷ names) q good there = grind (arith, common_steps, nat_tests, or_none, good_among held slots names q, bytes_eq-is, not_bad)
 
 pub good_all : (held : FileMap) (slots : ℕ) → first_bad held slots (finmap.keys held) ≡ None → (q : List ℕ) → bad_at held slots q ≡ None
 good_all held slots good q = grind (arith, common_steps, nat_tests, good_among, absent)

@@ -30,6 +30,7 @@ use Rattle.desk_store.specs.declared.role.Role.{Role}
 use Rattle.desk_store.specs.declared.role.Role.TheVariants.{Rows, Base, Archive}
 use Rattle.std.proofs.lemmas.Grind.{common_steps}
 use Rattle.std.proofs.lemmas.Bool.Decides.{nat_tests}
+use Rattle.desk_journal.proofs.StepLaws.{all_and}
 
 -- ---- endings
 
@@ -59,10 +60,6 @@ same_ending role other e = grind (arith, common_steps, nat_tests)
 abbrev NotDot : ℕ → Type 0
 NotDot byte = byte ≡ 46 → ⊥
 
-pub each-append : {X : Type 0} (P : X → Type 0) (xs ys : List X) → AllByRecursion P xs → AllByRecursion P ys → AllByRecursion P (xs ++ ys)
-each-append P [] ys p q = q
-each-append P (x ∷ xs) ys p q = (p.0, each-append P xs ys p.1 q)
-
 plain_no_dot : (byte : ℕ) → is_plain byte ≡ true → NotDot byte
 plain_no_dot byte plain e = let dot : is_plain 46 ≡ true = ap is_plain (sym e) ∙ plain in cc dot
 
@@ -75,7 +72,7 @@ stem_byte-no_dot byte = search (rules, plain_no_dot, digit_no_dot)
 
 stem-no_dot : (name : List ℕ) → AllByRecursion NotDot (stem_of name)
 stem-no_dot [] = tt
-stem-no_dot (byte ∷ name) = each-append NotDot (stem_byte byte) (stem_of name) (stem_byte-no_dot byte) (stem-no_dot name)
+stem-no_dot (byte ∷ name) = all_and NotDot (stem_byte byte) (stem_of name) (stem_byte-no_dot byte) (stem-no_dot name)
 
 number-no_dot : (number : ℕ) → number < 20 → AllByRecursion NotDot (115 ∷ decimal number)
 number-no_dot number few = (

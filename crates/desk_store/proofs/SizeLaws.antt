@@ -1,5 +1,5 @@
 -- How long the files of a change are.
-use Rattle.std.proofs.Common.{◌≡◌, ℕ, zero, suc, inl, inr, ◌+◌, ◌*◌, ◌^◌, ◌<◌, ◌≤◌, ltb, Bool, false, List, [], ◌∷◌, length, Option, None}
+use Rattle.std.proofs.Common.{◌≡◌, ℕ, zero, suc, inl, inr, ◌+◌, ◌*◌, ◌^◌, ◌<◌, ◌≤◌, ltb, Bool, false, List, [], ◌∷◌, length, None}
 use Rattle.std.proofs.Common.{Some, refl, ap, arith, rules}
 use Rattle.std.specs.Prelude.{◌||◌, cond, codes}
 use Rattle.std.specs.Fmt.{decimal}
@@ -16,11 +16,11 @@ use Rattle.pdb_values.specs.Users.{password_of}
 use Rattle.pdb_values.specs.declared.head.DbHead.{DbHead}
 use Rattle.pdb_values.specs.declared.user.Marks.{Marks}
 use Rattle.pdb_values.specs.declared.record.Record.{Record}
-use Rattle.pdb_files.specs.Blocks.{AreShort, begins_from, block_list}
+use Rattle.pdb_files.specs.Blocks.{AreShort, begins_from}
 use Rattle.pdb_files.specs.Entries.{record_data, record_entries, record_entry}
 use Rattle.pdb_files.specs.Files.{IsFileText, canonical, file_text, has_resources}
 use Rattle.pdb_files.specs.Headers.{header_text}
-use Rattle.pdb_files.proofs.WriteLaws.{length-zeros_behind}
+use Rattle.pdb_files.proofs.WriteLaws.{length-zeros_behind, length-block_list}
 use Rattle.folder_files.specs.FileNames.{slot_prefix}
 use Rattle.folder_files.specs.InfoFiles.{IsDesktopFile, desktop_forms, desktop_values, one_user_forms, one_user_values, slot_forms}
 use Rattle.folder_files.specs.Hexadecimal.{bytes_text}
@@ -96,9 +96,6 @@ blocks-length : (blocks : List (List ℕ)) → AreShort blocks → length (conca
 blocks-length [] short = omega arith
 blocks-length (block ∷ blocks) short = grind (arith, common_steps, nat_tests, length-append, blocks-length blocks short.1, mul-suc)
 
-block_list-length : (block : Option (List ℕ)) → length (block_list block) ≤ 1
-block_list-length block = search (rules)
-
 -- a database of records is shorter than 2^32 bytes
 pub canonical-short : {database : DatabaseValue} → has_resources database ≡ false → IsFileText database (canonical database)
     → length (canonical database) < 2 ^ 32
@@ -111,7 +108,7 @@ canonical-short records is = grind (
   length-zeros_behind,
   records-length,
   length-append,
-  block_list-length,
+  length-block_list,
   length-map,
   blocks-length,
 )

@@ -38,6 +38,7 @@ use Rattle.desktop_session.specs.Lists.{ids_in}
 use Rattle.desktop_session.specs.Requests.{counting, listing_ids}
 use Rattle.desktop_session.proofs.StartLaws.{one, short_read, valid_fields, valid_sizes}
 use Rattle.desktop_session.proofs.TellLaws.{read_again}
+use Rattle.dlp_replies.proofs.IdLaws.{ids_text_len}
 
 -- ---- what is read of a list of ids
 
@@ -66,17 +67,13 @@ list_read m rest end value half is =
     let value_is : reply.ReadRecordIdList (words made.0.1.0) ≡ value = cc in
     ap (λ v. length (answers.ids_of v)) (sym value_is) ∙ same ∙ first
 
-text-length : (ids : List ℕ) → length (ids_text ids) ≡ 4 * length ids
-text-length [] = refl
-text-length (id ∷ ids) = let more = text-length ids in grind (arith, nat_tests, common_steps, length-append)
-
 ids_read : (ids : List ℕ) (value : ReplyValue) → length ids ≤ 8000 → reply_at 0x31 (reply_text (reply.ReadRecordIdList ids)) ≡ Ok value
     → length (answers.ids_of value) ≡ length ids
 unfolding reply_at reply_byte
 ids_read ids value few is =
     let content : List ℕ = to_be_bytes w16 (length ids) ++ ids_text ids in
     let end = length (0xB1 ∷ 1 ∷ 0 ∷ 0 ∷ arg_text (one content)) in
-    let size : length content ≡ 2 + 4 * length ids = length-append (to_be_bytes w16 (length ids)) (ids_text ids) ∙ ap (λ n. 2 + n) (text-length ids) in
+    let size : length content ≡ 2 + 4 * length ids = length-append (to_be_bytes w16 (length ids)) (ids_text ids) ∙ ap (λ n. 2 + n) (ids_text_len ids) in
     list_read (length ids) (ids_text ids) end value (omega (arith, few))
     (subst (λ (r : Result (List Argument) ArgFault). (of_arguments r >>= answer_of 0x31 0 end) ≡ Ok value)
     (short_read content (omega (arith, size, few))) is)

@@ -37,16 +37,16 @@ use Rattle.std.proofs.Common.{rules}
 
 -- ---- the database of a handle keeps its bounds
 
-found_at : (device : Device) {base : Base} (opened : Opened) (o : Option DatabaseValue) → database_of opened.name device.databases ≡ o
+pub found_at : (device : Device) {base : Base} (opened : Opened) (o : Option DatabaseValue) → database_of opened.name device.databases ≡ o
     → option_map (λ database. let b : Base = record { opened = opened; database = database } in b) o ≡ Some base
     → database_of base.opened.name device.databases ≡ Some base.database
 found_at device opened o here is = grind (arith, common_steps, nat_tests)
 
-led_to : (device : Device) {base : Base} (o : Option Opened) → option_and_then (base_of device) o ≡ Some base
+pub led_to : (device : Device) {base : Base} (o : Option Opened) → option_and_then (base_of device) o ≡ Some base
     → database_of base.opened.name device.databases ≡ Some base.database
 led_to device o is = grind (arith, common_steps, nat_tests, found_at)
 
-base_bounded : {device : Device} (handle : ℕ) {base : Base} → IsTellable device → base_at device handle ≡ Some base → IsBoundedDatabase base.database
+pub base_bounded : {device : Device} (handle : ℕ) {base : Base} → IsTellable device → base_at device handle ≡ Some base → IsBoundedDatabase base.database
 base_bounded {device} handle {base} proper is =
     AllByRecursion-database_of IsBoundedDatabase base.opened.name device.databases base.database proper.bounded.databases
     (led_to device (opened_at handle device.handles) is)
@@ -66,7 +66,7 @@ resource_short handle place {base} {resource} proper is there =
 whole_bytes : (bytes : List ℕ) → length bytes ≤ 65500 → take 65535 (drop 0 bytes) ≡ bytes
 whole_bytes bytes short = take_whole bytes 65535 (omega arith)
 
-none_past : (n : ℕ) → nat_le 0 n ≡ true
+pub none_past : (n : ℕ) → nat_le 0 n ≡ true
 none_past n = grind arith
 
 -- ---- records

@@ -49,27 +49,27 @@ list_same device start = outcome_same 0x16 (read_db_list device 0x80 0 start) (l
 ids_keep : (device : Device) (handle start : ℕ) → IfDone (Same device) (reads device handle (reading.RecordIds start 8000))
 ids_keep device handle start = search (rules, done_then)
 
-ids_same : (device : Device) (handle start : ℕ) → (acted (listing_ids handle start) device).1 ≡ device
+pub ids_same : (device : Device) (handle start : ℕ) → (acted (listing_ids handle start) device).1 ≡ device
 unfolding acted tried
 ids_same device handle start = search (rules, outcome_same, ids_keep)
 
-after_append : (xs ys : List Act) (device : Device) → device_after (xs ++ ys) device ≡ device_after ys (device_after xs device)
+pub after_append : (xs ys : List Act) (device : Device) → device_after (xs ++ ys) device ≡ device_after ys (device_after xs device)
 after_append [] ys device = refl
 after_append (x ∷ xs) ys device = after_append xs ys (acted x device).1
 
-listings_same : (count : ℕ) (device : Device) → device_after (listings count) device ≡ device
+pub listings_same : (count : ℕ) (device : Device) → device_after (listings count) device ≡ device
 unfolding listings
 listings_same zero device = refl
 listings_same (suc count) device = grind (arith, common_steps, nat_tests, after_append, listings_same count device, list_same)
 
-id_listings_same : (handle parts : ℕ) (device : Device) → device_after (id_listings handle parts) device ≡ device
+pub id_listings_same : (handle parts : ℕ) (device : Device) → device_after (id_listings handle parts) device ≡ device
 unfolding id_listings
 id_listings_same handle zero device = refl
 id_listings_same handle (suc parts) device = grind (arith, common_steps, nat_tests, after_append, id_listings_same handle parts device, ids_same)
 
 -- ---- one more
 
-next : (k : ℕ) → k + 1 ≡ suc k
+pub next : (k : ℕ) → k + 1 ≡ suc k
 next k = omega arith
 
 pub listings_next : (k : ℕ) → listings (k + 1) ≡ listings k ++ listing k ∷ []

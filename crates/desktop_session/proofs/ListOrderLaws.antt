@@ -24,7 +24,7 @@ use Rattle.std.proofs.lemmas.Bool.Decides.{nat_tests}
 use Rattle.std.proofs.Common.{rules}
 
 -- a reply that is no error, or error 5, is no refusal but by error 5
-refuses_five : (f : Form) (value : ReplyValue) (code : ℕ) → IsAnswered f value → Refuses code (Ok value) → (may_find_none f ≡ true) × (code ≡ 5)
+pub refuses_five : (f : Form) (value : ReplyValue) (code : ℕ) → IsAnswered f value → Refuses code (Ok value) → (may_find_none f ≡ true) × (code ≡ 5)
 refuses_five f value code is same = grind (arith, common_steps, nat_tests)
 
 is_five : {n : ℕ} → n ≡ 5 → (n == 5) ≡ true

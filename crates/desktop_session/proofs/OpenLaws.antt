@@ -56,10 +56,10 @@ at_place handles k o next = refl
 
 -- handle 1 has the first place
 
-opened_suc : (handles : List (Option Opened)) (k : ℕ) → opened_at (suc k) handles ≡ joined (slice_get handles k)
+pub opened_suc : (handles : List (Option Opened)) (k : ℕ) → opened_at (suc k) handles ≡ joined (slice_get handles k)
 opened_suc handles k = grind (arith, common_steps, nat_tests)
 
-with_suc : (handles : List (Option Opened)) (k : ℕ) (slot : Option Opened) → with_handle (suc k) slot handles ≡ slice_set handles k slot
+pub with_suc : (handles : List (Option Opened)) (k : ℕ) (slot : Option Opened) → with_handle (suc k) slot handles ≡ slice_set handles k slot
 with_suc handles k slot = grind (arith, common_steps, nat_tests)
 
 index_stays : (device : Device) (handle next : ℕ) {base : Base} (answer : ReplyValue) → base_at device handle ≡ Some base

@@ -76,11 +76,11 @@ some_of : {A : Type 0} (o : Option A) → IsSome o → (x : A) × (o ≡ Some x)
 some_of None is = cc
 some_of (Some x) is = (x, refl)
 
-some_with : {A : Type 0} (P : A → Type 0) (o : Option A) → IsSomeAnd o P → (x : A) × (o ≡ Some x) × P x
+pub some_with : {A : Type 0} (P : A → Type 0) (o : Option A) → IsSomeAnd o P → (x : A) × (o ≡ Some x) × P x
 some_with P None is = absurd is
 some_with P (Some x) is = (x, refl, is)
 
-got_at : {A : Type 0} (xs : List A) (k : ℕ) → k < length xs → (x : A) × (slice_get xs k ≡ Some x)
+pub got_at : {A : Type 0} (xs : List A) (k : ℕ) → k < length xs → (x : A) × (slice_get xs k ≡ Some x)
 got_at [] k within = absurd (omega arith)
 got_at (x ∷ xs) zero within = (x, refl)
 got_at (x ∷ xs) (suc k) within = got_at xs k (omega arith)

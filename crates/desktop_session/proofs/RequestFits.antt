@@ -12,12 +12,13 @@ use Rattle.dlp_args.specs.Cells.{HasNoZero}
 use Rattle.dlp_requests.specs.Forms as form
 use Rattle.dlp_requests.specs.RequestTexts.{IsRequest}
 use Rattle.dlp_requests.proofs.RequestLaws.{IsRequest-short}
-use Rattle.dlp_commands.proofs.Fits.{date_length, has_no_zero}
+use Rattle.dlp_commands.proofs.Fits.{has_no_zero}
 use Rattle.dlp_commands.specs.UserFunctions.{name_length}
 use Rattle.desktop_session.specs.Requests.{beginning, cleaning, closing, counting, deleting, ending, listing, listing_ids, making_of, marking, opening_in}
 use Rattle.desktop_session.specs.Requests.{putting, putting_resource, reading_app, reading_at, reading_next, reading_of, reading_resource, reading_sort}
 use Rattle.desktop_session.specs.Requests.{reading_user, removing, resetting, secret_bit, some_name, writing_app, writing_sort}
 use Rattle.std.proofs.Common.{rules}
+use Rattle.dlp_replies.proofs.EntryWritten.{date_len}
 
 no_zero : {name : List ℕ} → IsName name → HasNoZero name
 no_zero {name} is = place_past (λ byte. byte == 0) name is.nonzero
@@ -133,7 +134,7 @@ chosen_bound : (b : Bool) (n limit : ℕ) → n < limit → cond b n 0 < limit
 chosen_bound b n limit below = search (rules)
 
 chosen_date : (b : Bool) (seconds : ℕ) → length (cond b (wire_date seconds) (replicate 8 0)) ≡ 8
-chosen_date true seconds = date_length seconds
+chosen_date true seconds = date_len seconds
 chosen_date false seconds = refl
 
 name_fits : (b : Bool) (name : List ℕ) → HasNoZero name → length name ≤ 40 → IfSome (cond b (some_name name) None) (λ text. HasNoZero text × (length text ≤ 40))

@@ -67,10 +67,10 @@ after_proper (one ∷ acts) device proper sayable = after_proper acts (acted one
 
 -- ---- an act that gives no id may be said of any device
 
-never_new : (o : Option Base) (id free : ℕ) → (id == 0) ≡ false → IfSome o (λ base. id ≡ 0 → IsFree free base.database.records)
+pub never_new : (o : Option Base) (id free : ℕ) → (id == 0) ≡ false → IfSome o (λ base. id ≡ 0 → IsFree free base.database.records)
 never_new o id free fixed = search (rules)
 
-form_gives : (device : Device) (free : ℕ) (f : Form) (fields : Fields (kinds_of f)) → asks_by f fields ≡ false → FormMayGive device free f fields
+pub form_gives : (device : Device) (free : ℕ) (f : Form) (fields : Fields (kinds_of f)) → asks_by f fields ≡ false → FormMayGive device free f fields
 form_gives device free form.WriteRecord (handle, (flags, (id, more))) fixed = never_new (base_at device handle) id free fixed
 form_gives device free other fields fixed = tt
 

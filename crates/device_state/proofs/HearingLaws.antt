@@ -12,16 +12,12 @@ use Rattle.device_stream.specs.Hands.{Hand}
 use Rattle.device_stream.specs.Takings.{HasTaken}
 use Rattle.device_stream.specs.declared.talk_end.TalkEnd.{TalkEnd}
 use Rattle.device_state.specs.Hearing.{HearsBytes, ReadsUpTo}
+use Rattle.palm_device.proofs.TellingLaws.{none_where}
 
 -- ---- tests
 
 pub no_tests : false ≡ true → ⊥
 no_tests same = grind (arith, same)
-
--- nothing, or something
-pub none_by : {A : Type 0} (o : Option A) → is_some o ≡ false → o ≡ None
-none_by None test = refl
-none_by (Some it) test = absurd (no_tests (sym test))
 
 pub some_by : {A : Type 0} (o : Option A) → is_some o ≡ true → o ≡ None → ⊥
 some_by o test none = no_tests (sym (ap is_some none) ∙ test)

@@ -41,7 +41,7 @@ written-then None a b first next = next ∙ ap (option_map (λ taken. taken ++ b
 written-then (Some taken) a b first next =
     next ∙ ap (option_map (λ taken. taken ++ b)) first ∙ ap Some (append_assoc taken a b)
 
-prefix-behind : (told : Option (List ℕ)) {mid later : Option (List ℕ)} (a b : List ℕ) → mid ≡ option_map (λ taken. taken ++ a) told
+pub prefix-behind : (told : Option (List ℕ)) {mid later : Option (List ℕ)} (a b : List ℕ) → mid ≡ option_map (λ taken. taken ++ a) told
     → AppendsPrefix mid later b → AppendsPrefix told later (a ++ b)
 prefix-behind told a b first part = record {
   count = length a + part.count;
@@ -90,7 +90,7 @@ talked-then {a} {b} {c} {t} {u} {v} {ps} {qs} first next = record {
       ∙ ap (λ (s : List ℕ). option_map (λ taken. taken ++ s) t) (sym (said_text-append first.said next.said));
 }
 
-begins-behind : {X : Type 0} (first all part : List X) → BeginsWith all part → BeginsWith (first ++ all) (first ++ part)
+pub begins-behind : {X : Type 0} (first all part : List X) → BeginsWith all part → BeginsWith (first ++ all) (first ++ part)
 begins-behind first all part begins = (begins.0, ap (λ (xs : List _). first ++ xs) begins.1 ∙ sym (append_assoc first part begins.0))
 
 pub talked-stops : {end : DeviceEnd} {a b c : Hand} {t u v : Option (List ℕ)} {ps qs : List PacketValue} → HasTalked a b t u ps → Stops end b c u v qs

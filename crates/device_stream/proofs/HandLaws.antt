@@ -19,6 +19,7 @@ use Rattle.device_stream.specs.Hands.{Hand, awaiting, with_delivery, greeted_by,
 use Rattle.device_stream.specs.Hands.{with_end, woken}
 use Rattle.device_stream.specs.Laws.{DidNothing, DidOnce, DidOne, DoesNothingAgain}
 use Rattle.device_stream.specs.Talks.{Takes, Talks}
+use Rattle.line_world.proofs.TalkLaws.{exchanged-more}
 
 -- ---- what is heard
 
@@ -130,15 +131,8 @@ takes-once old new packet said takes = elim (taking_of takes).does [
 
 -- ---- packets
 
-exchanged-more : (xs ys : List (List ℕ)) (x y : List ℕ) → length xs ≡ length ys
-    → exchanged (xs ++ x ∷ []) (ys ++ y ∷ []) ≡ exchanged xs ys ++ record { request = x; reply = y } ∷ []
-exchanged-more [] [] x y same = refl
-exchanged-more [] (b ∷ ys) x y same = absurd (omega (arith, same))
-exchanged-more (a ∷ xs) [] x y same = absurd (omega (arith, same))
-exchanged-more (a ∷ xs) (b ∷ ys) x y same = ap (λ l. record { request = a; reply = b } ∷ l) (exchanged-more xs ys x y (omega (arith, same)))
-
 -- the run goes on by what was done
-run-on : (device : Device) {old new : Hand} → DeviceRun device old.performed old.replies old.device → DidOnce old new
+pub run-on : (device : Device) {old new : Hand} → DeviceRun device old.performed old.replies old.device → DidOnce old new
     → DeviceRun device new.performed new.replies new.device
 run-on device {old} {new} run (inl did) =
     subst (λ (d : Device). DeviceRun device new.performed new.replies d) (sym did.device_is)

@@ -2,10 +2,9 @@
 use Rattle.std.proofs.lemmas.Bool.Decides.{nat_tests}
 use Rattle.std.proofs.lemmas.Grind.{common_steps}
 use Rattle.std.proofs.Common.{◌≡◌, ◌+◌, ◌*◌, ◌≤◌, ℕ, Bool, true, false, List, [], ◌∷◌, ◌++◌, length, refl, arith, length-append}
-use Rattle.std.specs.Prelude.{◌==◌, ◌||◌, if◌then◌else◌}
+use Rattle.std.specs.Prelude.{◌==◌, if◌then◌else◌}
 use Rattle.std.specs.List.{flat_map, list_any}
 use Rattle.std.specs.Int.{w32, to_be_bytes}
-use Rattle.pdb_values.specs.CivilTimes.{civil_of}
 use Rattle.pdb_values.specs.PalmDates.{wire_date, wire_of}
 use Rattle.pdb_values.specs.declared.civil.CivilTime.{CivilTime}
 use Rattle.pdb_values.specs.declared.head.DbHead.{DbHead}
@@ -16,6 +15,8 @@ use Rattle.dlp_replies.specs.Frames.{name_text}
 use Rattle.dlp_replies.specs.ReplyValues.{ReadUserInfo, ReadDbList, ReadRecordIdList, ReadAppBlock, ReadSortBlock, ReadNextModifiedRec, ReadRecord}
 use Rattle.dlp_replies.specs.ReplyValues.{ReadResource}
 use Rattle.dlp_replies.specs.Writables.{IsWritable}
+use Rattle.std.proofs.lemmas.Bool.{or_parts}
+use Rattle.dlp_replies.proofs.EntryWritten.{date_len}
 
 -- at most eight bytes stand around the data
 pub text_short : (first : ℕ) (bytes : List ℕ) → length bytes ≤ 65527
@@ -46,9 +47,6 @@ date_by : (b : Bool) (time : CivilTime) → length (if b then 0 ∷ 0 ∷ 0 ∷ 
 date_by true time = refl
 date_by false time = refl
 
-pub date_length : (seconds : ℕ) → length (wire_date seconds) ≡ 8
-date_length seconds = date_by (seconds == 0) (civil_of seconds)
-
 named_length : (name : List ℕ) → length (name_text name) ≤ length name + 1
 named_length name = grind (arith, nat_tests, common_steps)
 
@@ -61,8 +59,8 @@ user_fits user viewer pc good last name password short no_zero few = record {
       (let one = length-append (wire_date good) (wire_date last ++ (length (name_text name) ∷ length password ∷ name_text name ++ password)) in
       let two = length-append (wire_date last) (length (name_text name) ∷ length password ∷ name_text name ++ password) in
       let three = length-append (name_text name) password in
-      let first = date_length good in
-      let second = date_length last in
+      let first = date_len good in
+      let second = date_len last in
       let whole = named_length name in
       omega arith);
 }
@@ -74,13 +72,10 @@ words_length (id ∷ ids) = let later = words_length ids in omega arith
 pub ids_fit : (ids : List ℕ) → length ids ≤ 16000 → IsWritable (ReadRecordIdList ids)
 ids_fit ids few = grind (arith, nat_tests, common_steps, text_short, words_length)
 
-or_false : (a b : Bool) → (a || b) ≡ false → (a ≡ false) × (b ≡ false)
-or_false a b none = grind (arith, nat_tests, common_steps)
-
 pub has_no_zero : (bytes : List ℕ) → list_any (λ byte. byte == 0) bytes ≡ false → HasNoZero bytes
 has_no_zero [] none = refl
 has_no_zero (byte ∷ bytes) none =
-    grind (arith, nat_tests, common_steps, has_no_zero bytes (or_false (byte == 0) (list_any (λ byte. byte == 0) bytes) none).1)
+    grind (arith, nat_tests, common_steps, has_no_zero bytes (or_parts (byte == 0) (list_any (λ byte. byte == 0) bytes) none).1)
 
 entry_length : (item : ℕ × DbHead) → length item.1.kind.0 ≡ 4 → length item.1.creator.0 ≡ 4 → length (entry_text item) ≤ length item.1.name + 60
 entry_length item kind creator = grind (arith, nat_tests, common_steps)

@@ -1,30 +1,26 @@
 -- A request bears the byte of its function, and fields within the bounds of its layout.
 use Rattle.std.proofs.lemmas.Bool.Decides.{nat_tests}
 use Rattle.std.proofs.lemmas.Grind.{common_steps}
-use Rattle.std.proofs.Common.{◌≡◌, ◌∙◌, ℕ, Bool, true, false, cond, List, [], ◌∷◌, Option, Some, None, Result, Ok, refl, ap, arith}
+use Rattle.std.proofs.Common.{◌≡◌, ◌∙◌, ℕ, Bool, true, false, cond, List, [], ◌∷◌, Option, Some, None, Ok, refl, ap, arith}
 use Rattle.std.specs.Prelude.{◌==◌}
 use Rattle.std.specs.Option.{option_map}
 use Rattle.dlp_args.specs.Arguments.{Argument}
 use Rattle.dlp_args.specs.Cells.{Cell, CellFits, IsCell, CellKind, Byte, Half, Word, Pad, Run, Text, MaybeText, Rest, Counted, Whole, Names}
 use Rattle.dlp_args.specs.Fields.{AreFields, Fields, FieldsFit, fields_in}
 use Rattle.dlp_args.specs.Functions as functions
-use Rattle.dlp_args.specs.Reading.{◌>>=◌}
 use Rattle.dlp_args.specs.declared.function.Function.{Function}
 use Rattle.dlp_args.specs.declared.function.Function.TheVariants as function
 use Rattle.dlp_args.proofs.FunctionLaws.{number_is}
 use Rattle.dlp_requests.specs.Faults.{or_size}
 use Rattle.dlp_requests.specs.Forms as form
 use Rattle.dlp_requests.specs.Forms.{Form, argument_of, kinds_of, number_of}
-use Rattle.dlp_requests.specs.RequestReading.{argument_bytes, by_id_21, known, request_at, request_by, request_in, request_of, with_or_bare, first_id}
+use Rattle.dlp_requests.specs.RequestReading.{argument_bytes, by_id_21, request_at, request_by, request_in, request_of, with_or_bare, first_id}
 use Rattle.dlp_requests.specs.RequestTexts.{request_text}
 use Rattle.dlp_requests.specs.RequestValues.{RequestValue}
-use Rattle.dlp_requests.specs.declared.fault.RequestFault.{RequestFault}
 use Rattle.dlp_commands.specs.DeviceSteps.{first_byte, function_number}
+use Rattle.dlp_requests.proofs.RequestLaws.{done, known_is}
 
 -- ---- the function's byte
-
-then_ok : {A B : Type 0} (r : Result A RequestFault) (f : A → Result B RequestFault) (y : B) → (r >>= f) ≡ Ok y → (x : A) × (r ≡ Ok x) × (f x ≡ Ok y)
-then_ok r f y is = grind (arith, nat_tests, common_steps)
 
 or_size_form : (f : Form) (o : Option (Fields (kinds_of f))) (value : RequestValue)
     → or_size (option_map (λ fields. let v : RequestValue = record { form = f; fields = fields } in v) o) ≡ Ok value → value.form ≡ f
@@ -33,7 +29,7 @@ or_size_form f o value is = grind (arith, nat_tests, common_steps)
 -- a request has the form that it was read by
 by_form : (f : Form) (arguments : List Argument) (value : RequestValue) → request_by f arguments ≡ Ok value → value.form ≡ f
 by_form f arguments value is =
-    let found = then_ok (argument_bytes (argument_of f) arguments) (λ bytes. or_size (request_in f bytes)) value is in
+    let found = done (argument_bytes (argument_of f) arguments) (λ bytes. or_size (request_in f bytes)) value is in
     or_size_form f (fields_in (kinds_of f) found.0) value found.2
 
 by_number : (f : Form) (number : ℕ) (arguments : List Argument) (value : RequestValue) → number_of f ≡ number → request_by f arguments ≡ Ok value
@@ -89,13 +85,10 @@ of_number function.EndOfSync arguments value is = by_number form.EndOfSync _ arg
 of_number function.ResetRecordIndex arguments value is = by_number form.ResetRecordIndex _ arguments value refl is
 of_number function.ReadRecordIdList arguments value is = by_number form.ReadRecordIdList _ arguments value refl is
 
-known_is : (number : ℕ) (o : Option Function) (f : Function) → known number o ≡ Ok f → o ≡ Some f
-known_is number o f is = grind (arith, nat_tests, common_steps)
-
 -- bytes that are a request begin with the byte of its function
 pub function_number-first_byte : (bytes : List ℕ) (value : RequestValue) → request_at bytes ≡ Ok value → function_number value ≡ first_byte bytes
 unfolding request_at
-function_number-first_byte bytes value is = grind (arith, nat_tests, common_steps, then_ok, of_number, number_is, known_is)
+function_number-first_byte bytes value is = grind (arith, nat_tests, common_steps, done, of_number, number_is, known_is)
 
 -- and so does the text that is written of a request
 pub first_byte-request_text : (value : RequestValue) → first_byte (request_text value) ≡ function_number value

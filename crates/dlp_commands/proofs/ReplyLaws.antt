@@ -28,8 +28,9 @@ use Rattle.dlp_commands.specs.Writings as writing
 use Rattle.dlp_commands.specs.Writings.{WritingValue, write_reply}
 use Rattle.dlp_commands.specs.declared.reading.Reading.{Reading}
 use Rattle.dlp_commands.specs.declared.reading.Reading.TheVariants as reading
-use Rattle.dlp_commands.proofs.Fits.{date_length, has_no_zero, ids_fit, list_fits, next_fits, record_fits, resource_fits, user_fits}
+use Rattle.dlp_commands.proofs.Fits.{has_no_zero, ids_fit, list_fits, next_fits, record_fits, resource_fits, user_fits}
 use Rattle.dlp_commands.proofs.TriedLaws.{Keeps, keeps_check, keeps_need}
+use Rattle.dlp_replies.proofs.EntryWritten.{date_len}
 
 -- a reply of this function that is one
 pub record Replies (number : ℕ) (value : ReplyValue) : Type 0 where
@@ -84,7 +85,7 @@ user_is_reply user bounded = record {
         bounded.viewer,
         (
           bounded.pc,
-          (date_length user.good, (date_length user.last, (name_text-few user.name bounded.short, let few = bounded.password in omega arith))),
+          (date_len user.good, (date_len user.last, (name_text-few user.name bounded.short, let few = bounded.password in omega arith))),
         ),
       ),
     );

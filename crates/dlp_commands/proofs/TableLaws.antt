@@ -38,7 +38,7 @@ name_is name none = grind (arith, nat_tests, common_steps)
 named_keeps : (card : ℕ) (name : List ℕ) → Keeps (λ (x : Unit {0}). IsName name) (named card name)
 named_keeps card name = grind (arith, nat_tests, common_steps)
 
-none_is : {A : Type 0} (o : Option A) → is_none o ≡ true → o ≡ None
+pub none_is : {A : Type 0} (o : Option A) → is_none o ≡ true → o ≡ None
 none_is None is = refl
 none_is (Some x) is = absurd cc
 

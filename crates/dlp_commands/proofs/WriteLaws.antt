@@ -71,7 +71,7 @@ record MayWrite (id category : ℕ) (items : List Record) : Type 0 where
   sorted : category ≤ 15
   room : is_new id items ≡ true → length items < 65535
 
-room_of : (new : Bool) (many : ℕ) → (not new || nat_lt many 65535) ≡ true → new ≡ true → many < 65535
+pub room_of : (new : Bool) (many : ℕ) → (not new || nat_lt many 65535) ≡ true → new ≡ true → many < 65535
 room_of new many is asked = grind (arith, nat_tests, common_steps)
 
 may_keeps : (id category : ℕ) (items : List Record) → Keeps (λ (x : Unit {0}). MayWrite id category items) (may_write id category items)

@@ -17,7 +17,7 @@ use Rattle.dlp_replies.proofs.ListLaws.{tests_pass, tests_stop, both_pass}
 -- ---- one entry and the others
 
 -- what is left shrinks by one
-one_less : (count i : ℕ) → i < count → count - i ≡ suc (count - (i + 1))
+pub one_less : (count i : ℕ) → i < count → count - i ≡ suc (count - (i + 1))
 one_less count i lt = omega arith
 
 pub no_rows : (left : ℕ) (bytes : List ℕ) → 0 < left → entry_at bytes ≡ None → rows_in left bytes ≡ None

@@ -54,7 +54,7 @@ without_is : (value found : ReplyValue) (arguments : List Argument) (bytes : Lis
 without_is value found arguments bytes texts e = grind arith
 
 -- what follows the function, the count and the error
-no_truth : true ≡ false → ⊥
+pub no_truth : true ≡ false → ⊥
 no_truth e = cc
 
 pub shape_takes : (first : ℕ) (s : Shape) (end : ℕ) (arguments : List Argument) (bytes : List ℕ) (value : ReplyValue) → IsBytes bytes

@@ -110,7 +110,7 @@ each_is form.ReadRecordIdList = record { owner = function.ReadRecordIdList; name
 
 -- ---- a value was read
 
-done : {A B : Type 0} (r : Result A RequestFault) (f : A → Result B RequestFault) (y : B) → (r >>= f) ≡ Ok y → (x : A) × (r ≡ Ok x) × (f x ≡ Ok y)
+pub done : {A B : Type 0} (r : Result A RequestFault) (f : A → Result B RequestFault) (y : B) → (r >>= f) ≡ Ok y → (x : A) × (r ≡ Ok x) × (f x ≡ Ok y)
 done (Ok x) f y e = (x, refl, e)
 done (Err d) f y e = absurd cc
 
@@ -125,7 +125,7 @@ of_arguments_is (Err d) y e = absurd cc
 IsBytes-back : (front back : List ℕ) → IsBytes (front ++ back) → IsBytes back
 IsBytes-back front back fits = subst IsBytes (drop_at front back (length front) refl) (IsBytes-drop (length front) (front ++ back) fits)
 
-known_is : (number : ℕ) (o : Option Function) (f : Function) → known number o ≡ Ok f → o ≡ Some f
+pub known_is : (number : ℕ) (o : Option Function) (f : Function) → known number o ≡ Ok f → o ≡ Some f
 known_is number None f e = absurd cc
 known_is number (Some g) f e = cc
 

@@ -1,5 +1,5 @@
 -- The changed records are read one after the other, until none is left.
-use Rattle.std.proofs.Common.{◌≡◌, ◌∙◌, ◌<◌, ◌+◌, ◌-◌, refl, ap, sym, ℕ, suc, List, [], ◌∷◌, ◌++◌, append_assoc, arith, rules}
+use Rattle.std.proofs.Common.{◌≡◌, ◌∙◌, ◌<◌, ◌+◌, ◌-◌, refl, ap, sym, ℕ, List, [], ◌∷◌, ◌++◌, append_assoc, arith, rules}
 use Rattle.std.proofs.lemmas.List.{append-nil}
 use Rattle.std.specs.Prelude.{Option, Some, None, IfSome, Ok, Err}
 use Rattle.dlp_replies.specs.ReplyReading.{reply_at}
@@ -18,10 +18,11 @@ use Rattle.desktop_session.proofs.TellLaws.{said_device}
 use Rattle.slow_mirror.specs.Asks.{Asks}
 use Rattle.slow_mirror.specs.Entries.{seen_in}
 use Rattle.slow_mirror.proofs.AskLaws.{SoFar, asked_part, asks_then, none_said, said_all, said_on}
-use Rattle.slow_mirror.proofs.ReadLaws.{after_append}
 use Rattle.fast_mirror.specs.FastReads.{changed_reads, changed_reads_of, changed_seen, next_seen, where_lent}
 use Rattle.fast_mirror.specs.Shells.{AreRead, IsRead}
 use Rattle.fast_mirror.proofs.ToldLaws.{asks_as}
+use Rattle.dlp_replies.proofs.EntryLaws.{one_less}
+use Rattle.desktop_session.proofs.ListLaws.{after_append}
 
 -- ---- so far
 
@@ -46,16 +47,13 @@ reply_now : {now : Option Talk} (first : Option Talk) (handle : ℕ) (acts : Lis
 unfolding saying
 reply_now first handle acts bytes is told = grind (arith, said_device)
 
-left_one : (most k : ℕ) → k < most → most - k ≡ suc (most - (k + 1))
-left_one most k below = omega arith
-
 -- what is left is the next request, and what follows where it lends something
 next_left : (handle most k : ℕ) (device : Device) {lent : List Seen} → k < most → lent ≡ next_seen handle device
     → (changed_reads handle (most - k) device ≡ reading_next handle ∷ where_lent lent
     (changed_reads handle (most - (k + 1)) (acted (reading_next handle) device).1)) ×
     (changed_seen handle (most - k) device ≡ lent ++ where_lent lent (changed_seen handle (most - (k + 1)) (acted (reading_next handle) device).1))
 unfolding changed_reads changed_seen
-next_left handle most k device below is = rw (left_one most k below, is) (refl, refl)
+next_left handle most k device below is = rw (one_less most k below, is) (refl, refl)
 
 -- one record more
 goes_more : (o : Option Talk) (handle most k : ℕ) (acts : List Act) {now : List Seen} (seen : List Seen) {entry : Seen} {lent : List Seen} → k < most

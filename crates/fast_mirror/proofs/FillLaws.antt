@@ -23,10 +23,11 @@ use Rattle.desktop_session.specs.Tellings.{device_after}
 use Rattle.desktop_session.proofs.TellLaws.{IfDone, done_then, said_device}
 use Rattle.slow_mirror.specs.Asks.{Asks}
 use Rattle.slow_mirror.proofs.AskLaws.{SoFar, all_said, asks_part, asks_then, none_said, said_all, said_part}
-use Rattle.slow_mirror.proofs.ReadLaws.{after_append, outcome_same, Same}
+use Rattle.slow_mirror.proofs.ReadLaws.{outcome_same, Same}
 use Rattle.fast_mirror.specs.FastReads.{other_reads}
 use Rattle.fast_mirror.specs.Places.{row_content}
 use Rattle.fast_mirror.specs.Shells.{filled_reads, filled_seen, waits}
+use Rattle.desktop_session.proofs.ListLaws.{after_append}
 
 -- ---- a record that is read by its id leaves the device as it was
 

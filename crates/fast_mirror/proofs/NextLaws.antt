@@ -20,13 +20,14 @@ use Rattle.conduit_rules.specs.declared.view.Seen.{Seen}
 use Rattle.desktop_session.specs.Acts.{acted}
 use Rattle.desktop_session.specs.Requests.{reading_next}
 use Rattle.desktop_session.specs.Tellings.{IsTellable, device_after, told}
-use Rattle.desktop_session.proofs.LentLaws.{lent_next}
+use Rattle.desktop_session.proofs.LentLaws.{lent_next, found_at}
 use Rattle.desktop_session.proofs.RequestFits.{next_fits}
 use Rattle.desktop_session.proofs.RowLaws.{next_row, no_next_row}
 use Rattle.desktop_session.proofs.TellLaws.{act_sayable, acted_proper, acted_reads}
 use Rattle.slow_mirror.proofs.EntryLaws.{lent_seen}
 use Rattle.slow_mirror.proofs.ShownLaws.{lent_is_seen}
 use Rattle.fast_mirror.specs.FastReads.{changed_reads, changed_seen, next_seen}
+use Rattle.desktop_session.proofs.OpenLaws.{opened_suc, with_suc}
 
 -- ---- lists
 
@@ -85,12 +86,6 @@ drop_less (y ∷ ys) (suc p) is = let less = drop_less ys p is in omega arith
 
 -- ---- the record index moves
 
-opened_suc : (handles : List (Option Opened)) (k : ℕ) → opened_at (suc k) handles ≡ joined (slice_get handles k)
-opened_suc handles k = grind arith
-
-with_suc : (handles : List (Option Opened)) (k : ℕ) (slot : Option Opened) → with_handle (suc k) slot handles ≡ slice_set handles k slot
-with_suc handles k slot = grind arith
-
 moved_at : (handles : List (Option Opened)) (k : ℕ) {opened : Opened} (slot : Option Opened) → joined (slice_get handles k) ≡ Some opened
     → joined (slice_get (slice_set handles k slot) k) ≡ slot
 moved_at [] k slot is = cc
@@ -106,14 +101,9 @@ pub record Leads (device : Device) (handle : ℕ) (base : Base) : Type 0 where
   pub opened : opened_at handle device.handles ≡ Some base.opened
   pub found : database_of base.opened.name device.databases ≡ Some base.database
 
-base_found : (device : Device) {base : Base} (opened : Opened) (o : Option DatabaseValue) → database_of opened.name device.databases ≡ o
-    → option_map (λ database. let b : Base = record { opened = opened; database = database } in b) o ≡ Some base
-    → (◌≡◌ {A = Option Opened} (Some opened) (Some base.opened)) × (database_of base.opened.name device.databases ≡ Some base.database)
-base_found device opened o here is = grind arith
-
 leads_by : {device : Device} {handle : ℕ} {base : Base} (o : Option Opened) → opened_at handle device.handles ≡ o
     → option_and_then (base_of device) o ≡ Some base → Leads device handle base
-leads_by o at is = search (rules, base_found)
+leads_by o at is = search (rules, found_at)
 
 pub leads : (device : Device) (handle : ℕ) {base : Base} → base_at device handle ≡ Some base → Leads device handle base
 leads device handle is = leads_by (opened_at handle device.handles) refl is

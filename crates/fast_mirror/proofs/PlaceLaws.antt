@@ -9,6 +9,7 @@ use Rattle.pdb_values.proofs.PlaceLaws.{find-position, position-cons}
 use Rattle.palm_device.specs.Records.{has_id, place_of_id}
 use Rattle.conduit_rules.specs.States.{base_at, first, no_base, row}
 use Rattle.fast_mirror.specs.Places.{or_place, row_content}
+use Rattle.desktop_session.proofs.GrowLaws.{take_next}
 
 -- ---- one row more
 
@@ -24,9 +25,6 @@ take_suc : {A : Type 0} (xs : List A) (k : ℕ) {x : A} → slice_get xs k ≡ S
 take_suc [] k is = cc
 take_suc (y ∷ ys) zero {x} is = let same : y ≡ x = cc in cc
 take_suc (y ∷ ys) (suc k) is = cc (take_suc ys k is)
-
-pub take_next : {A : Type 0} (xs : List A) (k : ℕ) {x : A} → slice_get xs k ≡ Some x → take (k + 1) xs ≡ take k xs ++ x ∷ []
-take_next xs k is = search (rules, take_suc)
 
 length_take : {A : Type 0} (xs : List A) (k : ℕ) {x : A} → slice_get xs k ≡ Some x → length (take k xs) ≡ k
 length_take [] k is = cc

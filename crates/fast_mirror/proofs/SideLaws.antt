@@ -1,10 +1,9 @@
 -- A fast reading's three stretches: the ids, the changed records, the others.
-use Rattle.std.proofs.Common.{◌≡◌, ◌*◌, refl, ℕ, zero, suc, List, [], ◌∷◌, ◌++◌, length, map, rules}
+use Rattle.std.proofs.Common.{◌≡◌, refl, ℕ, suc, List, [], ◌++◌, length, map, rules}
 use Rattle.std.proofs.lemmas.List.{map-append}
 use Rattle.std.specs.Prelude.{Option, Some, None, IfOk, IfSome, OnOk, Result, Ok, Err}
 use Rattle.pdb_values.specs.declared.record.Record.{Record}
 use Rattle.palm_device.specs.Devices.{Device}
-use Rattle.dlp_commands.specs.DeviceSteps.{tried}
 use Rattle.dlp_commands.specs.Reached.{reads as reached}
 use Rattle.dlp_commands.specs.Talks.{Talk}
 use Rattle.dlp_commands.specs.declared.link.LinkFault.{LinkFault}
@@ -12,9 +11,7 @@ use Rattle.dlp_commands.specs.declared.reading.Reading.TheVariants as reading
 use Rattle.conduit_rules.specs.ById.{each_id}
 use Rattle.conduit_rules.specs.declared.view.Seen.{Seen}
 use Rattle.desktop_session.specs.declared.fault.SessionFault.{SessionFault}
-use Rattle.desktop_session.specs.Acts.{Act, acted, text}
-use Rattle.desktop_session.specs.Lists.{id_listings}
-use Rattle.desktop_session.specs.Requests.{listing_ids}
+use Rattle.desktop_session.specs.Acts.{Act, text}
 use Rattle.desktop_session.specs.Says.{said, saying}
 use Rattle.desktop_session.specs.Sessions.{SessionValue}
 use Rattle.desktop_session.specs.Stops.{Does, Stops}
@@ -23,33 +20,19 @@ use Rattle.desktop_session.proofs.StopLaws.{does_then, stops_then}
 use Rattle.desktop_session.proofs.TellLaws.{IfDone, done_then, said_device}
 use Rattle.slow_mirror.specs.Asks.{Asks}
 use Rattle.slow_mirror.proofs.AskLaws.{all_said, asks_part, asks_then}
-use Rattle.slow_mirror.proofs.ReadLaws.{after_append, count_same, outcome_same, Same}
+use Rattle.slow_mirror.proofs.ReadLaws.{count_same, Same}
 use Rattle.fast_mirror.specs.FastReads.{changed_acts, changed_reads, changed_reads_of, changed_seen, changed_told, fast_reads, fast_reads_of, fast_shown}
 use Rattle.fast_mirror.specs.FastReads.{ids_told, listing_acts, reads_at, shown_at}
 use Rattle.fast_mirror.proofs.ToldLaws.{asks_as}
+use Rattle.desktop_session.proofs.ListLaws.{id_listings_same}
 
 -- ---- a list of ids leaves the device as it was
 
 ids_keep : (device : Device) (handle start : ℕ) → IfDone (Same device) (reached device handle (reading.RecordIds start 8000))
 ids_keep device handle start = search (rules, done_then)
 
-ids_same : (device : Device) (handle start : ℕ) → (acted (listing_ids handle start) device).1 ≡ device
-unfolding acted tried
-ids_same device handle start = search (rules, outcome_same, ids_keep)
-
-parts_same : (handle parts : ℕ) (device : Device) → device_after (id_listings handle parts) device ≡ device
-unfolding id_listings
-parts_same handle zero device = refl
-parts_same handle (suc parts) device =
-    cc (
-      after_append (id_listings handle parts) (listing_ids handle (8000 * parts) ∷ []) device,
-      parts_same handle parts device,
-      ids_same device handle
-          (8000 * parts),
-    )
-
 listing_same : (handle : ℕ) (talk : Talk) → device_after (listing_acts handle (Some talk)) talk.device ≡ talk.device
-listing_same handle talk = search (rules, count_same, parts_same)
+listing_same handle talk = search (rules, count_same, id_listings_same)
 
 -- ---- what is told of the device
 

@@ -114,7 +114,7 @@ shown_one rows handle i proper byte below is records ids = grind (arith, first-m
 
 -- ---- all ids
 
-ids_count : (records : List Record) → length (ids_of records) ≡ length records
+pub ids_count : (records : List Record) → length (ids_of records) ≡ length records
 ids_count [] = refl
 ids_count (r ∷ records) = cc (ids_count records)
 

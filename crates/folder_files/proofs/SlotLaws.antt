@@ -33,7 +33,7 @@ has_none [] user none i less = absurd (omega arith)
 has_none (marks ∷ slots) user none zero less = grind (arith, nat_tests, common_steps)
 has_none (marks ∷ slots) user none (suc i) less = grind (arith, nat_tests, common_steps, has_none slots user)
 
-not_true : (b : Bool) → not b ≡ true → b ≡ false
+pub not_true : (b : Bool) → not b ≡ true → b ≡ false
 not_true b e = grind arith
 
 or_second : (a b : Bool) → a ≡ false → (a || b) ≡ true → b ≡ true

@@ -79,7 +79,7 @@ date_only bytes seconds date = grind (arith, nat_tests, common_steps, bytes_in-o
 taken : {A : Type 0} (b : Bool) (x y : A) → cond b None (Some x) ≡ Some y → (b ≡ false) × (x ≡ y)
 taken b x y e = let g = guard_some b (Some x) y e in (g.0, some_is x y g.1)
 
-or_first : (a b : Bool) → (a || b) ≡ false → a ≡ false
+pub or_first : (a b : Bool) → (a || b) ≡ false → a ≡ false
 or_first a b e = grind arith
 
 name_found : (text name : List ℕ) → option_and_then user_name_of (few_bytes_in text) ≡ Some name → Says Name name text

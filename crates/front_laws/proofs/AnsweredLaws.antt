@@ -1,10 +1,7 @@
 -- A session each of whose exchanges was answered stops for no refusal, and for no reply that can't be read.
-use Rattle.std.proofs.Common.{◌≡◌, ◌∙◌, sym, ap, subst, ℕ, true, false, List, [], ◌∷◌, ◌++◌, arith}
+use Rattle.std.proofs.Common.{◌≡◌, ◌∙◌, sym, ap, subst, ℕ, false, List, [], ◌∷◌, ◌++◌}
 use Rattle.std.specs.Prelude.{◌==◌, Some, Result, Ok, Err}
 use Rattle.std.specs.List.{AllByRecursion}
-use Rattle.std.proofs.lemmas.Grind.{common_steps}
-use Rattle.std.proofs.lemmas.Bool.Decides.{nat_tests}
-use Rattle.dlp_requests.specs.Forms.{Form}
 use Rattle.dlp_requests.specs.RequestReading.{request_at}
 use Rattle.dlp_requests.specs.RequestValues.{RequestValue}
 use Rattle.dlp_replies.specs.declared.fault.ReplyFault.{ReplyFault}
@@ -17,17 +14,14 @@ use Rattle.desktop_session.specs.declared.fault.SessionFault.{SessionFault}
 use Rattle.desktop_session.specs.declared.fault.SessionFault.TheVariants as session
 use Rattle.desktop_session.specs.Lasts.{IsBroken, IsByLastReply, IsRefusal, LastSays}
 use Rattle.desktop_session.specs.Lists.{Refuses}
-use Rattle.desktop_session.specs.Orders.{IsAnswered, IsUnrefused, may_find_none}
+use Rattle.desktop_session.specs.Orders.{IsAnswered, IsUnrefused}
 use Rattle.front_laws.specs.Answered.{IsAnsweredExchange}
+use Rattle.desktop_session.proofs.ListOrderLaws.{refuses_five}
 
 -- the last of a list
 all-last : {A : Type 0} (P : A → Type 0) (before : List A) (x : A) → AllByRecursion P (before ++ x ∷ []) → P x
 all-last P [] x all = all.0
 all-last P (y ∷ before) x all = all-last P before x all.1
-
--- an answer that refuses is error 5 to a request that may find none
-answered_five : (f : Form) (value : ReplyValue) (code : ℕ) → IsAnswered f value → Refuses code (Ok value) → (may_find_none f ≡ true) × (code ≡ 5)
-answered_five f value code is same = grind (arith, common_steps, nat_tests)
 
 five : (code : ℕ) → code ≡ 5 → (code == 5) ≡ false → ⊥
 five code is other = let same : (5 == 5) ≡ false = sym (ap (λ n. n == 5) is) ∙ other in cc
@@ -47,7 +41,7 @@ reads_by {exchange} {asked} is request =
 unrefused : {function code : ℕ} {exchange : Exchange} {asked : RequestValue} → Reads exchange asked
     → IsRefusal function code asked (reply_at (function_number asked) exchange.reply) → ⊥
 unrefused {code = code} {asked = asked} reads refusal =
-    let found = answered_five asked.form reads.answer code reads.answered (subst (Refuses code) reads.reply refusal.refuses) in
+    let found = refuses_five asked.form reads.answer code reads.answered (subst (Refuses code) reads.reply refusal.refuses) in
     five code found.1 (refusal.other found.0)
 
 unbroken : {function : ℕ} {broken : ReplyFault} {exchange : Exchange} {asked : RequestValue} → Reads exchange asked

@@ -9,7 +9,6 @@ use Rattle.palm_device.specs.Devices.{Device}
 use Rattle.dlp_commands.specs.Changes.{changes}
 use Rattle.desktop_session.specs.Acts.{Act, acted, text}
 use Rattle.desktop_session.specs.Tellings.{device_after}
-use Rattle.slow_mirror.proofs.ReadLaws.{after_append}
 use Rattle.session_plan.specs.Limits.{first_over}
 use Rattle.sync_session.specs.Sessions.{adds_of, after_commit, before_commit, requests, session, writes_before_commit}
 use Rattle.session_plan.specs.Skips.{active}
@@ -29,6 +28,7 @@ use Rattle.front_laws.proofs.PhaseActs.{AreDealt}
 use Rattle.front_laws.proofs.PutActs.{free-append, free-front}
 use Rattle.front_laws.proofs.ReadyLaws.{ready-all}
 use Rattle.front_laws.proofs.TaskActs.{with_news}
+use Rattle.desktop_session.proofs.ListLaws.{after_append}
 
 -- ---- how many acts write
 

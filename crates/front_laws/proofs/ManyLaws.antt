@@ -22,12 +22,12 @@ use Rattle.repeat_laws.specs.Meetings.{AllFollow, Follows, IsActive, action_at, 
 use Rattle.repeat_laws.specs.Renaming.{AreUnknown, SameEnds}
 use Rattle.repeat_laws.specs.Repeats.{AreStops, Finding, GotAllIds, GotIds, IsRead, MayStop, NoneUnderGone, Place, all_ids, among_news, at_end, before_mark}
 use Rattle.repeat_laws.specs.Repeats.{EndAlike, Ending, behind_commit, chosen, ended, given_by, ids_given, ids_with, left, left_by, news_done, shown, sides}
-use Rattle.repeat_laws.proofs.CommitLaws.{end-adds, no_contents}
+use Rattle.repeat_laws.proofs.CommitLaws.{end-adds}
 use Rattle.repeat_laws.proofs.DesktopLaws.{chosen-again}
 use Rattle.repeat_laws.proofs.MeetingLaws.{all-follow, reading-shows}
 use Rattle.repeat_laws.proofs.NewsLaws.{news-adds, whole-is}
 use Rattle.repeat_laws.proofs.SoundLaws.{read-commit, read-news}
-use Rattle.repeat_laws.proofs.RepeatLaws.{both_repeat}
+use Rattle.repeat_laws.proofs.RepeatLaws.{both_repeat, got-any}
 use Rattle.repeat_laws.proofs.WholeLaws.{holds-end, meetings-hold}
 use Rattle.front_laws.specs.Again.{AllRunAgain, AreFresh, EndsAtMerge, IsFreshBehind, Later, RunsAgain, ids_of_all, last_run}
 use Rattle.front_laws.specs.Sound.{IsSoundMeeting}
@@ -36,18 +36,15 @@ use Rattle.front_laws.proofs.ReadyLaws.{handheld-sound}
 use Rattle.front_laws.proofs.StopLaws.{IsStep, adds-behind, none-later, step-among, step-behind}
 use Rattle.front_laws.proofs.UnknownLaws.{IsNewIn, all-new, news-back, unknown-both, unknown-of}
 use Rattle.sync_session.proofs.NewsJoins.{no_ids}
+use Rattle.record_merge.proofs.BothLaws.{no_contents}
 
 -- ---- what a stop leaves
-
--- one that goes by the handheld adds nothing
-got_none : (y : Finding) (given : List ℕ) → GotIds Handheld y given
-got_none y given = grind (arith, handheld-is (sides y), no_contents given)
 
 -- what is left can be read
 read-left : (a : Action) (y : Finding) (place : Place) → IsRead y → MayStop a y place → IsRead (left a y place)
 read-left a y before_mark read may = read
 read-left Sync y (among_news given n) read may = read-news Sync y given n read may.got
-read-left Handheld y (among_news given n) read may = read-news Handheld y given n read (got_none y given)
+read-left Handheld y (among_news given n) read may = read-news Handheld y given n read (got-any y given)
 read-left Desktop y (among_news given n) read may = read-news Desktop y given n read may
 read-left a y (behind_commit given n) read may = read-commit a y given n read may.got
 read-left a y (at_end given view g) read may = may.1

@@ -16,7 +16,6 @@ use Rattle.desktop_session.specs.Orders.{IsMark}
 use Rattle.desktop_session.specs.Requests.{ending}
 use Rattle.desktop_session.specs.Tellings.{device_after}
 use Rattle.desktop_session.proofs.ChangeRows.{marked_does}
-use Rattle.slow_mirror.proofs.ReadLaws.{after_append}
 use Rattle.session_plan.specs.Choosing.{base_rows, choice, is_fast, seen_held, sides, view, add_count}
 use Rattle.session_plan.specs.Limits.{first_over}
 use Rattle.session_plan.specs.Merges.{merged_databases, merged_device}
@@ -34,6 +33,7 @@ use Rattle.front_laws.proofs.PhaseActs.{AreAhead, AreDealt, MakeMerge, all-keep,
 use Rattle.front_laws.proofs.PutActs.{free-append, free-front}
 use Rattle.front_laws.proofs.ReadyLaws.{AreSound, IsKept, are-kept, handheld-sound, have-names, ready-all, show-all, stand-all}
 use Rattle.front_laws.proofs.TaskActs.{AreGiven, with_news}
+use Rattle.desktop_session.proofs.ListLaws.{after_append}
 
 -- ---- before the first write
 

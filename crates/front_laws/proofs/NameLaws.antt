@@ -36,6 +36,7 @@ use Rattle.front_laws.proofs.ReadyLaws.{IsIn, are_in, have-names, ready-all}
 use Rattle.front_laws.proofs.RelabelLaws.{drop-none, take-none}
 use Rattle.front_laws.proofs.TaskActs.{AreGiven, IsReady}
 use Rattle.sync_session.proofs.OnceLaws.{bytes_eq-swap}
+use Rattle.handheld_files.proofs.ChangeLaws.{take_front}
 
 -- ---- the names of a session
 
@@ -130,10 +131,6 @@ flat_same [] f g same = refl
 flat_same {A} {B} (x ∷ xs) f g same = ap {A = List B × List B} (λ p. p.0 ++ p.1) (λ k. (same x k, flat_same xs f g same k))
 
 -- the ids of a name are those that are dealt out to it
-
-take_whole : (xs ys : List ℕ) → take (length xs) (xs ++ ys) ≡ xs
-take_whole [] ys = refl
-take_whole (x ∷ xs) ys = ap (λ zs. x ∷ zs) (take_whole xs ys)
 
 -- the first ones are those of the first database
 first_dealt : (m : Meeting) (t : Task) (s : Share) (ss : List Share) → length s.used ≤ add_count m t

@@ -1,7 +1,6 @@
 -- There are ids that a handheld may give to the new records of a whole session.
-use Rattle.std.proofs.lemmas.Grind.{common_steps}
 use Rattle.std.proofs.lemmas.Bool.Decides.{nat_tests}
-use Rattle.std.proofs.lemmas.List.{length-append, length-map}
+use Rattle.std.proofs.lemmas.List.{length-append}
 use Rattle.std.proofs.Common.{◌≡◌, ◌⊎◌, inl, inr, ◌∙◌, ◌+◌, ◌≤◌, ◌||◌, ap, sym, refl, subst, arith, ℕ, zero, suc, Bool, true, false, List, [], ◌∷◌, ◌++◌, length}
 use Rattle.std.proofs.Common.{take, drop, is_some}
 use Rattle.std.specs.Prelude.{Option, Some, None, ◌==◌, if◌then◌else◌}
@@ -13,14 +12,14 @@ use Rattle.pdb_values.specs.NamedDatabases.{database_of}
 use Rattle.pdb_values.specs.declared.record.Record.{Record}
 use Rattle.pdb_values.proofs.NamedLaws.{AllByRecursion-database_of, bytes_eq-is, bytes_eq-own}
 use Rattle.palm_device.specs.Bounds.{IsBoundedDatabase}
-use Rattle.palm_device.specs.FreshIds.{is_among, least_from, least_id}
+use Rattle.palm_device.specs.FreshIds.{is_among, least_id}
 use Rattle.palm_device.specs.Records.{put_record}
 use Rattle.palm_device.specs.Soundness.{ids_of}
 use Rattle.handheld_files.proofs.SettledLaws.{least_free, least_low}
 use Rattle.conduit_rules.specs.Choices.{Choice}
 use Rattle.conduit_rules.specs.States.{SideState, first}
 use Rattle.record_merge.specs.Writes.{AreFree, GotFreeIds, after, numbered, replaces}
-use Rattle.record_merge.proofs.PutLaws.{first-put}
+use Rattle.record_merge.proofs.PutLaws.{first-put, first-among}
 use Rattle.session_plan.specs.Choosing.{action_or_sync, base_rows, base_rows_by, choice, seen_held, add_count}
 use Rattle.session_plan.specs.Limits.{first_behind, first_over}
 use Rattle.sync_session.specs.News.{replaced as replacements}
@@ -39,6 +38,9 @@ use Rattle.front_laws.proofs.ReadyLaws.{IsKept, are-kept, handheld-sound, ready-
 use Rattle.front_laws.proofs.TaskActs.{HasRoom}
 use Rattle.std.proofs.lemmas.Bool.{or_parts}
 use Rattle.repeat_laws.proofs.DesktopLaws.{first_place}
+use Rattle.handheld_files.proofs.GivenLaws.{least_few}
+use Rattle.handheld_files.proofs.ChangeLaws.{take_front, drop_front}
+use Rattle.fast_mirror.proofs.ViewLaws.{ids_count}
 
 -- ---- ids that are not taken
 
@@ -58,15 +60,6 @@ fresh-each P (suc n) taken new = (
   fresh-each P n (least_id taken ∷ taken) (λ g apart. new g (or_parts (least_id taken == g) (is_among g taken) apart).1),
 )
 
-least-few : (more low : ℕ) (taken : List ℕ) → least_from more low taken ≤ low + more
-unfolding least_from
-least-few zero low taken = omega arith
-least-few (suc more) low taken = grind (arith, common_steps, nat_tests, least-few more (suc low) taken)
-
-first-apart : (g : ℕ) (records : List Record) → is_among g (ids_of records) ≡ false → first g records ≡ None
-first-apart g [] apart = refl
-first-apart g (r ∷ records) apart = grind (arith, common_steps, nat_tests, first-apart g records)
-
 first-then : (g h : ℕ) (c : ContentValue) (records : List Record) → (g == h) ≡ false → first h records ≡ None → first h (put_record g c records) ≡ None
 first-then g h c records apart none = grind (arith, nat_tests, first-put g c records h)
 
@@ -77,7 +70,7 @@ fresh-free zero taken cs records few none = tt
 fresh-free (suc n) taken [] records few none = tt
 fresh-free (suc n) taken (c ∷ cs) records few none =
     let g = least_id taken in
-    let least = least-few (length taken) 1 taken in
+    let least = least_few (length taken) 1 taken in
     let low = least_low taken (length taken) 1 in (
       record {
         some = omega (arith, low);
@@ -124,9 +117,6 @@ base-few {m} sound t is = by t.rows t.base (ap (λ (x : Task). x.base) is)
     by (Some r) (Some d) there =
         (AllByRecursion-database_of IsBoundedDatabase t.name (slot_of m).shelves.bases d sound.slot.bases (sym there)).whole.few_records
 
-ids-length : (records : List Record) → length (ids_of records) ≡ length records
-ids-length records = length-map records (λ (item : Record). item.id)
-
 -- so many ids can be given
 record IsGivable (m : Meeting) (t : Task) : Type 0 where
   got : GotAllIds (action_or_sync t.action) (found m t) (ids_for m t)
@@ -140,14 +130,14 @@ givable m sound t kept room =
     let base = base-few sound t kept.is in
     let count = length-append (ids_of (records_then m t)) (ids_of rs ++ ids_of (base_rows t)) in
     let rest = length-append (ids_of rs) (ids_of (base_rows t)) in
-    let first_ids = ids-length (records_then m t) in
-    let own_ids = ids-length rs in
-    let base_ids = ids-length (base_rows t) in
+    let first_ids = ids_count (records_then m t) in
+    let own_ids = ids_count rs in
+    let base_ids = ids_count (base_rows t) in
     let own_few = own.few in
     let few : length (taken_for m t) + add_count m t ≤ 16777214 = omega (arith, grown, base, count, rest, first_ids, own_ids, base_ids, own_few, room) in
     let free : GotFreeIds (choice m t) (seen_held m t) (ids_for m t) rs =
     fresh-free (add_count m t) (taken_for m t) (choice m t).adds (records_then m t) few
-    (λ g apart. first-apart g (records_then m t) (among-append g (ids_of (records_then m t)) (ids_of rs ++ ids_of (base_rows t)) apart).0) in
+    (λ g apart. first-among g (records_then m t) (among-append g (ids_of (records_then m t)) (ids_of rs ++ ids_of (base_rows t)) apart).0) in
     record {
       got = record {
         got = subst (λ (p : Choice × (ℕ → SideState)). GotFreeIds p.0 p.1 (ids_for m t) rs) (λ k. (chosen-is m t k, shown-is m t k)) free;
@@ -156,8 +146,8 @@ givable m sound t kept room =
       unknown = are-unknown (found m t) (ids_for m t) (fresh-each (λ g. is_known (found m t) g ≡ false) (add_count m t) (taken_for m t) (λ g apart.
           let parts = among-append g (ids_of rs) (ids_of (base_rows t))
           (among-append g (ids_of (records_then m t)) (ids_of rs ++ ids_of (base_rows t)) apart).1 in
-          ap (λ (o : Option Record). is_some o || is_some (first g (base_rows t))) (first-apart g rs parts.0)
-          ∙ ap is_some (first-apart g (base_rows t) parts.1)));
+          ap (λ (o : Option Record). is_some o || is_some (first g (base_rows t))) (first-among g rs parts.0)
+          ∙ ap is_some (first-among g (base_rows t) parts.1)));
     }
 
 -- ---- all of them
@@ -177,14 +167,6 @@ all-givable m sound (t ∷ ts) handhelds desktops kept none =
 abbrev new_ids : Meeting → List Task → List ℕ
 new_ids m [] = []
 new_ids m (t ∷ ts) = ids_for m t ++ new_ids m ts
-
-take_front : (xs ys : List ℕ) → take (length xs) (xs ++ ys) ≡ xs
-take_front [] ys = refl
-take_front (x ∷ xs) ys = ap (λ (zs : List ℕ). x ∷ zs) (take_front xs ys)
-
-drop_front : (xs ys : List ℕ) → drop (length xs) (xs ++ ys) ≡ ys
-drop_front [] ys = refl
-drop_front (x ∷ xs) ys = drop_front xs ys
 
 -- each database gets its own of them
 dealt-own : (m : Meeting) (ts : List Task) (name : List ℕ) → AllByRecursion (IsKept m) ts → IsTask (task_of m name) ts

@@ -25,8 +25,8 @@ use Rattle.desktop_session.proofs.ChangeRows.{row_does}
 use Rattle.desktop_session.proofs.OrderLaws.{name_right}
 use Rattle.desktop_session.proofs.RowLaws.{close_row}
 use Rattle.slow_mirror.specs.Reads as slow
-use Rattle.slow_mirror.proofs.ReadLaws.{after_append}
 use Rattle.session_parts.proofs.RestLaws.{listing_same}
+use Rattle.desktop_session.proofs.ListLaws.{after_append}
 
 -- nothing is open
 abbrev pub all_closed : List DatabaseValue → UserInfo → Device

@@ -1,6 +1,6 @@
 -- A session keeps its order while it writes, as long as its new records get free ids.
 use Rattle.std.proofs.lemmas.Grind.{common_steps}
-use Rattle.std.proofs.Common.{◌≡◌, inl, inr, ◌∙◌, ◌≤◌, ◌<◌, ◌+◌, refl, ap, sym, subst, ℕ, Bool, true, List, [], ◌∷◌, ◌++◌, length, map, take, drop, arith}
+use Rattle.std.proofs.Common.{◌≡◌, inl, inr, ◌∙◌, ◌≤◌, ◌<◌, ◌+◌, refl, ap, sym, subst, ℕ, true, List, [], ◌∷◌, ◌++◌, length, map, take, drop, arith}
 use Rattle.std.proofs.Common.{append_assoc}
 use Rattle.std.specs.Prelude.{◌&&◌, ◌||◌, not, nat_lt, Option, Some, None, flat_map, replicate}
 use Rattle.std.specs.List.{AllByRecursion}
@@ -26,7 +26,6 @@ use Rattle.desktop_session.specs.Tellings.{device_after}
 use Rattle.desktop_session.proofs.ChangeRows.{mark_possible}
 use Rattle.desktop_session.proofs.OrderLaws.{order_answered}
 use Rattle.slow_mirror.specs.News.{as_new, purge_writes, puts}
-use Rattle.slow_mirror.proofs.ReadLaws.{after_append}
 use Rattle.session_plan.specs.Choosing.{choice, seen_held, add_count}
 use Rattle.session_plan.specs.Heads.{made_head}
 use Rattle.session_plan.specs.Limits.{first_over}
@@ -49,15 +48,14 @@ use Rattle.front_laws.proofs.ReadyLaws.{have-names, ready-all}
 use Rattle.front_laws.proofs.TaskActs.{Before, HasRoom, IsReady, before_is, made_opens, may_new, may_old, with_news, writes_do}
 use Rattle.front_laws.proofs.WriteActs.{CanPut, IsSorted, MayWrite, clean_does, holding, holding_base, holding_own, purges_do, put_does, remove_does}
 use Rattle.front_laws.proofs.WriteActs.{removes_do}
+use Rattle.dlp_commands.proofs.WriteLaws.{room_of}
+use Rattle.desktop_session.proofs.ListLaws.{after_append}
 
 -- ---- one write
 
 takes : (o : Opened) (d : DatabaseValue) (databases : List DatabaseValue) (rs : List Record) → MayWrite o d databases
     → TakesRecords (is_base o (with_records rs d))
 takes o d databases rs may = record { writable = λ k. may.mode k && not (may.writable k); records = may.records }
-
-room_of : (fresh : Bool) (n : ℕ) → (not fresh || nat_lt n 65535) ≡ true → fresh ≡ true → n < 65535
-room_of fresh n room is = grind (arith, common_steps)
 
 module _ {o : Opened} {d : DatabaseValue} {databases : List DatabaseValue} (user : UserInfo) (may : MayWrite o d databases) where
   put_possible : (rs : List Record) (free id : ℕ) (content : ContentValue) → CanPut id content → (not (is_new id rs) || nat_lt (length rs) 65535) ≡ true

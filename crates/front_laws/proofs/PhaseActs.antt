@@ -2,7 +2,6 @@
 use Rattle.std.proofs.Common.{◌≡◌, ◌∙◌, ◌≤◌, ◌<◌, ◌+◌, refl, ap, sym, subst, ℕ, false, List, [], ◌∷◌, length, take, drop, if◌then◌else◌, arith}
 use Rattle.std.specs.Prelude.{◌||◌, nat_lt, Option, Some, None, flat_map, is_none}
 use Rattle.std.specs.List.{AllByRecursion}
-use Rattle.std.proofs.lemmas.Bool.Decides.{nat_tests}
 use Rattle.pdb_values.specs.Bounds.{most_databases, most_entries}
 use Rattle.pdb_values.specs.Databases.{DatabaseValue}
 use Rattle.pdb_values.specs.NamedDatabases.{NamesRise, database_of}
@@ -16,7 +15,6 @@ use Rattle.record_merge.specs.Merging.{ShowsNoOther, merged_records, new_under}
 use Rattle.record_merge.specs.Writes.{after, clearing, giving, whole}
 use Rattle.record_merge.proofs.AfterLaws.{after-append}
 use Rattle.desktop_session.specs.Tellings.{device_after}
-use Rattle.slow_mirror.proofs.ReadLaws.{after_append}
 use Rattle.session_plan.specs.Choosing.{choice, seen_held, add_count}
 use Rattle.session_plan.specs.Limits.{first_behind, sizes_of, with_one}
 use Rattle.session_plan.specs.Merges.{handheld_before, merged_databases, put_merged}
@@ -34,8 +32,11 @@ use Rattle.front_laws.proofs.OpenActs.{all_closed}
 use Rattle.front_laws.proofs.ReadActs.{reads_same}
 use Rattle.front_laws.proofs.PutActs.{free-append, free-front}
 use Rattle.front_laws.proofs.TaskActs.{AreGiven, HasNews, HasRoom, IsReady, news_do, purged_does, with_news}
-use Rattle.repeat_laws.proofs.SkipLaws.{left_false, right_false}
+use Rattle.repeat_laws.proofs.SkipLaws.{right_false}
 use Rattle.sync_session.proofs.OnceLaws.{bytes_eq-swap}
+use Rattle.sync_session.proofs.PlannedLaws.{at_most}
+use Rattle.folder_files.proofs.ValueLaws.{or_first}
+use Rattle.desktop_session.proofs.ListLaws.{after_append}
 
 -- ---- the reading
 
@@ -85,17 +86,14 @@ pub record IsWithin (m : Meeting) (t : Task) (handhelds : ℕ) : Type 0 where
   pub room : length (records_of t.handheld) +
       (add_count m t + length (each_id (λ i. new_under i (first i (records_of t.handheld)) ((choice m t).keep i)))) ≤ 65535
 
-not_over : (limit n : ℕ) → nat_lt limit n ≡ false → n ≤ limit
-not_over limit n is = grind (arith, nat_tests, is)
-
 within_by : (sizes : Sizes) → is_over sizes ≡ false → (sizes.handhelds ≤ 200) × (sizes.records ≤ 65535)
 within_by sizes is =
     let a = nat_lt most_databases sizes.handhelds in
     let b = nat_lt most_databases sizes.desktops in
     let c = nat_lt most_entries sizes.records in
     let d = nat_lt most_entries sizes.rows || (nat_lt most_entries sizes.base || nat_lt most_entries sizes.archive) in (
-      not_over most_databases sizes.handhelds (left_false a (b || (c || d)) is),
-      not_over most_entries sizes.records (left_false c d (right_false b (c || d) (right_false a (b || (c || d)) is))),
+      at_most most_databases sizes.handhelds (or_first a (b || (c || d)) is),
+      at_most most_entries sizes.records (or_first c d (right_false b (c || d) (right_false a (b || (c || d)) is))),
     )
 
 pub within : (m : Meeting) (t : Task) (handhelds desktops : ℕ) → is_over (sizes_of m handhelds desktops t) ≡ false → IsWithin m t handhelds

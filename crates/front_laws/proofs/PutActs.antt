@@ -17,7 +17,7 @@ use Rattle.conduit_rules.specs.ById.{at}
 use Rattle.conduit_rules.specs.States.{first}
 use Rattle.record_merge.specs.Writes.{AreFree, adding, after, numbered, replaces}
 use Rattle.record_merge.proofs.AfterLaws.{place-first}
-use Rattle.record_merge.proofs.PutLaws.{Apart, appended, first-put, put_record-cons, put_record-nil}
+use Rattle.record_merge.proofs.PutLaws.{Apart, appended, put_record-cons, put_record-nil, appended-put}
 use Rattle.desktop_session.specs.Acts.{Act, acted}
 use Rattle.desktop_session.specs.Requests.{putting}
 use Rattle.desktop_session.specs.Tellings.{device_after}
@@ -47,11 +47,6 @@ free-front (x ∷ xs) ys device free = (free.0, free-front xs ys (acted x device
 pub put-length : (i : ℕ) (c : ContentValue) (rs : List Record) → length (put_record i c rs) ≡ length rs + (if is_none (first i rs) then 1 else 0)
 put-length i c [] = ap length (put_record-nil i c)
 put-length i c (r ∷ rs) = grind (arith, put_record-cons i c r rs, put-length i c rs)
-
-appended-put : (e : ℕ × ContentValue) (es : List (ℕ × ContentValue)) (rs : List Record) → at e.0 es ≡ None
-    → appended (put_record e.0 e.1 rs) es ≡ appended rs es
-appended-put e [] rs none = refl
-appended-put e (x ∷ es) rs none = grind (arith, nat_tests, none, appended-put e es rs, first-put e.0 e.1 rs x.0)
 
 appended-length : (e : ℕ × ContentValue) (es : List (ℕ × ContentValue)) (rs : List Record)
     → length (appended rs (e ∷ es)) ≡ (if is_none (first e.0 rs) then 1 else 0) + length (appended rs es)

@@ -1,5 +1,4 @@
 -- How many databases a desktop has once a session is merged: no more than its limit, where that isn't passed.
-use Rattle.std.proofs.lemmas.Bool.Decides.{nat_tests}
 use Rattle.std.proofs.lemmas.List.Sums.{sum_by-cons, sum_by-set}
 use Rattle.std.proofs.Common.{◌≡◌, ◌∙◌, ◌+◌, ◌≤◌, ◌||◌, ap, sym, refl, arith, ℕ, Bool, true, false, cond, List, [], ◌∷◌, ◌++◌, length, take, drop, get_or, set, is_some}
 use Rattle.std.specs.Prelude.{Option, Some, None, nat_lt}
@@ -23,7 +22,9 @@ use Rattle.repeat_laws.proofs.MergedLaws.{AreTasks}
 use Rattle.repeat_laws.proofs.ShelfLaws.{rows_name}
 use Rattle.repeat_laws.proofs.TaskLaws.{are-active}
 use Rattle.front_laws.proofs.PhaseActs.{first_not}
-use Rattle.repeat_laws.proofs.SkipLaws.{left_false, right_false}
+use Rattle.repeat_laws.proofs.SkipLaws.{right_false}
+use Rattle.sync_session.proofs.PlannedLaws.{at_most}
+use Rattle.folder_files.proofs.ValueLaws.{or_first}
 
 -- ---- one database more, or none
 
@@ -32,7 +33,7 @@ put-new new databases =
     with_put-cases (λ ds. length ds ≤ length databases + 1) new databases (λ none. let count = length-with_new new databases in omega (arith, count))
     (λ was there. let count = length-replaced new databases in omega (arith, count))
 
-no_both : (b : Bool) → b ≡ false → b ≡ true → ⊥
+pub no_both : (b : Bool) → b ≡ false → b ≡ true → ⊥
 no_both b is_false is_true = cc
 
 put-old : (new : DatabaseValue) (databases : List DatabaseValue) → is_some (database_of new.head.name databases) ≡ true
@@ -51,16 +52,13 @@ put-there new databases name some = ap is_some (database_of-with_put name new da
 
 -- ---- the rows of a slot
 
-not_over : (limit n : ℕ) → nat_lt limit n ≡ false → n ≤ limit
-not_over limit n is = grind (arith, nat_tests, is)
-
 desktops-within : (sizes : Sizes) → is_over sizes ≡ false → sizes.desktops ≤ 200
 desktops-within sizes is =
     let a = nat_lt most_databases sizes.handhelds in
     let b = nat_lt most_databases sizes.desktops in
     let c = nat_lt most_entries sizes.records
     || (nat_lt most_entries sizes.rows || (nat_lt most_entries sizes.base || nat_lt most_entries sizes.archive)) in
-    not_over most_databases sizes.desktops (left_false b c (right_false a (b || c) is))
+    at_most most_databases sizes.desktops (or_first b c (right_false a (b || c) is))
 
 -- each database that has rows has them on the shelf
 abbrev AreThere : List Task → List DatabaseValue → Type 0

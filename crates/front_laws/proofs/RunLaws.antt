@@ -1,7 +1,7 @@
 -- A run of a device by the requests of acts is that of the acts, with the ids that its new records got.
 use Rattle.std.proofs.lemmas.Grind.{common_steps}
-use Rattle.std.proofs.Common.{arith, ◌≡◌, ◌∙◌, refl, ap, sym, subst, ℕ, zero, suc, Bool, true, false, List, [], ◌∷◌, ◌++◌, length, map, take, ◌==◌}
-use Rattle.std.specs.Prelude.{Option, Ok, IfSome}
+use Rattle.std.proofs.Common.{arith, ◌≡◌, ◌∙◌, refl, ap, sym, subst, ℕ, zero, suc, Bool, true, false, List, [], ◌∷◌, ◌++◌, length, map, take}
+use Rattle.std.specs.Prelude.{Ok}
 use Rattle.std.specs.List.{AllByRecursion, flat_map}
 use Rattle.dlp_args.specs.Fields.{Fields}
 use Rattle.dlp_requests.specs.Forms as form
@@ -13,15 +13,13 @@ use Rattle.dlp_requests.specs.RequestValues.{RequestValue}
 use Rattle.dlp_replies.specs.ReplyValues as reply
 use Rattle.dlp_replies.specs.ReplyValues.{ReplyValue}
 use Rattle.palm_device.specs.Devices.{Device}
-use Rattle.palm_device.specs.Handles.{Base, base_at}
-use Rattle.palm_device.specs.Records.{IsFree}
 use Rattle.dlp_commands.specs.Changes.{asks_by, given_in}
 use Rattle.dlp_commands.specs.DeviceRuns.{Exchange, Ran, exchanged}
 use Rattle.dlp_commands.specs.DeviceSteps.{DeviceStep, FormMayGive, MayGive, MayGiveTo}
 use Rattle.desktop_session.specs.Acts.{Act, acted, text}
 use Rattle.desktop_session.specs.Tellings.{AreSayable, IsTellable, device_after, exchanges, told}
 use Rattle.desktop_session.proofs.ActLaws.{read_back, step_tried, tried_fixed}
-use Rattle.desktop_session.proofs.TellLaws.{acted_proper, acted_reads}
+use Rattle.desktop_session.proofs.TellLaws.{acted_proper, acted_reads, form_gives}
 use Rattle.front_laws.specs.Given.{GetFreeIds, id_in, ids_in}
 use Rattle.front_laws.proofs.AlongLaws.{MayAct, TellIds}
 use Rattle.front_laws.proofs.FitLaws.{Fit}
@@ -68,13 +66,6 @@ relabel-take (suc n) ids (act ∷ acts) = grind (arith, given_to (asks act) ids 
 
 -- ---- a step
 
-never_new : (o : Option Base) (id free : ℕ) → (id == 0) ≡ false → IfSome o (λ base. id ≡ 0 → IsFree free base.database.records)
-never_new o id free other = grind (arith, common_steps)
-
-form_may : (device : Device) (free : ℕ) (f : Form) (fields : Fields (kinds_of f)) → asks_by f fields ≡ false → FormMayGive device free f fields
-form_may device free form.WriteRecord (handle, (flags, (id, more))) none = never_new (base_at device handle) id free none
-form_may device free other fields none = tt
-
 may_from : (device : Device) (free : ℕ) {value : RequestValue} (bytes : List ℕ) → request_at bytes ≡ Ok value → MayGive device bytes free
     → FormMayGive device free value.form value.fields
 unfolding MayGive
@@ -97,7 +88,7 @@ unfolding text acted
 was_fixed old {new} {answer} act fits none step =
     grind (
       arith,
-      form_may old act.given act.asks.form act.asks.fields none,
+      form_gives old act.given act.asks.form act.asks.fields none,
       tried_fixed act.given step.free old act.asks none,
       step_tried old new act.asks answer fits step,
     )

@@ -26,7 +26,6 @@ use Rattle.desktop_session.specs.Requests.{closing, making, opening}
 use Rattle.desktop_session.specs.Tellings.{device_after}
 use Rattle.desktop_session.proofs.ChangeRows.{made_does}
 use Rattle.slow_mirror.specs.News.{as_new, purge_writes, puts}
-use Rattle.slow_mirror.proofs.ReadLaws.{after_append}
 use Rattle.session_plan.specs.Choosing.{choice, seen_held, add_count}
 use Rattle.session_plan.specs.Heads.{made_head}
 use Rattle.session_plan.specs.Merges.{handheld_before, new_database}
@@ -37,6 +36,7 @@ use Rattle.front_laws.specs.Given.{GetFreeIds}
 use Rattle.front_laws.proofs.OpenActs.{all_closed, around, one_open, open_does}
 use Rattle.front_laws.proofs.PutActs.{IsReplacement, adds_do, free-append, free-front, puts-append, replaces_do, replaces-length}
 use Rattle.front_laws.proofs.WriteActs.{IsSorted, MayWrite, holding, holding_own, purges_do}
+use Rattle.desktop_session.proofs.ListLaws.{after_append}
 
 -- a database of a session, as it is before it: one of records that may be written, of whose news each can be put and has room
 pub record IsReady (m : Meeting) (t : Task) : Type 0 where

@@ -1,6 +1,5 @@
 -- What writes make of a handheld whose one open database is under handle 1.
-use Rattle.std.proofs.lemmas.Grind.{common_steps}
-use Rattle.std.proofs.Common.{◌≡◌, ◌∙◌, ◌≤◌, refl, ap, sym, subst, cond, ℕ, Bool, true, false, List, [], ◌∷◌, length, map, arith}
+use Rattle.std.proofs.Common.{◌≡◌, ◌∙◌, ◌≤◌, refl, ap, sym, subst, cond, ℕ, true, false, List, [], ◌∷◌, length, map, arith}
 use Rattle.std.specs.Prelude.{◌||◌, ◌&&◌, not, nat_le, nat_lt, Option, Some, None, Ok, Err}
 use Rattle.std.specs.Option.{option_map}
 use Rattle.std.specs.Str.{bytes_eq}
@@ -30,9 +29,10 @@ use Rattle.desktop_session.specs.Requests.{cleaning, putting, removing, resettin
 use Rattle.desktop_session.specs.Tellings.{device_after, tells, told}
 use Rattle.desktop_session.proofs.RowLaws.{writes_row}
 use Rattle.slow_mirror.specs.News.{purge_writes}
-use Rattle.slow_mirror.proofs.ReadLaws.{after_append}
 use Rattle.record_merge.specs.Writes.{after, purges}
 use Rattle.front_laws.proofs.OpenActs.{one_open}
+use Rattle.slow_mirror.proofs.CarryLaws.{secret_again}
+use Rattle.desktop_session.proofs.ListLaws.{after_append}
 
 -- what is open, over databases of which it has these records
 abbrev pub holding : Opened → DatabaseValue → List DatabaseValue → UserInfo → List Record → Device
@@ -84,9 +84,6 @@ module _ {o : Opened} {d : DatabaseValue} {databases : List DatabaseValue} (may 
       )
 
 -- ---- one put
-
-secret_again : (secret : Bool) → has_bit 0x10 (secret_bit secret) ≡ secret
-secret_again secret = grind (arith, common_steps)
 
 put_written : (free id : ℕ) (content : ContentValue) (rs : List Record) (d : DatabaseValue) → on_records d ≡ true → nat_le id 16777215 ≡ true
     → nat_le content.category 15 ≡ true → (not (is_new id rs) || nat_lt (length rs) 65535) ≡ true

@@ -38,11 +38,11 @@ all-front : {A : Type 0} (P : A → Type 0) (xs ys : List A) → AllByRecursion 
 all-front P [] ys all = tt
 all-front P (x ∷ xs) ys all = (all.0, all-front P xs ys all.1)
 
-all-back : {A : Type 0} (P : A → Type 0) (xs ys : List A) → AllByRecursion P (xs ++ ys) → AllByRecursion P ys
+pub all-back : {A : Type 0} (P : A → Type 0) (xs ys : List A) → AllByRecursion P (xs ++ ys) → AllByRecursion P ys
 all-back P [] ys all = all
 all-back P (x ∷ xs) ys all = all-back P xs ys all.1
 
-map-length : {A B : Type 0} (f : A → B) (xs : List A) → length (map f xs) ≡ length xs
+pub map-length : {A B : Type 0} (f : A → B) (xs : List A) → length (map f xs) ≡ length xs
 map-length f [] = refl
 map-length f (x ∷ xs) = ap suc (map-length f xs)
 
@@ -76,16 +76,16 @@ opened_bounded items few fits =
     (fresh-have (map (λ (item : Record). item.id) items) (let same = map-length (λ (item : Record). item.id) items in omega (arith, same, few))
     (ids_have items fits)) fits)
 
-resources_bounded : (items : List Resource) → AllByRecursion FitsResource items → AreShort (resource_data items) → AllByRecursion IsBoundedResource items
+pub resources_bounded : (items : List Resource) → AllByRecursion FitsResource items → AreShort (resource_data items) → AllByRecursion IsBoundedResource items
 resources_bounded [] fits short = tt
 resources_bounded (item ∷ items) fits short =
     (record { kind = fits.0.kind; id = fits.0.id; short = short.0 }, resources_bounded items fits.1 short.1)
 
-resources_short : (items : List Resource) → AllByRecursion IsBoundedResource items → AllByRecursion IsShortResource items
+pub resources_short : (items : List Resource) → AllByRecursion IsBoundedResource items → AllByRecursion IsShortResource items
 resources_short [] all = tt
 resources_short (item ∷ items) all = (all.0.short, resources_short items all.1)
 
-block_short : (block : Option (List ℕ)) → AreShort (block_list block) → block_length block ≤ 65500
+pub block_short : (block : Option (List ℕ)) → AreShort (block_list block) → block_length block ≤ 65500
 block_short None short = omega arith
 block_short (Some bytes) short = short.0
 
@@ -247,7 +247,7 @@ bounded_on told name old new user user' bounded (inr did) = by (is_database_file
 
 -- ---- a store's databases
 
-ids_are : (ids : List ℕ) → are_ids ids ≡ true → AreIds ids
+pub ids_are : (ids : List ℕ) → are_ids ids ≡ true → AreIds ids
 ids_are [] is = tt
 ids_are (id ∷ ids) is =
     let first = and_parts (not (id == 0)) (not (is_among id ids) && are_ids ids) is in

@@ -9,7 +9,7 @@ use Rattle.std.proofs.lemmas.Bool.Decides.{nat_tests}
 abbrev HasId : ℕ → Type 0
 HasId id = id ≤ 16777215
 
-least_few : (more first : ℕ) (taken : List ℕ) → least_from more first taken ≤ first + more
+pub least_few : (more first : ℕ) (taken : List ℕ) → least_from more first taken ≤ first + more
 unfolding least_from
 least_few zero first taken = omega arith
 least_few (suc more) first taken = grind (arith, common_steps, nat_tests, least_few more (suc first) taken)

@@ -29,6 +29,7 @@ use Rattle.handheld_files.proofs.SettledLaws.{settled_as_opened}
 use Rattle.handheld_files.proofs.StandLaws.{as_opened-head, stand_added, stand_all, stand_missing, stand_none, stand_unread}
 use Rattle.std.proofs.lemmas.Grind.{common_steps}
 use Rattle.std.proofs.lemmas.Bool.Decides.{nat_tests}
+use Rattle.hs_folders.proofs.CauseLaws.{same_fault}
 
 -- the databases of files of these names
 pub record KeptSoFar (names : List (List ℕ)) (databases : List DatabaseValue) : Type 0 where
@@ -166,12 +167,6 @@ pub OnlyRead-trans : {F : Type 0} (contents : F → Option FileMap) (moments : F
 OnlyRead-trans contents moments paths faults old mid new first = search (rules)
 
 -- ---- causes
-
-pub ok_is_no_fault : {A E : Type 0} (x : A) (fault : E) → IsErrOf (Ok x) fault → ⊥
-ok_is_no_fault x fault is = cc
-
-same_fault : {A E : Type 0} (fault other : E) → IsErrOf {T = A} (Err fault) other → fault ≡ other
-same_fault fault other is = cc
 
 -- a call that was refused passes its cause on
 pub cause_on : {A B E : Type 0} (before mid now : ℕ) (fault other : E) → mid ≡ before → HasCause mid now (IsErrOf {T = A} (Err fault) other)

@@ -18,7 +18,7 @@ pub clash : (b : Bool) → b ≡ true → b ≡ false → ⊥
 clash true h k = absurd cc
 clash false h k = absurd cc
 
-own_id : (id : ℕ) → (id == id) ≡ true
+pub own_id : (id : ℕ) → (id == id) ≡ true
 own_id id = grind (arith, nat_tests)
 
 not_zero : (id : ℕ) → 1 ≤ id → not (id == 0) ≡ true
@@ -76,7 +76,7 @@ unfolding upto
 length-upto zero = refl
 length-upto (suc n) = let rest = length-upto n in omega arith
 
-turned : (a b : ℕ) → (a == b) ≡ (b == a)
+pub turned : (a b : ℕ) → (a == b) ≡ (b == a)
 turned a b = grind (arith, nat_tests)
 
 pub among_member : (q : ℕ) (xs : List ℕ) → is_among q xs ≡ list_any (nat_eq q) xs

@@ -56,24 +56,24 @@ stand_same files files' databases user same stands = subst (λ f. StandFor f dat
 pub stand_none : (held : FileMap) → StandFor (among [] held) [] no_user
 stand_none held = search (rules)
 
-more_of : (a b : Bool) (found : Option (List ℕ)) → cond (a || (b || false)) found None ≡ cond b found (cond a found None)
+pub more_of : (a b : Bool) (found : Option (List ℕ)) → cond (a || (b || false)) found None ≡ cond b found (cond a found None)
 more_of true true found = refl
 more_of true false found = refl
 more_of false true found = refl
 more_of false false found = refl
 
 -- one more file
-among-next : (before : List (List ℕ)) (name : List ℕ) (held : FileMap) (q : List ℕ)
+pub among-next : (before : List (List ℕ)) (name : List ℕ) (held : FileMap) (q : List ℕ)
     → among (before ++ name ∷ []) held q ≡ cond (bytes_eq q name) (finmap.get held q) (among before held q)
 among-next before name held q = ap (λ b. cond b (finmap.get held q) None) (list_any-append (bytes_eq q) before (name ∷ []))
     ∙ more_of (list_any (bytes_eq q) before) (bytes_eq q name) (finmap.get held q)
 
-stays_found : (a b : Bool) (found : Option (List ℕ)) (bytes : List ℕ) → cond a found None ≡ Some bytes → cond b found (cond a found None) ≡ Some bytes
+pub stays_found : (a b : Bool) (found : Option (List ℕ)) (bytes : List ℕ) → cond a found None ≡ Some bytes → cond b found (cond a found None) ≡ Some bytes
 stays_found true true found bytes h = h
 stays_found true false found bytes h = h
 stays_found false b found bytes h = absurd cc
 
-among-more : (before : List (List ℕ)) (name : List ℕ) (held : FileMap) (q bytes : List ℕ) → among before held q ≡ Some bytes
+pub among-more : (before : List (List ℕ)) (name : List ℕ) (held : FileMap) (q bytes : List ℕ) → among before held q ≡ Some bytes
     → among (before ++ name ∷ []) held q ≡ Some bytes
 among-more before name held q bytes found = among-next before name held q
     ∙ stays_found (list_any (bytes_eq q) before) (bytes_eq q name) (finmap.get held q) bytes found
@@ -84,16 +84,16 @@ has_more : (before : List (List ℕ)) (name : List ℕ) (held : FileMap) (databa
 has_more before name held database has = search (rules, among-more)
 
 -- another name's file is as before
-among-other : (before : List (List ℕ)) (name : List ℕ) (held : FileMap) (q : List ℕ) → bytes_eq q name ≡ false
+pub among-other : (before : List (List ℕ)) (name : List ℕ) (held : FileMap) (q : List ℕ) → bytes_eq q name ≡ false
     → among (before ++ name ∷ []) held q ≡ among before held q
 among-other before name held q other = among-next before name held q ∙ rw other refl
 
-among-this : (before : List (List ℕ)) (name : List ℕ) (held : FileMap) → among (before ++ name ∷ []) held name ≡ finmap.get held name
+pub among-this : (before : List (List ℕ)) (name : List ℕ) (held : FileMap) → among (before ++ name ∷ []) held name ≡ finmap.get held name
 among-this before name held = among-next before name held name ∙ rw (bytes_eq-own name) refl
 
 -- ---- a file that is passed over
 
-none_stays : (a b : Bool) (found : Option (List ℕ)) → (b ≡ true → found ≡ None) → cond a found None ≡ cond b found (cond a found None)
+pub none_stays : (a b : Bool) (found : Option (List ℕ)) → (b ≡ true → found ≡ None) → cond a found None ≡ cond b found (cond a found None)
 none_stays true true found none = refl
 none_stays false true found none = sym (none refl)
 none_stays a false found none = refl
@@ -112,7 +112,7 @@ differs q name test a b qa nb unlike = elim (bytes_eq q name) as (λ e. bytes_eq
   | false ↦ λ e. refl
 ] refl
 
-true_no_false : true ≡ false → ⊥
+pub true_no_false : true ≡ false → ⊥
 true_no_false h = absurd cc
 
 pub stand_unread : (held : FileMap) (before : List (List ℕ)) (name : List ℕ) (databases : List DatabaseValue) (user : UserInfo) → is_handheld_file name ≡ false
@@ -144,7 +144,7 @@ stand_info held before bytes databases user user' there file stands =
 
 -- ---- a file of a database
 
-held_still : (name : List ℕ) (new old : DatabaseValue) (databases : List DatabaseValue) → database_of new.head.name databases ≡ None
+pub held_still : (name : List ℕ) (new old : DatabaseValue) (databases : List DatabaseValue) → database_of new.head.name databases ≡ None
     → database_of name databases ≡ Some old → database_of name (with_new new databases) ≡ Some old
 held_still name new old databases none found =
     database_of-with_new name new databases none

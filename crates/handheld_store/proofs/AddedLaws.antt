@@ -10,7 +10,7 @@ use Rattle.palm_device.specs.Soundness.{ids_of}
 use Rattle.handheld_store.specs.Indexes.{AreIndexes, HasOneMore, IsIndexIn, is_of}
 use Rattle.handheld_store.specs.declared.index.Index.{Index}
 use Rattle.handheld_store.proofs.IndexLaws.{found, insert_by}
-use Rattle.handheld_store.proofs.ListLaws.{get_some}
+use Rattle.handheld_files.proofs.FreshLaws.{get_some}
 
 -- one of the indexes is taken out
 pub AreIndexes-remove : (databases : List DatabaseValue) (indexes : List Index) (place : ℕ)

@@ -5,7 +5,7 @@ use Rattle.std.specs.Prelude.{IfSome, find}
 use Rattle.std.specs.List.{list_any}
 use Rattle.std.specs.Str.{bytes_eq}
 use Rattle.std.proofs.lemmas.Bool.{eqb-true}
-use Rattle.std.proofs.lemmas.List.{map-append, take_more}
+use Rattle.std.proofs.lemmas.List.{map-append}
 use Rattle.pdb_values.specs.Databases.{DatabaseValue}
 use Rattle.pdb_values.specs.NamedDatabases.{NamesRise, database_of, replaced, with_new, without_named}
 use Rattle.pdb_values.specs.declared.record.Record.{Record}
@@ -16,16 +16,14 @@ use Rattle.palm_device.specs.Soundness.{ids_of}
 use Rattle.indexmap.specs.IndexSet.{insert_key}
 use Rattle.handheld_store.specs.Indexes.{AreIndexes, AreOthers, IsIndexIn, is_of}
 use Rattle.handheld_store.specs.declared.index.Index.{Index}
+use Rattle.handheld_files.proofs.KeptLaws.{take_next_at}
 
 -- ---- the ids of records
-
-take_next : {X : Type 0} (xs : List X) (k : ℕ) (x : X) → k < length xs → x ≡ get_or xs k x → take (suc k) xs ≡ take k xs ++ x ∷ []
-take_next xs k x within here = rw (← add-one, here) (take_more xs k x within)
 
 -- the ids of the next record and those before it
 pub ids_next : (items : List Record) (k : ℕ) (item : Record)
     → k < length items → item ≡ get_or items k item → ids_of (take (suc k) items) ≡ ids_of (take k items) ++ item.id ∷ []
-ids_next items k item within here = ap ids_of (take_next items k item within here) ∙ map-append (λ (item : Record). item.id) (take k items) (item ∷ [])
+ids_next items k item within here = ap ids_of (take_next_at items k item within here) ∙ map-append (λ (item : Record). item.id) (take k items) (item ∷ [])
 
 pub insert_by : (ids : List ℕ) (id : ℕ) (b : Bool) → not b ≡ true → cond b ids (ids ++ id ∷ []) ≡ ids ++ id ∷ []
 insert_by ids id true new = absurd cc

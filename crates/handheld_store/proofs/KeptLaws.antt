@@ -21,7 +21,7 @@ use Rattle.handheld_files.specs.Settled.{are_settled}
 use Rattle.handheld_files.proofs.ChangeLaws as change
 use Rattle.handheld_files.proofs.ChangeLaws.{stands_put}
 use Rattle.handheld_store.specs.Files.{Follows}
-use Rattle.handheld_store.proofs.ListLaws.{get_some}
+use Rattle.handheld_files.proofs.FreshLaws.{get_some}
 
 abbrev is_settled : DatabaseValue → Type 0
 is_settled database = are_settled database.records ≡ true

@@ -23,6 +23,8 @@ use Rattle.handheld_store.specs.Ids.{GivesGoodId, IsTakenOrFree}
 use Rattle.handheld_store.specs.Lents.{flagged, moved_to}
 use Rattle.handheld_store.proofs.IdLaws.{place_among}
 use Rattle.handheld_store.proofs.ListLaws.{map-set}
+use Rattle.std.proofs.lemmas.Bool.{or_parts}
+use Rattle.folder_files.proofs.SlotLaws.{not_true}
 
 and_is : (a b : Bool) → (a && b) ≡ true → (a ≡ true) × (b ≡ true)
 and_is true b h = (refl, h)
@@ -31,16 +33,8 @@ and_is false b h = absurd cc
 both : {a b : Bool} → a ≡ true → b ≡ true → (a && b) ≡ true
 both h k = rw (h, k) refl
 
-or_none : (a b : Bool) → (a || b) ≡ false → (a ≡ false) × (b ≡ false)
-or_none true b h = absurd cc
-or_none false b h = (refl, h)
-
 neither : {a b : Bool} → a ≡ false → b ≡ false → (a || b) ≡ false
 neither h k = rw (h, k) refl
-
-not_is : (a : Bool) → not a ≡ true → a ≡ false
-not_is true h = absurd cc
-not_is false h = refl
 
 is_not : {a : Bool} → a ≡ false → not a ≡ true
 is_not h = rw h refl
@@ -94,7 +88,7 @@ among_without : (test : Record → Bool) (id : ℕ) (items : List Record)
 unfolding without_entry
 among_without test id [] none = none
 among_without test id (item ∷ items) none =
-    let parts = or_none _ _ none in
+    let parts = or_parts _ _ none in
     elim (test item) as (λ b. is_among id (map (λ item. item.id) (cond b items (item ∷ without_entry test items))) ≡ false) [
       | true ↦ parts.1
       | false ↦ neither parts.0 (among_without test id items parts.1)
@@ -104,7 +98,7 @@ among_filter : (keep : Record → Bool) (id : ℕ) (items : List Record)
     → is_among id (map (λ item. item.id) items) ≡ false → is_among id (map (λ item. item.id) (filter keep items)) ≡ false
 among_filter keep id [] none = none
 among_filter keep id (item ∷ items) none =
-    let parts = or_none _ _ none in
+    let parts = or_parts _ _ none in
     let rest = among_filter keep id items parts.1 in
     elim (keep item) as (λ b. is_among id (map (λ item. item.id) (cond b (item ∷ filter keep items) (filter keep items))) ≡ false) [
       | true ↦ neither parts.0 rest
@@ -120,7 +114,7 @@ ids_without test (item ∷ items) are =
     let more = and_is _ _ parts.1 in
     elim (test item) as (λ b. are_ids (map (λ item. item.id) (cond b items (item ∷ without_entry test items))) ≡ true) [
       | true ↦ more.1
-      | false ↦ both parts.0 (both (is_not (among_without test item.id items (not_is _ more.0))) (ids_without test items more.1))
+      | false ↦ both parts.0 (both (is_not (among_without test item.id items (not_true _ more.0))) (ids_without test items more.1))
     ]
 
 ids_filter : (keep : Record → Bool) (items : List Record)
@@ -131,7 +125,7 @@ ids_filter keep (item ∷ items) are =
     let more = and_is _ _ parts.1 in
     let rest = ids_filter keep items more.1 in
     elim (keep item) as (λ b. are_ids (map (λ item. item.id) (cond b (item ∷ filter keep items) (filter keep items))) ≡ true) [
-      | true ↦ both parts.0 (both (is_not (among_filter keep item.id items (not_is _ more.0))) rest)
+      | true ↦ both parts.0 (both (is_not (among_filter keep item.id items (not_true _ more.0))) rest)
       | false ↦ rest
     ]
 
@@ -165,9 +159,9 @@ ids_more [] id are some none = both some refl
 ids_more (first ∷ ids) id are some none =
     let parts = and_is _ _ are in
     let more = and_is _ _ parts.1 in
-    let apart = or_none _ _ none in
+    let apart = or_parts _ _ none in
     let turned : (id == first) ≡ (first == id) = grind (arith, nat_tests) in
-    let alone = list_any-append (λ other. other == first) ids (id ∷ []) ∙ neither (not_is _ more.0) (neither (turned ∙ apart.0) refl) in
+    let alone = list_any-append (λ other. other == first) ids (id ∷ []) ∙ neither (not_true _ more.0) (neither (turned ∙ apart.0) refl) in
     both parts.0 (both (is_not alone) (ids_more ids id more.1 some apart.1))
 
 settled_more : (items : List Record) (id : ℕ) (content : ContentValue) → are_settled items ≡ true

@@ -21,7 +21,7 @@ use std::mem;
 
 /// Writes a record of a database in its place, or behind the others, and the database's file. Nothing
 /// is written where that makes no other database. After a refusal the database is as before.
-#[tactic(auto, using(palm_device::proofs::RecordLaws::put_record_at, palm_device::proofs::RecordLaws::put_record_new, crate::proofs::ListLaws::get_some))]
+#[tactic(auto, using(palm_device::proofs::RecordLaws::put_record_at, palm_device::proofs::RecordLaws::put_record_new, handheld_files::proofs::FreshLaws::get_some))]
 pub fn write_record<F: Folder>(
     alloc: Global,
     folder: &mut F,

@@ -1,14 +1,12 @@
 -- The database of the parts of a file is the file's.
-use Rattle.std.proofs.Common.{◌≡◌, ◌∙◌, ℕ, zero, suc, ◌+◌, ◌*◌, ◌%◌, ◌^◌, ◌<◌, ◌≤◌, ◌==◌, ◌&&◌, eqb, nat_le, Bool, true, false, List, [], ◌∷◌, ◌++◌, length, take, drop, map}
+use Rattle.std.proofs.Common.{◌≡◌, ◌∙◌, ℕ, zero, suc, ◌+◌, ◌*◌, ◌^◌, ◌<◌, ◌≤◌, ◌==◌, ◌&&◌, eqb, nat_le, Bool, true, false, List, [], ◌∷◌, ◌++◌, length, take, drop, map}
 use Rattle.std.proofs.Common.{cond, refl, sym, ap, append_assoc, append-nil, arith, get_or, slice_get, rules, subst}
 use Rattle.std.specs.Prelude.{Option, Some, None, All, is_none}
 use Rattle.std.specs.Option.{option_map}
 use Rattle.std.specs.List.{AllByRecursion, concat, list_all}
-use Rattle.std.proofs.lemmas.Bool.{cases_lt}
-use Rattle.std.proofs.Common.{inl, inr}
 use Rattle.std.proofs.lemmas.Bool.Decides.{nat_tests}
 use Rattle.std.proofs.lemmas.Grind.{common_steps}
-use Rattle.std.proofs.lemmas.List.{take_at, drop_at, drop_all, length-append, get_or_past}
+use Rattle.std.proofs.lemmas.List.{take_at, drop_at, drop_all, length-append}
 use Rattle.byteorder.specs.Endian.{big_bytes, big_number}
 use Rattle.pdb_values.specs.Blocks.{block_length}
 use Rattle.pdb_values.specs.Databases.{DatabaseValue}
@@ -19,18 +17,21 @@ use Rattle.pdb_values.specs.declared.head.DbHead.{DbHead}
 use Rattle.pdb_values.specs.declared.record.Record.{Record}
 use Rattle.pdb_values.specs.declared.resource.Resource.{Resource}
 use Rattle.pdb_files.specs.Blocks.{AreShort, begins_from, block_list, block_offset}
-use Rattle.pdb_files.specs.Entries.{attributes_of, bit_where, record_data, resource_data, resource_entries, resource_entry as resource_text}
+use Rattle.pdb_files.specs.Entries.{bit_where, record_data, resource_data, resource_entries, resource_entry as resource_text}
 use Rattle.pdb_files.specs.Fields.{number_at}
 use Rattle.pdb_files.specs.Files.{FitsRecord, FitsResource, IsFileText, app_begin, canonical, data_begin, data_of, entries_text, entry_count, file_text, has_resources}
 use Rattle.pdb_files.specs.Files.{sort_begin}
 use Rattle.pdb_files.specs.Headers.{header_text}
-use Rattle.pdb_files.specs.Reading.{has_bit, record_of}
+use Rattle.pdb_files.specs.Reading.{record_of}
 use Rattle.pdb_files.proofs.Numbers.{IsBytes, cut_number}
 use Rattle.hotsync_c.specs.Building.{IsBuilt, are_parts, block_in, database_in, front_length, front_size, has_front, has_head, head_in, is_block, is_cut, is_entry}
 use Rattle.hotsync_c.specs.Building.{is_name, is_record_entry, is_resource_entry, items_in, record_in, resource_in}
 use Rattle.hotsync_c.specs.Parts.{absent_size, block_bytes, block_size, bytes_at, code_number, entries_of, entry_at, front_of, head_of, packed_of, record_entry}
 use Rattle.hotsync_c.specs.Parts.{resource_entry}
 use Rattle.hotsync_c.specs.declared.parts.HsEntry.{HsEntry}
+use Rattle.pdb_files.proofs.EntryLaws.{bits_back}
+use Rattle.pdb_files.proofs.FileLaws.{bytes_from_all}
+use Rattle.handheld_files.proofs.BoundLaws.{map-length, block_short}
 
 -- ---- bytes
 
@@ -42,13 +43,6 @@ bytes-front (x ∷ xs) ys h (suc i) = bytes-front xs ys (λ k. h (suc k)) i
 bytes-back : (xs ys : List ℕ) → IsBytes (xs ++ ys) → IsBytes ys
 bytes-back [] ys h = h
 bytes-back (x ∷ xs) ys h = bytes-back xs ys (λ k. h (suc k))
-
-all_bytes : (bytes : List ℕ) → All (λ byte. byte < 256) bytes → IsBytes bytes
-all_bytes bytes each i =
-    elim (cases_lt i (length bytes)) [
-      | inl lt ↦ each i 0 lt
-      | inr past ↦ rw (get_or_past bytes i 0 past) (omega arith)
-    ]
 
 -- four bytes are those of their number
 code_again : (code : FourCc) → length code.0 ≡ 4 → IsBytes code.0 → big_bytes 4 (code_number code) ≡ code.0
@@ -88,12 +82,6 @@ weighed false weight = (omega arith, omega arith)
 is_one : (flag : Bool) (number : ℕ) → number ≡ flag_of flag → eqb number 1 ≡ flag
 is_one true number e = rw e refl
 is_one false number e = rw e refl
-
-bits_back : (item : Record) → item.content.category < 16
-    → (has_bit 128 (attributes_of item) ≡ item.deleted)
-    × (has_bit 64 (attributes_of item) ≡ item.dirty) × (has_bit 32 (attributes_of item) ≡ item.busy) × (has_bit 16 (attributes_of item) ≡ item.content.secret)
-    × (attributes_of item % 16 ≡ item.content.category) × (attributes_of item < 256)
-bits_back item small = grind (arith, weighed, is_one)
 
 record_again : (item : Record) → FitsRecord item → record_in (record_entry item) item.content.bytes ≡ item
 unfolding record_in record_of
@@ -158,10 +146,6 @@ short-front (x ∷ xs) ys all = (all.0, short-front xs ys all.1)
 short-back : (xs ys : List (List ℕ)) → AreShort (xs ++ ys) → AreShort ys
 short-back [] ys all = all
 short-back (x ∷ xs) ys all = short-back xs ys all.1
-
-block_short : (block : Option (List ℕ)) → AreShort (block_list block) → block_length block ≤ 65500
-block_short None short = omega arith
-block_short (Some bytes) short = short.0
 
 record GoodRecord (item : Record) : Type 0 where
   fits : FitsRecord item
@@ -299,10 +283,6 @@ record Entries (database : DatabaseValue) : Type 0 where
   records : cond (holds_resources database.head.attributes) [] (items_in record_in (entries_of database) (concat (data_of database))) ≡ database.records
   resources : cond (holds_resources database.head.attributes) (items_in resource_in (entries_of database) (concat (data_of database))) [] ≡ database.resources
 
-map-count : {A B : Type 0} (f : A → B) (xs : List A) → length (map f xs) ≡ length xs
-map-count f [] = refl
-map-count f (x ∷ xs) = ap suc (map-count f xs)
-
 entries_by : (database : DatabaseValue) (b : Bool) → holds_resources database.head.attributes ≡ b → (b ≡ true → database.records ≡ [])
     → (b ≡ false → database.resources ≡ []) → IsGood database → Entries database
 entries_by database true is no_records no_resources good =
@@ -312,7 +292,7 @@ entries_by database true is no_records no_resources good =
           (λ item has. resource_again item has.fits has.bytes) (λ item has. resource_fits item has.fits has.short) database.resources good.resources);
       cut = rw is (items-cut resource_entry contents resource_in GoodResource is_resource_entry (λ item. refl)
           (λ item has. resource_again item has.fits has.bytes) (λ item has. resource_fits item has.fits has.short) database.resources);
-      few = rw is (map-count resource_entry database.resources);
+      few = rw is (map-length resource_entry database.resources);
       records = rw is (sym (no_records refl));
       resources = rw is (items-again resource_entry contents resource_in GoodResource is_resource_entry (λ item. refl)
           (λ item has. resource_again item has.fits has.bytes) (λ item has. resource_fits item has.fits has.short) database.resources good.resources);
@@ -324,7 +304,7 @@ entries_by database false is no_records no_resources good =
           (λ item has. record_again item has.fits) (λ item has. record_fits item has.fits has.short) database.records good.records);
       cut = rw is (items-cut record_entry contents record_in GoodRecord is_record_entry (λ item. refl)
           (λ item has. record_again item has.fits) (λ item has. record_fits item has.fits has.short) database.records);
-      few = rw is (map-count record_entry database.records);
+      few = rw is (map-length record_entry database.records);
       records = rw is (items-again record_entry contents record_in GoodRecord is_record_entry (λ item. refl)
           (λ item has. record_again item has.fits) (λ item has. record_fits item has.fits has.short) database.records good.records);
       resources = rw is (sym (no_resources refl));
@@ -405,7 +385,7 @@ parts_same database bytes text good entries =
 pub build-parts : (bytes : List ℕ) (database : DatabaseValue) → All (λ byte. byte < 256) bytes → IsFileText database bytes
     → IsBuilt (head_of database) (entries_of database) (packed_of database) (canonical database)
 build-parts bytes database each text =
-    let good = good_file bytes database (all_bytes bytes each) text in
+    let good = good_file bytes database (bytes_from_all bytes each) text in
     let entries = entries_by database (holds_resources database.head.attributes) refl text.no_records text.no_resources good in
     record {
       fit = parts_are database bytes text good entries;

@@ -5,8 +5,8 @@ use Rattle.std.specs.Prelude.{not, nat_lt}
 use Rattle.std.specs.List.{AllByRecursion}
 use Rattle.std.proofs.lemmas.Bool.Decides.{nat_tests}
 use Rattle.pdb_values.specs.Stems.{hex_digit}
-use Rattle.run_words.specs.StemNames.{digit_number}
 use Rattle.hotsync_looks.specs.PrintedNames.{begins_escape, escape_of, is_escaped, is_printable, printed_byte, printed_name, stands_alone}
+use Rattle.run_words.proofs.ActionLaws.{digit_number-hex_digit}
 
 -- what stands for a byte: itself, or its escape
 abbrev written : Bool → ℕ → List ℕ
@@ -40,9 +40,6 @@ begins_with [] e other = let none = sym printed_name-nil ∙ e in cc
 begins_with (x ∷ xs) {h} e other =
     let parts = head_written (stands_alone x xs) x (printed_name xs) (sym (printed_name-written x xs) ∙ e) other in
     record { more = xs; is = ap (λ y. y ∷ xs) parts.0; printed = parts.1 }
-
-digit_number-hex_digit : (n : ℕ) → n < 16 → digit_number (hex_digit n) ≡ n
-digit_number-hex_digit n e = grind (arith, nat_tests, e)
 
 hex_digit-other : (n : ℕ) → (hex_digit n == 37) ≡ false
 hex_digit-other n = grind (arith, nat_tests)

@@ -3,7 +3,7 @@ use Rattle.std.proofs.lemmas.Grind.{flat_map-append}
 use Rattle.std.proofs.lemmas.List.{length-append, map-append, take-append-drop}
 use Rattle.std.proofs.lemmas.List.Elements.{filter-append}
 use Rattle.std.proofs.Common.{◌≡◌, ◌≢◌, ◌∙◌, ◌<◌, ◌≤◌, ◌+◌, ap, append_assoc, refl, sym, arith, ℕ, zero, suc, Bool, true, false, List, [], ◌∷◌, ◌++◌, drop, length, take}
-use Rattle.std.specs.Prelude.{filter, map, max, if◌then◌else◌}
+use Rattle.std.specs.Prelude.{filter, map, max}
 use Rattle.std.specs.List.{flat_map}
 use Rattle.pdb_values.specs.Databases.{DatabaseValue}
 use Rattle.pdb_values.specs.Heads.{holds_resources}
@@ -11,7 +11,6 @@ use Rattle.palm_device.specs.Blocks.{entry_count}
 use Rattle.palm_device.specs.Devices.{Device}
 use Rattle.dlp_commands.specs.Changes.{changes, is_change}
 use Rattle.dlp_commands.specs.DeviceSteps.{function_number}
-use Rattle.dlp_commands.proofs.StepLaws.{changes-text}
 use Rattle.desktop_session.specs.Acts.{Act, text}
 use Rattle.desktop_session.specs.Lists.{listings}
 use Rattle.desktop_session.specs.Requests.{beginning, closing, counting, ending, listing, opening_to_read, reading_app, reading_at, reading_resource, reading_sort, reading_user}
@@ -23,6 +22,8 @@ use Rattle.install_backup.specs.BackupActs.{backup_acts, backup_of, each_read, e
 use Rattle.install_backup.specs.BackupEnds.{backup_front, next_of}
 use Rattle.hotsync_run.proofs.EndLaws.{prefix-count}
 use Rattle.hotsync_run.proofs.QuietRuns.{IsKept, quiet-run}
+use Rattle.category_mirror.proofs.AlongLaws.{changes-act}
+use Rattle.sync_session.proofs.QuietLaws.{keeps as passed}
 
 -- ---- how far it came
 
@@ -91,14 +92,6 @@ some-acts device = omega arith
 
 -- ---- it writes nothing
 
-changes-act : (one : Act) → changes (text one) ≡ is_change (function_number one.asks)
-unfolding text
-changes-act one = changes-text one.asks
-
-passed : (b : Bool) (x : List ℕ) (xs : List (List ℕ)) → b ≡ false → (if b then x ∷ xs else xs) ≡ xs
-passed true x xs is = absurd cc
-passed false x xs is = refl
-
 quiet-one : (one : Act) (acts : List Act) → is_change (function_number one.asks) ≡ false → AreQuiet acts → AreQuiet (one ∷ acts)
 quiet-one one acts is rest = passed (changes (text one)) (text one) (filter changes (map text acts)) (changes-act one ∙ is) ∙ rest
 
@@ -147,7 +140,7 @@ quiet-acts device =
     (quiet-listings (max 1 (length device.databases)))
     (quiet-both (flat_map backup_of device.databases) (ending ∷ []) (quiet-databases device.databases) (quiet-one ending [] refl refl)))
 
-none-of : (requests : List (List ℕ)) → length requests ≤ 0 → requests ≡ []
+pub none-of : (requests : List (List ℕ)) → length requests ≤ 0 → requests ≡ []
 none-of [] few = refl
 none-of (x ∷ requests) few = absurd (omega (arith, few))
 

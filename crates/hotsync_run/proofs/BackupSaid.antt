@@ -1,7 +1,7 @@
 -- What the answer of a session that backs a handheld up says of its requests, and of its files.
 use Rattle.std.proofs.lemmas.Grind.{common_steps}
 use Rattle.std.proofs.lemmas.Bool.{and_parts}
-use Rattle.std.proofs.Common.{◌≡◌, ◌⊎◌, ◌∙◌, ◌≤◌, ap, arith, inl, inr, refl, subst, sym, ℕ, zero, suc, not, Bool, true, false, List, [], ◌∷◌, ◌++◌, length, take}
+use Rattle.std.proofs.Common.{◌≡◌, ◌⊎◌, ◌∙◌, ◌≤◌, ap, arith, inl, inr, refl, subst, sym, ℕ, zero, suc, not, true, List, [], ◌∷◌, ◌++◌, length, take}
 use Rattle.std.specs.Prelude.{IfErr, IfOk, IsErrOf, OnOk, Option, Some, Result, Ok, Err, map}
 use Rattle.std.specs.Global.{Vec}
 use Rattle.std.specs.List.{AllByRecursion, list_all}
@@ -43,29 +43,20 @@ use Rattle.hotsync_run.proofs.EndLaws.{acts-count, exchanged-length, told_all}
 use Rattle.hotsync_run.proofs.WholeLaws.{SaidOf, SaidShort, SaidWhole}
 use Rattle.hotsync_looks.specs.declared.status.Status.{Status}
 use Rattle.hotsync_looks.specs.declared.status.Status.TheVariants.{NoMemory}
+use Rattle.install_backup.proofs.UnmarkedLaws.{all_idle}
+use Rattle.hotsync_run.proofs.InstallSaid.{never_down}
 
 -- ---- each database is read as it is, without its seed
 
 abbrev pub AreRead : Device → List DatabaseValue → Type 0
 AreRead device databases = AllByRecursion (λ (d : DatabaseValue). read_of device d ≡ backed_up d) databases
 
-none_busy : (items : List Record) → list_all (λ (item : Record). not item.busy) items ≡ true
-    → AllByRecursion (λ (item : Record). item.busy ≡ false) items
-none_busy [] all = tt
-none_busy (item ∷ items) all =
-    let parts = and_parts (not item.busy) (list_all (λ (item : Record). not item.busy) items) all in
-    (idle item.busy parts.0, none_busy items parts.1)
-  where
-    idle : (b : Bool) → not b ≡ true → b ≡ false
-    idle true is = absurd cc
-    idle false is = refl
-
 reads_each : (device : Device) (databases : List DatabaseValue) → IsAtRest device → AreHeld device.databases databases
     → AllByRecursion (λ (d : DatabaseValue). are_settled d.records ≡ true) databases → AreRead device databases
 reads_each device [] rests held settled = tt
 reads_each device (database ∷ databases) rests held settled =
     let parts = and_parts (list_all (λ (item : Record). not item.busy) database.records) (are_ids (map (λ (item : Record). item.id) database.records)) settled.0 in
-    (copies-are device rests database held.0 (none_busy database.records parts.0), reads_each device databases rests held.1 settled.1)
+    (copies-are device rests database held.0 (all_idle database.records parts.0), reads_each device databases rests held.1 settled.1)
 
 pub all_read : (device : Device) → IsAtRest device → AreKept device.databases → AreRead device device.databases
 all_read device rests kept = reads_each device device.databases rests (held_all device.databases kept.order) kept.settled
@@ -135,9 +126,6 @@ module _ {F : Type 0} (fault : WorldValue F → Option LinkFault) (device : Devi
   cause_told (Err other) (Err why) cause told = subst (IsBackupCause (λ (world : WorldValue F). Some (world_talk world)) fault new) (sym told) cause
 
 -- ---- what was said
-
-never_down : (cause : Option Down) → StopsAnswered (down_status cause) → ⊥
-never_down cause is = grind (arith, common_steps)
 
 module _ {F : Type 0} (fault : WorldValue F → Option LinkFault) (device : Device) (kept later : List DatabaseValue) (old new : WorldValue F)
     (cause : Option Down) where

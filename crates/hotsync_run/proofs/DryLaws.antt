@@ -51,7 +51,7 @@ never_rose limit base some rose = grind (arith, common_steps)
 rose_none : (base count : ℕ) → count ≡ 0 → Rose base count → ⊥
 rose_none base count none rose = never_rose (2 ^ 64 - 1) base (omega arith) (subst (λ (n : ℕ). min (base + 1) (2 ^ 64 - 1) ≤ n) none rose)
 
-none_is_some : {A : Type 0} {a : A} → None ≡ Some a → ⊥
+pub none_is_some : {A : Type 0} {a : A} → None ≡ Some a → ⊥
 none_is_some e = cc
 
 -- a copy that was opened at one path at most and failed is that of a folder that failed
@@ -65,7 +65,7 @@ copy_blamed before now base count path first last (inl told) (inr new) (inl none
 
 -- ---- whatever is printed of it
 
-still_blames : {before after : CallTold} {status : Status} (printed : Status) → IsPrintedStatus status printed → BlamesByCount before after status
+pub still_blames : {before after : CallTold} {status : Status} (printed : Status) → IsPrintedStatus status printed → BlamesByCount before after status
     → BlamesByCount before after printed
 still_blames {before} {after} printed (inl same) blames = subst (λ (s : Status). BlamesByCount before after s) (sym same) blames
 still_blames {before} {after} printed (inr (inl memory)) blames = subst (λ (s : Status). BlamesByCount before after s) (sym memory) (record {

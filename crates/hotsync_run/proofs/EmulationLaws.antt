@@ -37,6 +37,7 @@ use Rattle.hotsync_run.specs.declared.report.Report.{Report}
 use Rattle.hotsync_run.proofs.RefusedRuns.{handheld_alone, trace_alone}
 use Rattle.hotsync_run.proofs.UndisturbedLaws.{BlamesNone, failed_handheld, judged_handheld}
 use Rattle.folder_copies.proofs.CopyLaws.{rose_before}
+use Rattle.hotsync_run.proofs.DryLaws.{still_blames}
 
 -- ---- a talk
 
@@ -294,24 +295,6 @@ twice_printed first second third (inl same) (inr (inr unsaid)) = inr (inr (sym s
 twice_printed first second third (inr (inl memory)) (inr (inr unsaid)) = let no : NoMemory ≡ Done = sym memory ∙ unsaid.0 in cc
 twice_printed first second third (inr (inr said)) (inr (inr unsaid)) = let no : OutWrite ≡ Done = sym said.1 ∙ unsaid.0 in cc
 
-blames_printed : {before after : CallTold} {status : Status} (printed : Status) → IsPrintedStatus status printed → BlamesByCount before after status
-    → BlamesByCount before after printed
-blames_printed {before} {after} printed (inl same) blames = subst (λ (s : Status). BlamesByCount before after s) (sym same) blames
-blames_printed {before} {after} printed (inr (inl memory)) blames = subst (λ (s : Status). BlamesByCount before after s) (sym memory) (record {
-  source = λ e. cc;
-  folders = record { handheld = λ e. cc; desktop = λ e. cc };
-  handheld_in_use = λ e. cc;
-  desktop_in_use = λ e. cc;
-  trace = λ e. cc;
-})
-blames_printed {before} {after} printed (inr (inr unsaid)) blames = subst (λ (s : Status). BlamesByCount before after s) (sym unsaid.1) (record {
-  source = λ e. cc;
-  folders = record { handheld = λ e. cc; desktop = λ e. cc };
-  handheld_in_use = λ e. cc;
-  desktop_in_use = λ e. cc;
-  trace = λ e. cc;
-})
-
 module _ {capture : Capture} {before after : CallTold} {status : Status} {report : Report} where
   nothing_memory : SaidNothing capture before after status report → SaidNothing capture before after NoMemory report
   nothing_memory nothing = record {
@@ -365,7 +348,7 @@ module _ {capture : Capture} {before after : CallTold} {status : Status} {report
     shown = elim may.shown [ inl nothing ↦ inl (nothing_printed printed is nothing) | inr emulated ↦ inr (emulated_printed printed is emulated) ];
     opened = may.opened;
     desktop = may.desktop;
-    blames = blames_printed printed is may.blames;
+    blames = still_blames printed is may.blames;
   }
 
 -- ---- where nothing fails

@@ -26,13 +26,13 @@ use Rattle.hotsync_run.specs.Filings.{FilingShows, ShowsFiling}
 use Rattle.hotsync_run.specs.Told.{FolderTold}
 use Rattle.hotsync_run.specs.Whole.{StopsAnswered}
 use Rattle.hotsync_run.proofs.LeftLaws.{Tells}
-use Rattle.hotsync_run.proofs.MeetingSaid.{never_down}
 use Rattle.hotsync_run.proofs.RetoldLaws.{StaysShown}
-use Rattle.hotsync_run.proofs.StatusLaws.{down_cut, said_all, unseated_status}
+use Rattle.hotsync_run.proofs.StatusLaws.{said_all, unseated_status}
 use Rattle.hotsync_run.proofs.WholeLaws.{SaidOf, SaidShort, SaidWhole}
 use Rattle.hotsync_run.specs.declared.report.Report.{Report}
 use Rattle.hotsync_looks.specs.declared.status.Status.{Status}
 use Rattle.hotsync_looks.specs.declared.status.Status.TheVariants.{Done, NoMemory, OutWrite, TraceWrite}
+use Rattle.hotsync_run.proofs.InstallSaid.{never_down, down_cut}
 
 -- ---- the requests of a session
 

@@ -23,9 +23,7 @@ use Rattle.category_mirror.proofs.EvolveLaws.{acts_are, filed_none, jobs_named, 
 use Rattle.category_mirror.proofs.NamedMaps.{KeepsNames, NamesRise-map, database_of-map, map-is}
 use Rattle.category_mirror.proofs.OneLaws.{acts_with, written_into}
 use Rattle.category_mirror.proofs.WrittenLaws.{written_is}
-
-some_same : {x y : DatabaseValue} → ◌≡◌ {A = Option DatabaseValue} (Some x) (Some y) → x ≡ y
-some_same {x} {y} eq = let same : x ≡ y = cc in same
+use Rattle.category_mirror.proofs.RepeatLaws.{some_same}
 
 module _ (filing : Filing) where
   abbrev held : List DatabaseValue

@@ -1,45 +1,23 @@
 -- Finishing a journal changes no file of a name that a desktop doesn't keep.
 use Rattle.std.proofs.lemmas.Bool.Decides.{nat_tests}
 use Rattle.std.proofs.lemmas.Grind.{common_steps}
-use Rattle.std.proofs.Common.{◌≡◌, ◌&&◌, ℕ, zero, suc, Bool, true, false, cond, List, [], ◌∷◌, ◌++◌, take, drop, Option, None, Some, Result, Ok, Err, refl, ap}
-use Rattle.std.proofs.Common.{subst, ◌∙◌, arith}
+use Rattle.std.proofs.Common.{◌≡◌, ℕ, zero, suc, Bool, true, false, cond, List, [], ◌∷◌, ◌++◌, take, drop, Option, None, Some, Result, Ok, Err, refl, ap}
+use Rattle.std.proofs.Common.{◌∙◌, arith}
 use Rattle.std.specs.FinMap as finmap
 use Rattle.std.specs.Int.{w16, from_be_bytes}
 use Rattle.std.specs.Option.{option_or}
-use Rattle.std.specs.Str.{is_utf8}
 use Rattle.hs_folders.specs.FileMaps.{FileMap}
 use Rattle.folder_files.specs.FileNames.{is_kept_file, journal_file}
-use Rattle.desk_journal.specs.Entries.{EntryValue, is_named}
-use Rattle.desk_journal.specs.Reading.{data_at, entries_at, entry_at, journal_in, kept_in, name_at, or_left, some_at}
+use Rattle.desk_journal.specs.Entries.{EntryValue}
+use Rattle.desk_journal.specs.Reading.{entries_at, entry_at, journal_in, or_left}
 use Rattle.desk_journal.specs.Overlays.{bad_of, entries_of, finished, if_form, overlay}
 use Rattle.desk_journal.specs.declared.bad_journal.BadJournal.{BadJournal}
 use Rattle.desk_journal.proofs.OverlayLaws.{get-put_all, get_without, last_of, same_name, same_name-other}
-use Rattle.desk_journal.proofs.ReadLaws.{bind_some, both_true, front_is, guard_some, map_some, placed_is, some_is, test_some}
+use Rattle.desk_journal.proofs.ReadLaws.{front_is, placed_is}
+use Rattle.desk_journal.proofs.StandLaws.{kept_entry}
+use Rattle.front_laws.proofs.RowCountLaws.{no_both}
 
 -- ---- an entry that is read is of a name that a desktop keeps
-
-kept_name : (bytes : List ℕ) {parts : List ℕ × List ℕ} → name_at bytes ≡ Some parts → is_kept_file parts.0 ≡ true
-unfolding name_at
-kept_name [] e = absurd cc
-kept_name (count ∷ bytes) e =
-    let some = bind_some (some_at count bytes) _ e in
-    let name = map_some (kept_in some.0.0) _ some.2 in
-    let test = test_some (is_utf8 some.0.0 && is_kept_file some.0.0) (Some some.0.0) name.1 in
-    let is = both_true _ _ test.0 in
-    subst (λ (p : List ℕ × List ℕ). is_kept_file p.0 ≡ true) (ap (λ (n : List ℕ). (n, some.0.1)) (some_is some.0.0 test.1) ∙ name.2) is.1
-
-kept_entry : (before : List EntryValue) (bytes : List ℕ) {found : EntryValue × List ℕ} → entry_at before bytes ≡ Some found
-    → is_kept_file found.0.name ≡ true
-unfolding entry_at
-kept_entry before bytes e =
-    let name = bind_some (name_at bytes) _ e in
-    let held = bind_some (data_at name.0.1) _ name.2 in
-    let other = guard_some (is_named before name.0.0) _ held.2 in
-    let entry : EntryValue = record { name = name.0.0; bytes = held.0.0 } in
-    subst (λ (f : EntryValue × List ℕ). is_kept_file f.0.name ≡ true) (some_is (entry, held.0.1) other.1) (kept_name bytes name.1)
-
-no_both : (b : Bool) → b ≡ false → b ≡ true → ⊥
-no_both b is_false is_true = cc
 
 -- ---- so none is of another name
 

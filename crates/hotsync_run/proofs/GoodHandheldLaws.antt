@@ -4,13 +4,11 @@ use Rattle.std.proofs.lemmas.List.{length-map}
 use Rattle.std.proofs.lemmas.List.Sums.{length-filter}
 use Rattle.std.proofs.lemmas.Map.Made.{length-le_from_is_member}
 use Rattle.std.proofs.Common.{◌≡◌, ◌⊎◌, ◌∙◌, ◌≤◌, inl, inr, ap, refl, sym, subst, arith, ℕ, Bool, true, false, cond, List, [], ◌∷◌, ◌++◌, length, map}
-use Rattle.std.specs.Prelude.{◌||◌, Option, Some, None, IsSome, T, MatchBool, filter, bytes_eq}
+use Rattle.std.specs.Prelude.{◌||◌, Option, Some, None, IsSome, MatchBool, filter, bytes_eq}
 use Rattle.std.specs.FinMap as finmap
 use Rattle.std.specs.FinMap.Entries.{below_all, is_sorted}
 use Rattle.std.specs.List.{AllByRecursion, IsDistinct, list_any}
-use Rattle.std.specs.Ordering.{is_eq, is_lt, nat_cmp}
-use Rattle.std.specs.declared.cmp.Ordering.{Ordering}
-use Rattle.std.specs.declared.cmp.Ordering.TheVariants.{Equal}
+use Rattle.std.specs.Ordering.{is_lt, nat_cmp}
 use Rattle.std.specs.Cmp.{eq_by_cmp_equiv}
 use Rattle.std.specs.Cmp.Lexicographic.{slice_cmp, nat_list_cmp_total}
 use Rattle.hs_folders.specs.FileMaps.{FileMap}
@@ -18,7 +16,7 @@ use Rattle.pdb_values.specs.Databases.{DatabaseValue}
 use Rattle.pdb_values.specs.NamedDatabases.{database_of}
 use Rattle.pdb_values.specs.declared.head.DbHead.{DbHead}
 use Rattle.pdb_values.specs.declared.user.UserInfo.{UserInfo}
-use Rattle.pdb_values.proofs.NamedLaws.{bytes_eq-is, bytes_eq-own, database_of-name}
+use Rattle.pdb_values.proofs.NamedLaws.{bytes_eq-is, database_of-name, less_differs}
 use Rattle.pdb_files.specs.declared.bad_kind.BadKind.{BadKind}
 use Rattle.pdb_files.proofs.FileLaws.{file-written, one_database}
 use Rattle.folder_files.specs.FileNames.{database_file, device_info_file}
@@ -30,20 +28,10 @@ use Rattle.handheld_files.specs.Openings.{IsFirstBad, among, database_count}
 use Rattle.handheld_files.specs.Settled.{as_opened}
 use Rattle.handheld_files.proofs.ChangeLaws.{database_file_is}
 use Rattle.handheld_files.proofs.StandLaws.{as_opened-head, other_is_info}
-use Rattle.desk_journal.proofs.OverlayLaws.{same_name, same_name-is}
+use Rattle.desk_journal.proofs.OverlayLaws.{same_name, same_name-is, same_name-refl}
+use Rattle.desk_store.proofs.CountLaws.{is_true}
 
 -- ---- the files of a folder differ
-
-is_true : (b : Bool) → T b → b ≡ true
-is_true true t = refl
-is_true false t = absurd t
-
-name_same : (a : List ℕ) → same_name a a ≡ true
-name_same a = same_name-is a a ∙ bytes_eq-own a
-
-less_differs : (o : Ordering) → is_lt o ≡ true → is_eq o ≡ false
-less_differs Equal less = absurd cc
-less_differs o less = refl
 
 abbrev Entries : Type 0
 Entries = List (List ℕ × List ℕ)
@@ -100,7 +88,7 @@ into_files name (database ∷ databases) found is = by (bytes_eq database.head.n
     by true is later =
         let same : database ≡ found = cc in
         ap (λ (b : Bool). b || list_any (same_name (database_file found.head)) (files_of databases))
-        (ap (λ (d : DatabaseValue). same_name (database_file found.head) (database_file d.head)) same ∙ name_same (database_file found.head))
+        (ap (λ (d : DatabaseValue). same_name (database_file found.head) (database_file d.head)) same ∙ same_name-refl (database_file found.head))
     by false is later = or_right _ _ (later is)
 
 there_is : (held : FileMap) (q : List ℕ) → list_any (same_name q) (finmap.keys held) ≡ true → (bytes : List ℕ) × (finmap.get held q ≡ Some bytes)
@@ -162,7 +150,7 @@ once (first ∷ before) after name distinct there = by (same_name name first) re
     by true is there later =
         let same = bytes_eq-is name first (sym (same_name-is name first) ∙ is) in
         no_truth (same_name first name) (each_of (λ other. same_name first other ≡ false) before name after distinct.0)
-        (ap (same_name first) same ∙ name_same first)
+        (ap (same_name first) same ∙ same_name-refl first)
     by false is there later = later there
 
 abbrev IsAmong : FileMap → List (List ℕ) → List ℕ → List ℕ → Type 0

@@ -13,12 +13,13 @@ use Rattle.desktop_session.specs.Tellings.{device_after}
 use Rattle.dlp_commands.specs.DeviceSteps.{tried}
 use Rattle.session_parts.specs.Meets.{greeting}
 use Rattle.session_parts.specs.Rests.{IsAtRest}
-use Rattle.session_parts.proofs.RestLaws.{after-append, greeting_same}
+use Rattle.session_parts.proofs.RestLaws.{greeting_same}
 use Rattle.install_backup.specs.Installed.{with_installed}
 use Rattle.install_backup.specs.InstallActs.{fill_acts, install_acts, install_one, installs_of, is_installable}
 use Rattle.install_backup.specs.Rooms.{has_room}
 use Rattle.install_backup.proofs.WholeLaws.{install_goes}
 use Rattle.hotsync_run.specs.Installs.{acts_until_full}
+use Rattle.desktop_session.proofs.ListLaws.{after_append}
 
 kept_one : (b : Bool) (database : DatabaseValue) → b ≡ true
     → flat_map (λ (d : DatabaseValue). install_one d 1 []) (cond b (database ∷ []) []) ≡ install_one database 1 []
@@ -70,9 +71,9 @@ installed-after device database rests bounded writable is room =
     let done : Device = record device { databases = with_installed database device.databases } in
     let whole : device_after (install_acts (database ∷ [])) device ≡ device_after (ending ∷ []) done =
     ap (λ (acts : List Act). device_after acts device) (acts-one database is)
-    ∙ after-append greeting (install_one database 1 [] ++ ending ∷ []) device
+    ∙ after_append greeting (install_one database 1 [] ++ ending ∷ []) device
     ∙ ap (device_after (install_one database 1 [] ++ ending ∷ [])) (greeting_same device)
-    ∙ after-append (install_one database 1 []) (ending ∷ []) device
+    ∙ after_append (install_one database 1 []) (ending ∷ []) device
     ∙ ap (device_after (ending ∷ [])) (install_goes device rests database bounded room writable).after in
     let stays = stays_at_end done in
     record {

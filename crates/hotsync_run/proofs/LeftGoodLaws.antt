@@ -45,9 +45,7 @@ use Rattle.hotsync_run.proofs.EndLaws.{same_some}
 use Rattle.hotsync_run.proofs.FinishedFiles.{finished-get}
 use Rattle.hotsync_run.proofs.GoodHandheldLaws.{few-files, none-bad}
 use Rattle.hotsync_run.proofs.SlotLaws.{picked-near}
-
-no_truth : true ≡ false → ⊥
-no_truth e = cc
+use Rattle.dlp_replies.proofs.ReplyLaws.{no_truth}
 
 -- ---- a handheld
 

@@ -202,7 +202,7 @@ unseated-prefix contents moments paths faults fault downs meeting old new desk d
     the_error (Ok user) unseated = absurd (let never : ⊥ = cc in never)
     the_error (Err why) unseated = (why, refl)
 
-stood_or_merged : (meeting : Meeting) (given : List ℕ) (desk desk_after : FolderTold) → MergedSince meeting given desk.moments desk_after.moments
+pub stood_or_merged : (meeting : Meeting) (given : List ℕ) (desk desk_after : FolderTold) → MergedSince meeting given desk.moments desk_after.moments
     → EachMomentSince (λ told. FinishesAs desk.contents told ⊎ StandsForSlots (merged_slots meeting given) told) desk.moments desk_after.moments
 stood_or_merged meeting given desk desk_after since = grind (arith, moments_weaken (StandsForSlots (merged_slots meeting given)))
 

@@ -1,5 +1,4 @@
 -- What both sides of made folders hold once they are opened: one database each, and a user and marks that agree.
-use Rattle.std.proofs.lemmas.Grind.{common_steps}
 use Rattle.std.proofs.Common.{◌≡◌, ◌∙◌, ◌<◌, ◌≤◌, ◌&&◌, ℕ, Bool, true, false, refl, sym, ap, subst, arith, List, [], ◌∷◌, length}
 use Rattle.std.specs.Prelude.{Option, None, Some, bytes_eq, codes, cond, option_and_then, option_map, option_to_list}
 use Rattle.std.specs.FinMap as finmap
@@ -43,6 +42,7 @@ use Rattle.made_folders.specs.declared.item.Item.{Item}
 use Rattle.made_folders.specs.declared.side.MadeSide.{MadeSide}
 use Rattle.made_folders.specs.declared.side.MadeSide.TheVariants.{Base, Desktop, Handheld}
 use Rattle.hotsync_run.proofs.MadeItems.{made_settled, made_text}
+use Rattle.line_world.proofs.StopLaws.{both as clash}
 
 abbrev pub made_name : List ℕ
 made_name = codes "MadeDB"
@@ -52,9 +52,6 @@ pub record AreItems (items : List Item) : Type 0 where
   pub are : AreMade 1 items
   pub drawn : AllByRecursion IsDrawn items
   pub few : length items ≤ 5000
-
-clash : {b : Bool} → b ≡ true → b ≡ false → ⊥
-clash h k = grind (arith, common_steps)
 
 -- ---- files by their names
 

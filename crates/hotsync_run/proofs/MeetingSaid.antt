@@ -1,5 +1,4 @@
 -- What the answer of a session between both sides says of its requests.
-use Rattle.std.proofs.lemmas.Grind.{common_steps}
 use Rattle.std.proofs.Common.{◌≡◌, ◌⊎◌, ◌<◌, ◌≤◌, arith, inl, inr, length, subst, ℕ, List, [], ◌∷◌}
 use Rattle.std.specs.Prelude.{IfErr, IfOk, OnOk, Option, Some, Result, Ok, Err, map}
 use Rattle.std.specs.Global.{Vec}
@@ -21,13 +20,14 @@ use Rattle.sync_session.proofs.IdsLaws.{text-session}
 use Rattle.sync_session.specs.News.{purge_acts}
 use Rattle.sync_session.specs.Outcomes.{IsEnded, IsStopOf, Tellings}
 use Rattle.sync_session.specs.Sessions.{after_commit, before_commit, before_writes, end_mark, requests, session}
-use Rattle.hotsync_run.specs.Causes.{down_status, stop_status}
+use Rattle.hotsync_run.specs.Causes.{stop_status}
 use Rattle.hotsync_run.specs.Closings.{left_status}
 use Rattle.hotsync_run.specs.Whole.{StopsAnswered}
 use Rattle.hotsync_run.proofs.LeftLaws.{before-longer, parts-are}
 use Rattle.hotsync_run.proofs.WholeLaws.{SaidOf, SaidShort, SaidWhole}
 use Rattle.hotsync_looks.specs.declared.status.Status.{Status}
 use Rattle.hotsync_looks.specs.declared.status.Status.TheVariants.{NoMemory}
+use Rattle.hotsync_run.proofs.InstallSaid.{never_down}
 
 -- ---- the session's requests
 
@@ -49,9 +49,6 @@ before-all meeting given =
     grind (arith, parts-are meeting given, length-append (map text (before_commit meeting given)) (map text (after_commit meeting)), some-after meeting)
 
 -- ---- what was answered
-
-pub never_down : (cause : Option Down) → StopsAnswered (down_status cause) → ⊥
-never_down cause is = grind (arith, common_steps)
 
 module _ (meeting : Meeting) (cause : Option Down) where
   stop_said : {F : Type 0} (fault : WorldValue F → Option LinkFault) (old new : WorldValue F) (why : Stop)

@@ -4,27 +4,16 @@ use Rattle.std.proofs.Common.{◌≡◌, ◌⊎◌, ◌∙◌, ◌<◌, ◌≤�
 use Rattle.std.proofs.Common.{length, get_or, set}
 use Rattle.std.specs.Prelude.{Option, Some, None, position, ◌==◌, ◌&&◌, not, nat_lt, if◌then◌else◌}
 use Rattle.std.specs.Option.{option_map}
-use Rattle.std.proofs.lemmas.Bool.{lt-ltb, le-ltb, eq-eqb}
+use Rattle.std.proofs.lemmas.Bool.{lt-ltb, le-ltb}
 use Rattle.std.proofs.lemmas.List.{length-append}
 use Rattle.std.proofs.lemmas.List.Quantifiers.{position-Some}
 use Rattle.pdb_values.specs.Slots.{slot_for}
 use Rattle.desk_store.specs.Desks.{place_of}
 use Rattle.pdb_values.proofs.PlaceLaws.{position-cons}
+use Rattle.palm_events.proofs.WitnessLaws.{is_own}
+use Rattle.memo_import.proofs.ReturnLaws.{position_none}
 
 -- ---- the first place that passes
-
-no_place : {X : Type 0} (test : X → Bool) (x : X) (xs : List X) → (b : Bool) → test x ≡ b → (o : Option ℕ)
-    → cond b (Some 0) (option_map (λ place. suc place) o) ≡ None → (b ≡ false) × (o ≡ None)
-no_place test x xs b is o none = grind (arith, common_steps)
-
--- none passes
-position-none : {X : Type 0} (test : X → Bool) (xs : List X) (d : X) → position test xs ≡ None → (i : ℕ) → i < length xs → test (get_or xs i d) ≡ false
-position-none test [] d none i less = absurd (omega (arith, less))
-position-none test (x ∷ xs) d none zero less =
-    let both = no_place test x xs (test x) refl (position test xs) (sym (position-cons test x xs) ∙ none) in both.0
-position-none test (x ∷ xs) d none (suc i) less =
-    let both = no_place test x xs (test x) refl (position test xs) (sym (position-cons test x xs) ∙ none) in
-    position-none test xs d both.1 i (omega (arith, less))
 
 -- what is put at a place passes, and nothing before it does
 position-set : {X : Type 0} (test : X → Bool) (xs : List X) (k : ℕ) (x d : X) → test x ≡ true → k < length xs
@@ -72,13 +61,10 @@ place-near users user add = grind (arith, place_in users user add, picks users u
 
 -- ---- it is found again
 
-same_user : (user : ℕ) → (user == user) ≡ true
-same_user user = eq-eqb user user refl
-
 -- nothing stands before the first place
 first-set : (users : List ℕ) (user : ℕ) → position (λ other. other == user) (placed users 0 user) ≡ Some 0
-first-set [] user = grind (arith, [], same_user user)
-first-set (x ∷ users) user = grind (arith, [], lt-ltb 0 (length (x ∷ users)) (omega arith), same_user user)
+first-set [] user = grind (arith, [], is_own user)
+first-set (x ∷ users) user = grind (arith, [], lt-ltb 0 (length (x ∷ users)) (omega arith), is_own user)
 
 get-front : (xs ys : List ℕ) (i d : ℕ) → i < length xs → get_or (xs ++ ys) i d ≡ get_or xs i d
 get-front [] ys i d less = absurd (omega (arith, less))
@@ -92,14 +78,14 @@ found-again some (without is first) = absurd (let no : true ≡ false = sym is �
 found-again {users} {user} {place} some (known is there) =
     let at = position-Some (λ other. other == user) users place 0 there in
     ap (λ b. position (λ other. other == user) (set (if b then users else users ++ 0 ∷ []) place user)) (lt-ltb place (length users) at.0)
-    ∙ position-set (λ other. other == user) users place user 0 (same_user user) at.0 at.2
+    ∙ position-set (λ other. other == user) users place user 0 (is_own user) at.0 at.2
 found-again {users} {user} some (claims is none first) = grind (arith, placed users, first-set users user)
 found-again {users} {user} some (follows is none last) =
     subst (λ n. position (λ other. other == user) (placed users n user) ≡ Some n) (sym last)
     (ap (λ b. position (λ other. other == user) (set (if b then users else users ++ 0 ∷ []) (length users) user))
     (le-ltb (length users) (length users) (omega arith))
-    ∙ position-set (λ other. other == user) (users ++ 0 ∷ []) (length users) user 0 (same_user user) (omega (arith, length-append users (0 ∷ [])))
-    (λ i less. ap (λ (n : ℕ). n == user) (get-front users (0 ∷ []) i 0 less) ∙ position-none (λ other. other == user) users 0 none i less))
+    ∙ position-set (λ other. other == user) (users ++ 0 ∷ []) (length users) user 0 (is_own user) (omega (arith, length-append users (0 ∷ [])))
+    (λ i less. ap (λ (n : ℕ). n == user) (get-front users (0 ∷ []) i 0 less) ∙ position_none (λ other. other == user) users 0 none i less))
 
 pub user-again : (users : List ℕ) (user : ℕ) (add other : Bool) → (user == 0) ≡ false
     → place_in (placed users (place_in users user add) user) user other ≡ place_in users user add

@@ -24,7 +24,7 @@ use Rattle.desktop_session.specs.Tellings.{device_after}
 use Rattle.desktop_session.proofs.OrderLaws.{name_right}
 use Rattle.session_parts.specs.Meets.{greeting}
 use Rattle.session_parts.specs.Rests.{IsAtRest}
-use Rattle.session_parts.proofs.RestLaws.{after-append, greeting_same}
+use Rattle.session_parts.proofs.RestLaws.{greeting_same}
 use Rattle.install_backup.specs.Installed.{installed_head, with_installed}
 use Rattle.install_backup.specs.InstallActs.{install_acts, install_one, installs_of, is_installable}
 use Rattle.install_backup.specs.InstallEnds.{all_installed, first_full}
@@ -36,6 +36,7 @@ use Rattle.install_backup.proofs.GoneLaws.{can_delete, deleted, with_databases, 
 use Rattle.install_backup.proofs.WholeLaws.{install_goes, installed_rests}
 use Rattle.hotsync_run.specs.Restores.{acts_until_one}
 use Rattle.hotsync_run.proofs.InstallActLaws.{stays_at_end}
+use Rattle.desktop_session.proofs.ListLaws.{after_append}
 
 -- ---- the first one that has no room
 
@@ -131,7 +132,7 @@ installs_go (database ∷ databases) device rests bounded none =
         let goes = install_goes device rests database bounded.0 room (not-true (is_read_only database.head.attributes) writable) in
         let behind = later now (installed_rests device rests database bounded.0 room) none in
         record {
-          after = rw writable (after-append (install_one database 1 []) (flat_map says_one databases) device
+          after = rw writable (after_append (install_one database 1 []) (flat_map says_one databases) device
               ∙ ap (device_after (flat_map says_one databases)) goes.after ∙ behind.after);
           rests = rw writable behind.rests;
         }
@@ -153,9 +154,9 @@ restored-after device databases rests bounded none =
     let done = with_databases (all_installed databases device.databases) device in
     let goes = installs_go databases device rests bounded none in
     let whole : device_after (greeting ++ (installs_of databases ++ ending ∷ [])) device ≡ device_after (ending ∷ []) done =
-    after-append greeting (installs_of databases ++ ending ∷ []) device
+    after_append greeting (installs_of databases ++ ending ∷ []) device
     ∙ ap (device_after (installs_of databases ++ ending ∷ [])) (greeting_same device)
-    ∙ after-append (installs_of databases) (ending ∷ []) device
+    ∙ after_append (installs_of databases) (ending ∷ []) device
     ∙ ap (device_after (ending ∷ [])) (ap (λ (acts : List Act). device_after acts device) (sym (installs-are databases)) ∙ goes.after) in
     let stays = stays_at_end done in
     record {
@@ -188,9 +189,9 @@ pub stopped-after : (device : Device) (before : List DatabaseValue) (one : Datab
     → device_after (acts_until_one before one) device ≡ with_databases (all_installed before device.databases) device
 stopped-after device before one rests bounded one_bounded first =
     let goes = installs_go before device rests bounded first.room in
-    after-append greeting (installs_of before ++ making_acts one) device
+    after_append greeting (installs_of before ++ making_acts one) device
     ∙ ap (device_after (installs_of before ++ making_acts one)) (greeting_same device)
-    ∙ after-append (installs_of before) (making_acts one) device
+    ∙ after_append (installs_of before) (making_acts one) device
     ∙ ap (device_after (making_acts one)) (ap (λ (acts : List Act). device_after acts device) (sym (installs-are before)) ∙ goes.after)
     ∙ making_none (with_databases (all_installed before device.databases) device) one goes.rests one_bounded first.full
 

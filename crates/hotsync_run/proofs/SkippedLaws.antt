@@ -1,6 +1,5 @@
 -- At each of a session's steps the handheld has the databases that the session skips as they were, and so their files.
 use Rattle.std.proofs.lemmas.Bool.Decides.{nat_tests}
-use Rattle.std.proofs.lemmas.Grind.{common_steps}
 use Rattle.std.proofs.Common.{◌≡◌, ◌∙◌, ◌≤◌, ap, refl, sym, subst, arith, ℕ, Bool, true, false, List, [], ◌∷◌, ◌++◌, length}
 use Rattle.std.specs.Prelude.{Option, Some, None, IsSome, filter, map, nat_lt}
 use Rattle.std.proofs.lemmas.List.{map-append}
@@ -31,6 +30,7 @@ use Rattle.hotsync_run.proofs.FrontMoments.{front-some, replies_of, requests_of}
 use Rattle.hotsync_run.proofs.KeptLaws.{HasSkipped, KeepsSkipped, kept-ran}
 use Rattle.hotsync_run.proofs.LineLaws.{exchanged-parts}
 use Rattle.hotsync_run.proofs.QuietRuns.{quiet-run}
+use Rattle.hotsync_run.proofs.BackupActLaws.{none-of}
 
 -- ---- where no limit is passed
 
@@ -50,9 +50,6 @@ at-front meeting writes given device sound none front = by (nat_lt writes (write
 
 -- ---- where one would be passed
 
-no_items : (xs : List (List ℕ)) → length xs ≤ 0 → xs ≡ []
-no_items xs few = grind (arith, common_steps)
-
 none-both : (xs ys : List (List ℕ)) → xs ++ ys ≡ [] → xs ≡ []
 none-both [] ys none = refl
 none-both (x ∷ xs) ys none = cc
@@ -63,7 +60,7 @@ module _ {rules : List RuleValue} {device : Device} {before after : FolderTold} 
   no-changes meeting over =
       let few = prefix-count (performed-prefix line.log over) in
       let count : length (filter changes (map text (before_writes meeting))) ≡ 0 = ap length (quiet-before_writes meeting) in
-      no_items (filter changes (log_in report).performed) (omega (arith, few, count))
+      none-of (filter changes (log_in report).performed) (omega (arith, few, count))
 
   none-front : (front back : List Exchange) → exchanges_in report ≡ front ++ back → filter changes (log_in report).performed ≡ []
       → filter changes (requests_of front) ≡ []

@@ -38,6 +38,7 @@ use Rattle.hotsync_looks.specs.declared.status.Status.TheVariants.{Limit, NewHan
 use Rattle.hotsync_run.proofs.EndLaws.{logged_all}
 use Rattle.hotsync_run.proofs.LeftLaws.{EndsOver, Tells}
 use Rattle.hotsync_run.proofs.NeverLaws.{IsUnrefusedEnd, IsUnrefusedStop}
+use Rattle.hotsync_run.proofs.InstallSaid.{down_cut}
 
 -- ---- the cause of a stop
 
@@ -80,9 +81,6 @@ module _ (meeting : Meeting) {palm_after : FolderTold} {report : Report} (cause 
       grind (arith, stop_shows fault why tells ends.cause)
 
 -- ---- a session that both sides refuse
-
-pub down_cut : (cause : Option Down) → IsCutShort (down_status cause)
-down_cut cause = grind (arith, common_steps)
 
 -- the status of a user without a slot, whatever the line's cause is
 pub unseated_status : (users : List ℕ) (user : UserInfo) (found : Slot) (cause : Option Down) {why : SessionFault} → user_with users user found ≡ Err why

@@ -43,12 +43,10 @@ use Rattle.hotsync_looks.specs.declared.status.Status.TheVariants.{BadScript, To
 use Rattle.hotsync_looks.specs.declared.status.Status.TheVariants.{Done, TraceWrite, OutWrite, NoMemory, LineDown, Unplugged, Aborted, Undetected}
 use Rattle.hotsync_looks.specs.declared.status.Status.TheVariants.{OtherUser, TooManyUsers, Limit, NewHandheld}
 use Rattle.hotsync_looks.specs.declared.status.Status.TheVariants.{InUse}
+use Rattle.hotsync_run.proofs.DryLaws.{none_is_some}
 
 none_holds : (A : Type 0) → IsSome {T = A} None → ⊥
 none_holds A e = cc
-
-none_is_some : {A : Type 0} {a : A} → None ≡ Some a → ⊥
-none_is_some e = cc
 
 -- ---- what is judged before a session
 

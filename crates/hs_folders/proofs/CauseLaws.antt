@@ -7,7 +7,7 @@ use Rattle.hs_folders.specs.Causes.{HasCause, Rose}
 pub ok_is_no_fault : {A E : Type 0} (x : A) (fault : E) → IsErrOf (Ok x) fault → ⊥
 ok_is_no_fault x fault is = cc
 
-same_fault : {A E : Type 0} (fault other : E) → IsErrOf {T = A} (Err fault) other → fault ≡ other
+pub same_fault : {A E : Type 0} (fault other : E) → IsErrOf {T = A} (Err fault) other → fault ≡ other
 same_fault fault other is = cc
 
 -- a refusal is passed on with its cause

@@ -42,7 +42,7 @@ find-named q (e ∷ es) =
 pub get-file_map : (m : FileTree) (q : List ℕ) → finmap.get (file_map m) q ≡ option_map (λ v. v.items) (tree.get_by_text m q)
 get-file_map m q = get-from_entries nat_list_cmp_total (named m.entries) q ∙ find-named q m.entries
 
-same_files : (m n : FileMap) → ((q : List ℕ) → finmap.get m q ≡ finmap.get n q) → m ≡ n
+pub same_files : (m n : FileMap) → ((q : List ℕ) → finmap.get m q ≡ finmap.get n q) → m ≡ n
 same_files = same_map nat_list_cmp_total (slice_cmp-IsAntisymmetric nat_cmp-IsAntisymmetric)
 
 pushed : {A B : Type 0} (f : A → B) (b : Bool) (x y : Option A) → option_map f (cond b x y) ≡ cond b (option_map f x) (option_map f y)
@@ -80,7 +80,7 @@ named-clone (e ∷ es) (f ∷ fs) same =
     let bytes : f.1.items ≡ e.1.items = same_from_all_zip _ _ _ same.0.1.0 (λ x y h. h) in
     λ i. (same.0.0 i, bytes i) ∷ named-clone es fs same.1 i
 
-is_some-option_map : {A B : Type 0} (f : A → B) (o : Option A) → is_some (option_map f o) ≡ is_some o
+pub is_some-option_map : {A B : Type 0} (f : A → B) (o : Option A) → is_some (option_map f o) ≡ is_some o
 is_some-option_map f None = refl
 is_some-option_map f (Some x) = refl
 

@@ -42,15 +42,16 @@ use Rattle.session_parts.specs.declared.stop.Stop.TheVariants as stop
 use Rattle.desktop_session.specs.Lasts.{IsByLastReply}
 use Rattle.session_parts.proofs.CauseLaws.{later_by, later_said}
 use Rattle.session_parts.proofs.LinkWords.{Act, Does, Halted, LinkFault, SessionFault, Stops, Talk, ending, saying, text}
-use Rattle.session_parts.proofs.RestLaws.{after-append, greeting_same, listings_same}
+use Rattle.session_parts.proofs.RestLaws.{greeting_same}
 use Rattle.session_parts.proofs.StretchLaws.{Leads, Tells, first_is, tells_on}
 use Rattle.install_backup.specs.declared.moved.MoveOutcome.{MoveOutcome}
 use Rattle.install_backup.specs.declared.moved.Moved.{Moved}
 use Rattle.install_backup.specs.BackupActs.{backup_acts, backup_of}
 use Rattle.install_backup.specs.BackupEnds.{BackupEnds, BackupWent, Finishes, backup_front, next_of, read_of}
 use Rattle.install_backup.specs.Backups.{HasSome, IsBackupCause, KeepsSome, SaysCopied, backups_under, file_of, kept_moved, next_acts}
-use Rattle.install_backup.proofs.KeepLaws.{put_none}
 use Rattle.install_backup.proofs.ReadWhole.{AreHeld, ReadsAll, acts_are, held_all, held_first, held_last, listed_of, reads_all}
+use Rattle.desk_journal.proofs.StepLaws.{none_put}
+use Rattle.desktop_session.proofs.ListLaws.{after_append, listings_same}
 
 -- ---- the user of a handheld, whoever that is, has the slot
 
@@ -169,7 +170,7 @@ module _ {L F : Type 0} {talk : L → Option Talk} {since : L → L → Type 0} 
     kept = [];
     later = told.device.databases;
     parts = refl;
-    files = put_none (contents folder);
+    files = none_put (contents folder);
     each_moment = no_moment (HasSome [] (contents folder)) (moments folder) (moments folder) refl;
     stops = stops;
     now = new;
@@ -223,7 +224,7 @@ module _ {L F : Type 0} {talk : L → Option Talk} {since : L → L → Type 0} 
         let all : ℕ = max 1 (length told.device.databases) in
         subst (Tells told.device) (sym front_does.said)
         (tells_on told.device told.device (backup_front told.device) (talk old) (tells_it is)
-        (after-append greeting (listings all) told.device ∙ ap (device_after (listings all)) (greeting_same told.device) ∙ listings_same all told.device))
+        (after_append greeting (listings all) told.device ∙ ap (device_after (listings all)) (greeting_same told.device) ∙ listings_same all told.device))
 
     abbrev some : KeepsSome talk since fault downs contents moments met.heads.items met.linked went.now folder left.folder went.answer
     some = went.keeps

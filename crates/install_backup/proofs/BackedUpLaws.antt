@@ -2,7 +2,7 @@
 use Rattle.std.proofs.lemmas.Grind.{common_steps}
 use Rattle.std.proofs.lemmas.Bool.Decides.{nat_tests}
 use Rattle.std.proofs.Common.{arith, rules, ◌≡◌, ◌∙◌, ◌+◌, ◌≤◌, ◌<◌, ◌^◌, ap, refl, sym, ℕ, zero, suc, Bool, true, false, not, ◌&&◌, List, [], ◌∷◌, ◌++◌, length, take, lit<}
-use Rattle.std.specs.Prelude.{Option, Some, None, Result, Ok, nat_le, slice_get, if◌then◌else◌}
+use Rattle.std.specs.Prelude.{Option, Some, None, Result, Ok, slice_get, if◌then◌else◌}
 use Rattle.std.specs.List.{AllByRecursion}
 use Rattle.pdb_values.specs.Databases.{DatabaseValue}
 use Rattle.pdb_values.specs.Blocks.{block_length}
@@ -27,7 +27,7 @@ use Rattle.desktop_session.specs.Lent.{lent_kind, record_lent, resource_lent}
 use Rattle.desktop_session.specs.Requests.{reading_app, reading_at, reading_resource, reading_sort}
 use Rattle.desktop_session.specs.Tellings.{told}
 use Rattle.desktop_session.proofs.GrowLaws.{take_next, take_whole}
-use Rattle.desktop_session.proofs.LentLaws.{lent_at, lent_resource_at}
+use Rattle.desktop_session.proofs.LentLaws.{lent_at, lent_resource_at, none_past}
 use Rattle.desktop_session.proofs.RequestFits.{app_fits, sort_fits}
 use Rattle.desktop_session.proofs.TellLaws.{act_sayable, acted_reads}
 use Rattle.session_parts.specs.Rests.{IsAtRest}
@@ -38,6 +38,7 @@ use Rattle.install_backup.specs.BackedUp.{backed_up}
 use Rattle.install_backup.specs.Copies.{block_in, blocked, copied, each_told, is_gone, record_from, records_in, records_told, resources_in, resources_told, with_entries}
 use Rattle.install_backup.proofs.CopyLaws.{lent_record}
 use Rattle.install_backup.proofs.ReadWhole.{base, base_here, counts, opens, proper_here}
+use Rattle.desktop_session.proofs.OrderLaws.{got_at}
 
 -- ---- a record as it is lent
 
@@ -52,16 +53,8 @@ wire_marks deleted dirty busy secret empty = search (rules)
 record_again : (item : Record) → item.busy ≡ false → record_from (record_lent item) ≡ item
 record_again item idle = grind (arith, common_steps, nat_tests, wire_marks)
 
-got : {A : Type 0} (xs : List A) (k : ℕ) → k < length xs → (x : A) × (slice_get xs k ≡ Some x)
-got [] k below = absurd (omega arith)
-got (x ∷ xs) zero below = (x, refl)
-got (x ∷ xs) (suc k) below = let rest = got xs k (omega arith) in (rest.0, rest.1)
-
 take_one : {A : Type 0} (xs : List A) (k : ℕ) {x : A} → slice_get xs k ≡ Some x → take k xs ++ x ∷ [] ≡ take (suc k) xs
 take_one xs k {x} is = sym (take_next xs k is) ∙ ap (λ n. take n xs) (let same : k + 1 ≡ suc k = omega arith in same)
-
-none_past : (n : ℕ) → nat_le 0 n ≡ true
-none_past n = grind arith
 
 module _ (device : Device) (rests : IsAtRest device) (database : DatabaseValue) (held : database_of database.head.name device.databases ≡ Some database)
     (idle : AllByRecursion (λ (item : Record). item.busy ≡ false) database.records) where
@@ -85,7 +78,7 @@ module _ (device : Device) (rests : IsAtRest device) (database : DatabaseValue) 
   unfolding each_told
   records_so_far zero holds within few = refl
   records_so_far (suc k) holds within few =
-      let at = got database.records k (omega arith) in
+      let at = got_at database.records k (omega arith) in
       ap (λ (rs : List Record). rs ++ records_in (reply_at 0x20 (acted (reading_at 1 k) here).0)) (records_so_far k holds (omega arith) few)
       ∙ ap (λ (rs : List Record). take k database.records ++ rs) (one_record k holds (omega arith) at.1)
       ∙ take_one database.records k at.1
@@ -110,7 +103,7 @@ module _ (device : Device) (rests : IsAtRest device) (database : DatabaseValue) 
   unfolding each_told
   resources_so_far zero holds within few = refl
   resources_so_far (suc k) holds within few =
-      let at = got database.resources k (omega arith) in
+      let at = got_at database.resources k (omega arith) in
       ap (λ (rs : List Resource). rs ++ resources_in (reply_at 0x23 (acted (reading_resource 1 k) here).0)) (resources_so_far k holds (omega arith) few)
       ∙ ap (λ (rs : List Resource). take k database.resources ++ rs) (one_resource k holds (omega arith) at.1)
       ∙ take_one database.resources k at.1

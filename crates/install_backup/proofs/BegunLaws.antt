@@ -21,7 +21,6 @@ use Rattle.dlp_commands.specs.Holding.{on_records, on_resources}
 use Rattle.desktop_session.specs.Acts.{Act, acted}
 use Rattle.desktop_session.specs.Requests.{closing, deleting, making, resetting, writing_app, writing_sort}
 use Rattle.desktop_session.specs.Tellings.{device_after}
-use Rattle.slow_mirror.proofs.NewsLaws.{take_all}
 use Rattle.session_parts.specs.Rests.{IsAtRest}
 use Rattle.install_backup.specs.Installed.{installed, installed_block, installed_head, installed_records, untouched}
 use Rattle.install_backup.specs.InstallActs as acts
@@ -37,6 +36,7 @@ use Rattle.install_backup.proofs.OthersLaws.{IsMine, Within, acts_one}
 use Rattle.install_backup.proofs.RecordLaws.{installed-bounded, installed-few, installed-ids, installed-live, installed-none_deleted, installed-untouched}
 use Rattle.install_backup.proofs.ResourceLaws.{put_each-installed}
 use Rattle.install_backup.proofs.WholeLaws.{blocked, close_goes, delete_goes, fill_goes, gone, left, make_goes, may_write}
+use Rattle.desktop_session.proofs.GrowLaws.{take_whole}
 
 -- ---- each device on the way
 
@@ -148,7 +148,7 @@ module _ (device : Device) (rests : IsAtRest device) (database : DatabaseValue) 
   all_records : reset_flags items ≡ take (length items) items
   all_records =
       ap reset_flags (sym (reset_made items (installed-untouched database.records) live)) ∙ reset_twice (map made items)
-      ∙ reset_made items (installed-untouched database.records) live ∙ sym (take_all items (length items) (omega arith))
+      ∙ reset_made items (installed-untouched database.records) live ∙ sym (take_whole items (length items) (omega arith))
 
   all_reset : reset_flags (reset_flags (map made items)) ≡ take (length items) items
   all_reset = ap reset_flags (reset_made items (installed-untouched database.records) live) ∙ all_records
@@ -188,7 +188,7 @@ module _ (device : Device) (rests : IsAtRest device) (database : DatabaseValue) 
     resources = (
       length database.resources,
       sym (put_each-installed database.resources)
-          ∙ ap (λ (rs : List Resource). put_each rs []) (sym (take_all database.resources (length database.resources) (omega arith))),
+          ∙ ap (λ (rs : List Resource). put_each rs []) (sym (take_whole database.resources (length database.resources) (omega arith))),
     );
   }
 
@@ -219,7 +219,7 @@ module _ (device : Device) (rests : IsAtRest device) (database : DatabaseValue) 
           (λ n. begun_here (with_records (map made (take n items)) (blocked database)) (begun_records (map made (take n items)) n (some_records n))))
           (puts_go device rise (blocked database) items writes_here holds small new (omega (arith, fewer, few))).after
           (along_one Underway (begun_here put (begun_records (map made items) (length items)
-          (reset_made items (installed-untouched database.records) live ∙ sym (take_all items (length items) (omega arith)))))
+          (reset_made items (installed-untouched database.records) live ∙ sym (take_whole items (length items) (omega arith)))))
           (reset_goes device rise put writes_here holds)
           (begun_here (with_records (reset_flags (map made items)) (blocked database))
           (begun_records (reset_flags (map made items)) (length items) all_reset)))

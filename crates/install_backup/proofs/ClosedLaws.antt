@@ -6,35 +6,19 @@ use Rattle.pdb_values.specs.Databases.{DatabaseValue}
 use Rattle.pdb_values.specs.Heads.{holds_resources}
 use Rattle.pdb_values.specs.declared.record.Record.{Record}
 use Rattle.pdb_values.specs.declared.resource.Resource.{Resource}
-use Rattle.dlp_replies.specs.ReplyValues.{ReplyValue}
-use Rattle.palm_device.specs.Devices.{Device}
-use Rattle.palm_device.specs.Handles.{base_at, is_writable}
-use Rattle.dlp_commands.specs.DeviceSteps.{outcome, tried}
-use Rattle.dlp_commands.specs.Errors.{none_open, read_only, check, need}
-use Rattle.dlp_commands.specs.Reached.{writes}
+use Rattle.dlp_commands.specs.DeviceSteps.{tried}
 use Rattle.dlp_commands.specs.Writings as writing
-use Rattle.dlp_commands.specs.Writings.{WritingValue, written_in}
-use Rattle.desktop_session.proofs.TellLaws.{done_then}
 use Rattle.desktop_session.specs.Requests.{deleting, secret_bit, writing_app, writing_sort}
 use Rattle.session_parts.specs.Rests.{IsFirst}
 use Rattle.session_parts.specs.Stretches.{AreFirst, Stretch, each_acts}
-use Rattle.session_parts.proofs.CloseLaws.{KeepsHandles, LeavesClosed, TellsClosed, around_closed, closed_on, making_one, none_closed}
+use Rattle.session_parts.proofs.CloseLaws.{KeepsHandles, LeavesClosed, TellsClosed, around_closed, closed_on, making_one, none_closed, writes_keep}
 use Rattle.session_parts.proofs.LinkWords.{Act, Talk, acted, making, resetting}
-use Rattle.session_parts.proofs.RestLaws.{all-append, outcome_is}
 use Rattle.session_parts.proofs.StretchLaws.{Leads, Steps, flat_map-kept, stretches_lead, where_kept}
 use Rattle.install_backup.specs.Installed.{installed_head, installed_records}
 use Rattle.install_backup.specs.InstallActs as acts
 use Rattle.install_backup.specs.InstallActs.{entry_acts, fill_acts, install_one, installs_of, installs_under, is_installable}
 use Rattle.install_backup.proofs.GoneLaws.{deleting_keeps}
-
-writes_keep : (free : ℕ) (device : Device) (handle number : ℕ) (asked : WritingValue)
-    → (outcome device number (writes free device handle asked)).1.handles ≡ device.handles
-writes_keep free device handle number asked =
-    let P : Device × ReplyValue → Type 0 = λ done. done.0.handles ≡ device.handles in
-    outcome_is (λ d. d.handles ≡ device.handles) device number (writes free device handle asked) refl
-    (done_then (need none_open (base_at device handle)) _ P (λ base a.
-    done_then (check read_only (is_writable base)) _ P (λ allowed b.
-    done_then (written_in free asked base.database) _ P (λ changed c. refl))))
+use Rattle.desk_journal.proofs.StepLaws.{all_and}
 
 app_keeps : (block : Option (List ℕ)) → AllByRecursion KeepsHandles (acts.block_acts writing_app 1 block)
 unfolding acted tried
@@ -76,15 +60,15 @@ entries_keep database = by (holds_resources database.head.attributes)
         (acts.record_acts 1 (installed_records database.records)))
     by true = resources_keep database.resources
     by false =
-        all-append KeepsHandles (map (acts.put_record 1) (installed_records database.records)) (resetting 1 ∷ [])
+        all_and KeepsHandles (map (acts.put_record 1) (installed_records database.records)) (resetting 1 ∷ [])
         (records_keep (installed_records database.records)) (reset_keeps, tt)
 
 fill_keeps : (database : DatabaseValue) (given : List ℕ) → AllByRecursion KeepsHandles (fill_acts database 1 given)
 unfolding fill_acts
 fill_keeps database given =
-    all-append KeepsHandles (acts.block_acts writing_app 1 database.app) (acts.block_acts writing_sort 1 database.sort ++ entry_acts 1 database)
+    all_and KeepsHandles (acts.block_acts writing_app 1 database.app) (acts.block_acts writing_sort 1 database.sort ++ entry_acts 1 database)
     (app_keeps database.app)
-    (all-append KeepsHandles (acts.block_acts writing_sort 1 database.sort) (entry_acts 1 database) (sort_keeps database.sort) (entries_keep database))
+    (all_and KeepsHandles (acts.block_acts writing_sort 1 database.sort) (entry_acts 1 database) (sort_keeps database.sort) (entries_keep database))
 
 one_closed : (database : DatabaseValue) → LeavesClosed (install_one database 1 [])
 unfolding install_one

@@ -14,7 +14,6 @@ use Rattle.dlp_commands.specs.declared.reading.Reading.TheVariants as reading
 use Rattle.desktop_session.specs.Answers.{block_of, or_none, record_of}
 use Rattle.desktop_session.specs.Lent.{LentValue}
 use Rattle.desktop_session.specs.Requests.{reading_app, reading_sort}
-use Rattle.desktop_session.specs.Says.{grown, sent}
 use Rattle.session_parts.proofs.LinkWords.{Act, AsksOne, LinkFault, SessionFault, SessionValue, Talk, acted, answer_by, counting, said_in, saying}
 use Rattle.session_parts.proofs.RestLaws.{reads_same}
 use Rattle.slow_mirror.specs.Asks.{Asks}
@@ -22,6 +21,7 @@ use Rattle.slow_mirror.specs.Reads.{entries_of, entries_told}
 use Rattle.slow_mirror.proofs.AskLaws.{asks_then, one_said}
 use Rattle.install_backup.specs.BackupActs.{backup_under}
 use Rattle.install_backup.specs.Copies.{block_in, blocked, copied, or_no_block, record_from, records_in, with_entries}
+use Rattle.slow_mirror.proofs.ReadLaws.{grown_untold}
 
 pub lent_record : (function : ℕ) (fault : Option LinkFault) (read : Result ReplyValue ReplyFault) {lent : LentValue} → answer_by fault (said_in function record_of read) ≡ Ok lent
     → records_in read ≡ record_from lent ∷ []
@@ -80,10 +80,6 @@ copied_by (Some talk) head handle count app sort app_reply sort_reply whole coun
     (sym app_is ∙ ap (λ bytes. block_in 0x1B (reply_at 0x1B bytes)) app_told)
     ∙ ap (λ (b : Option (List ℕ)). with_entries (blocked head (block_in 0x1B (reply_at 0x1B (acted (reading_app handle) device).0)) b) device handle
     (entries_told device handle)) (sym sort_is ∙ ap (λ bytes. block_in 0x1D (reply_at 0x1D bytes)) sort_told)
-
-grown_untold : (xs ys : List (List ℕ)) → grown (sent None) xs ≡ grown (sent None) ys
-unfolding grown sent
-grown_untold xs ys = refl
 
 saying_untold : (xs ys : List Act) → saying xs None ≡ saying ys None
 unfolding saying

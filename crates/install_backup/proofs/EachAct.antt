@@ -5,7 +5,8 @@ use Rattle.std.specs.Prelude.{Option, None, Ok, Err}
 use Rattle.session_parts.proofs.LinkWords.{LinkFault, Talk, SessionFault, Act, SessionValue, AsksOne}
 use Rattle.slow_mirror.specs.Asks.{Asks}
 use Rattle.slow_mirror.proofs.AskLaws.{SoFar, asked_part, asks_then, none_said, said_all, said_on}
-use Rattle.slow_mirror.proofs.NewsLaws.{SplitAt, take_all, take_none}
+use Rattle.slow_mirror.proofs.NewsLaws.{SplitAt, take_none}
+use Rattle.desktop_session.proofs.GrowLaws.{take_whole}
 
 module _ {L X : Type 0} {talk : L → Option Talk} {since : L → L → Type 0} {fault : L → Option LinkFault} {downs : L → ℕ} (f : X → Act)
     {old : SessionValue L} where
@@ -33,4 +34,4 @@ module _ {L X : Type 0} {talk : L → Option Talk} {since : L → L → Type 0} 
   pub each_done : {A : Type 0} (k : ℕ) (xs : List X) {new : SessionValue L} (answer : A) → length xs ≤ k
       → SoFar talk since fault downs (map f (take k xs)) old new → Asks talk since fault downs (map f xs) old new (Ok answer)
   each_done k xs {new} answer all before =
-      said_all answer (subst (λ (ys : List X). SoFar talk since fault downs (map f ys) old new) (take_all xs k all) before)
+      said_all answer (subst (λ (ys : List X). SoFar talk since fault downs (map f ys) old new) (take_whole xs k all) before)

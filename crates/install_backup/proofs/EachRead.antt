@@ -8,11 +8,12 @@ use Rattle.dlp_commands.specs.declared.reading.Reading.TheVariants as reading
 use Rattle.desktop_session.specs.Requests.{reading_resource}
 use Rattle.desktop_session.proofs.TellLaws.{said_device}
 use Rattle.session_parts.proofs.LinkWords.{Act, AsksOne, LinkFault, SessionFault, SessionValue, Talk, acted, device_after, reading_at, said, saying}
-use Rattle.session_parts.proofs.RestLaws.{after-append, reads_same}
+use Rattle.session_parts.proofs.RestLaws.{reads_same}
 use Rattle.slow_mirror.specs.Asks.{Asks}
 use Rattle.slow_mirror.proofs.AskLaws.{SoFar, asked_part, asks_then, none_said, said_on, said_part}
 use Rattle.install_backup.specs.BackupActs.{each_read}
 use Rattle.install_backup.specs.Copies.{each_told}
+use Rattle.desktop_session.proofs.ListLaws.{next, after_append}
 
 pub at_same : (handle index : ℕ) (device : Device) → (acted (reading_at handle index) device).1 ≡ device
 unfolding acted tried
@@ -21,9 +22,6 @@ at_same handle index device = reads_same device handle 0x20 (reading.RecordAt in
 pub resource_same : (handle index : ℕ) (device : Device) → (acted (reading_resource handle index) device).1 ≡ device
 unfolding acted tried
 resource_same handle index device = reads_same device handle 0x23 (reading.ResourceAt index 0 65535)
-
-next : (k : ℕ) → k + 1 ≡ suc k
-next k = omega arith
 
 pub read_none : (asks : ℕ → Act) → each_read asks 0 ≡ []
 unfolding each_read
@@ -74,7 +72,7 @@ after_reads : (asks : ℕ → Act) → AllSame asks → (k : ℕ) (device : Devi
 unfolding each_read
 after_reads asks same zero device = refl
 after_reads asks same (suc k) device =
-    after-append (each_read asks k) (asks k ∷ []) device
+    after_append (each_read asks k) (asks k ∷ []) device
     ∙ ap (λ d. (acted (asks k) d).1) (after_reads asks same k device) ∙ same k device
 
 -- the last reply is the device's

@@ -9,7 +9,6 @@ use Rattle.std.specs.Prelude.{Ok, is_some, nat_le, nat_lt}
 use Rattle.std.specs.List.{AllByRecursion, list_any}
 use Rattle.pdb_values.specs.Contents.{ContentValue}
 use Rattle.pdb_values.specs.Databases.{DatabaseValue}
-use Rattle.pdb_values.specs.Heads.{has_bit}
 use Rattle.pdb_values.specs.NamedDatabases.{NamesRise}
 use Rattle.pdb_values.specs.Resources.{with_bytes}
 use Rattle.pdb_values.specs.declared.record.Record.{Record}
@@ -35,12 +34,11 @@ use Rattle.install_backup.specs.InstallActs as acts
 use Rattle.install_backup.specs.Puts.{put_each}
 use Rattle.install_backup.proofs.RecordLaws.{installed-bounded, installed-few, installed-ids, installed-live, installed-none_deleted, installed-untouched}
 use Rattle.install_backup.proofs.ArriveLaws.{Goes, Writable, filled, goes_none, goes_one, goes_then, leads, writable_base, wrote}
+use Rattle.folder_files.proofs.SlotLaws.{not_true}
+use Rattle.handheld_files.proofs.SettledLaws.{turned}
+use Rattle.slow_mirror.proofs.CarryLaws.{secret_again, room_left}
 
 -- ---- records
-
-secret_again : (secret : Bool) → has_bit 0x10 (secret_bit secret) ≡ secret
-secret_again true = refl
-secret_again false = refl
 
 -- a record that has an id which no record has stands behind the others
 put_new : (id : ℕ) (content : ContentValue) (stored : List Record) → list_any (has_id id) stored ≡ false
@@ -69,9 +67,6 @@ any-append id (y ∷ stored) x none other =
     let both = or_parts (y.id == id) (list_any (has_id id) stored) none in
     or_from (y.id == id) (list_any (has_id id) (stored ++ x ∷ [])) both.0 (any-append id stored x both.1 other)
 
-turned : (a b : ℕ) → (a == b) ≡ (b == a)
-turned a b = grind (arith, nat_tests)
-
 others_more : (x : Record) (stored items : List Record) → is_among x.id (map (λ (item : Record). item.id) items) ≡ false → AreOthers stored items
     → AreOthers (stored ++ made x ∷ []) items
 others_more x stored [] none others = tt
@@ -79,19 +74,15 @@ others_more x stored (y ∷ items) none others =
     let both = or_parts (y.id == x.id) (is_among x.id (map (λ (item : Record). item.id) items)) none in
     (any-append y.id stored (made x) others.0 (turned x.id y.id ∙ both.0), others_more x stored items both.1 others.1)
 
-not_from : (b : Bool) → not b ≡ true → b ≡ false
-not_from true is = absurd cc
-not_from false is = refl
-
 are_new : (stored items : List Record) → are_ids (map (λ (item : Record). item.id) items) ≡ true → AreOthers stored items → AreNew stored items
 are_new stored [] are others = tt
 are_new stored (x ∷ items) are others =
     let ids = map (λ (item : Record). item.id) items in
     let first = and_parts _ _ are in
     let second = and_parts _ _ first.1 in (
-      not_from (x.id == 0) first.0,
+      not_true (x.id == 0) first.0,
       others.0,
-      are_new (stored ++ made x ∷ []) items second.1 (others_more x stored items (not_from (is_among x.id ids) second.0) others.1),
+      are_new (stored ++ made x ∷ []) items second.1 (others_more x stored items (not_true (is_among x.id ids) second.0) others.1),
     )
 
 no_others : (items : List Record) → AreOthers [] items
@@ -111,10 +102,6 @@ put_written : (id : ℕ) (content : ContentValue) (database : DatabaseValue) →
     → written_in 0 (writing.WriteRecord id (secret_bit content.secret) content.category content.bytes) database
     ≡ Ok (with_records (records.put_record id content database.records) database, reply.WriteRecord id)
 put_written id content database holds some bounded sorted room = grind (arith, common_steps, nat_tests, secret_again)
-
-room_left : (new : Bool) (n : ℕ) → n < 65535 → (not new || nat_lt n 65535) ≡ true
-room_left true n few = grind (arith, nat_tests)
-room_left false n few = refl
 
 -- ---- resources
 

@@ -1,7 +1,7 @@
 -- Each request of an install may be asked at its turn of a handheld on which nothing is open, and which has room for all.
-use Rattle.std.proofs.lemmas.Bool.{not-true}
+use Rattle.std.proofs.lemmas.Bool.{not-true, or_parts}
 use Rattle.std.proofs.Common.{◌≡◌, ◌∙◌, ap, refl, subst, sym, ℕ, Bool, true, false, cond, List, [], ◌∷◌, ◌++◌, append_assoc, length, take}
-use Rattle.std.specs.Prelude.{◌||◌, Option, Some, None, filter, flat_map, is_some, nat_lt}
+use Rattle.std.specs.Prelude.{Option, Some, None, filter, flat_map, is_some, nat_lt}
 use Rattle.std.specs.List.{AllByRecursion}
 use Rattle.pdb_values.specs.Databases.{DatabaseValue}
 use Rattle.pdb_values.specs.Heads.{is_read_only}
@@ -23,7 +23,6 @@ use Rattle.desktop_session.proofs.OrderLaws.{name_right}
 use Rattle.desktop_session.proofs.RequestFits.{begin_fits, user_fits}
 use Rattle.session_parts.specs.Meets.{greeting}
 use Rattle.session_parts.specs.Rests.{IsAtRest}
-use Rattle.session_parts.proofs.RestLaws.{all-append}
 use Rattle.install_backup.specs.Installed.{installed_head, with_installed}
 use Rattle.install_backup.specs.InstallActs.{install_acts, install_one, installs_of, is_installable}
 use Rattle.install_backup.specs.InstallEnds.{all_installed, first_full, until_full}
@@ -38,6 +37,8 @@ use Rattle.install_backup.proofs.GoneLaws.{can_delete, deleted, with_databases, 
 use Rattle.install_backup.proofs.OthersLaws.{IsMine}
 use Rattle.install_backup.proofs.StayLaws.{one_mine, session_mine}
 use Rattle.install_backup.proofs.WholeLaws.{install_goes, installed_rests}
+use Rattle.palm_device.proofs.TellingLaws.{none_where}
+use Rattle.desk_journal.proofs.StepLaws.{all_and}
 
 -- one that has room, or is passed over, and what is left for those behind it
 record OneGoes (device : Device) (database : DatabaseValue) (databases : List DatabaseValue) : Type 0 where
@@ -45,7 +46,7 @@ record OneGoes (device : Device) (database : DatabaseValue) (databases : List Da
   rests : IsAtRest (with_databases (with_one database device.databases) device)
   room : first_full databases (with_one database device.databases) ≡ None
 
-room_of : (b : Bool) (name : List ℕ) (rest : Option (List ℕ)) → cond b rest (Some name) ≡ None → (b ≡ true) × (rest ≡ None)
+pub room_of : (b : Bool) (name : List ℕ) (rest : Option (List ℕ)) → cond b rest (Some name) ≡ None → (b ≡ true) × (rest ≡ None)
 room_of true name rest full = (refl, full)
 room_of false name rest full = absurd cc
 
@@ -110,14 +111,6 @@ pub record IsRefusedLast (acts : List Act) (device : Device) : Type 0 where
   pub goes : Goes front device after
   pub full : told (making head) after ≡ reply.Refused 0x18 limit
 
-neither : (a b : Bool) → (a || b) ≡ false → (a ≡ false) × (b ≡ false)
-neither true b is = absurd cc
-neither false b is = (refl, is)
-
-none_of : {A : Type 0} (o : Option A) → is_some o ≡ false → o ≡ None
-none_of None is = refl
-none_of (Some x) is = absurd cc
-
 full_told : (device : Device) (head : DbHead) → IsName head.name → device.handles ≡ no_handles → database_of head.name device.databases ≡ None
     → nat_lt (length device.databases) most_databases ≡ false → told (making head) device ≡ reply.Refused 0x18 limit
 unfolding told tried create_db
@@ -128,8 +121,8 @@ one_full : (device : Device) (database : DatabaseValue) → IsAtRest device → 
 unfolding IsPossible
 one_full device database rests bounded full =
     let name = database.head.name in
-    let parts = neither (is_some (database_of name device.databases)) (nat_lt (length device.databases) most_databases) full in
-    let none = none_of (database_of name device.databases) parts.0 in
+    let parts = or_parts (is_some (database_of name device.databases)) (nat_lt (length device.databases) most_databases) full in
+    let none = none_where (database_of name device.databases) parts.0 in
     let can = can_delete device name bounded.head.name rests.closed in
     let same : (acted (deleting name) device).1 ≡ device =
     deleted device name can ∙ ap (λ (ds : List DatabaseValue). with_databases ds device) (without-none name device.databases none) in
@@ -193,7 +186,7 @@ until_plain (database ∷ databases) held bounded =
         → AllByRecursion IsPlain (until_full databases held)
         → AllByRecursion IsPlain (cond b (cond c (install_one database 1 [] ++ until_full databases (with_installed database held)) (making_acts database))
         (until_full databases held))
-    by true true one more rest = all-append IsPlain (install_one database 1 []) (until_full databases (with_installed database held)) one more
+    by true true one more rest = all_and IsPlain (install_one database 1 []) (until_full databases (with_installed database held)) one more
     by true false one more rest = (one.0, (one.1.0, tt))
     by false c one more rest = rest
 

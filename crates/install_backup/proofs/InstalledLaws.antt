@@ -20,6 +20,7 @@ use Rattle.palm_device.specs.Bounds.{IsBoundedDatabase, IsBoundedHead, IsBounded
 use Rattle.install_backup.specs.Installed.{AreApart, installed, installed_behind, installed_block, installed_head, last_bytes, same_key}
 use Rattle.install_backup.proofs.RecordLaws.{installed-bounded, installed-few, installed_records-again, records-none}
 use Rattle.install_backup.proofs.ResourceLaws.{same_key-turned}
+use Rattle.handheld_files.proofs.BoundLaws.{resources_short}
 
 -- ---- its place among others
 
@@ -194,10 +195,6 @@ behind-bounded earlier (resource ∷ later) all =
         (cond b (installed_behind earlier later) (with_bytes (last_bytes resource later) resource ∷ installed_behind (resource ∷ earlier) later))
     by true rest own = rest
     by false rest own = (record { kind = all.0.kind; id = all.0.id; short = last-bounded resource later all.0 all.1 }, own)
-
-resources_short : (items : List Resource) → AllByRecursion IsBoundedResource items → AllByRecursion IsShortResource items
-resources_short [] all = tt
-resources_short (item ∷ items) all = (all.0.short, resources_short items all.1)
 
 -- ---- the whole
 

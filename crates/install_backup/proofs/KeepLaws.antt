@@ -14,9 +14,8 @@ use Rattle.desk_journal.specs.Entries.{EntryValue}
 use Rattle.desk_journal.specs.Overlays.{put_all}
 use Rattle.desktop_session.proofs.StopLaws.{fell_none, stops_none}
 use Rattle.desktop_session.specs.declared.fault.SessionFault.TheVariants as session
-use Rattle.slow_mirror.proofs.NewsLaws.{SplitAt, take_all, take_none}
+use Rattle.slow_mirror.proofs.NewsLaws.{SplitAt, take_none}
 use Rattle.session_parts.specs.Causes.{IsLater}
-use Rattle.session_parts.specs.Rests.{IsFirst}
 use Rattle.session_parts.specs.Spans.{Spans}
 use Rattle.session_parts.specs.declared.stop.Stop.{Stop}
 use Rattle.session_parts.specs.declared.stop.Stop.TheVariants as stop
@@ -24,6 +23,9 @@ use Rattle.session_parts.proofs.EachLaws.{EachSoFar, each_none, each_on}
 use Rattle.session_parts.proofs.LinkWords.{Does, LinkFault, SessionFault, SessionValue, Talk, text}
 use Rattle.install_backup.specs.declared.moved.Moved.{Moved}
 use Rattle.install_backup.specs.Backups.{HasSome, IsBackupCause, IsKept, IsUnkept, KeepsOne, KeepsSome, SaysCopied, backups_under, file_of, kept_moved, next_acts}
+use Rattle.desk_journal.proofs.StepLaws.{none_put}
+use Rattle.session_parts.proofs.HandleLaws.{one_first}
+use Rattle.desktop_session.proofs.GrowLaws.{take_whole}
 
 put_all-append : (xs ys : List EntryValue) (held : FileMap) → put_all (xs ++ ys) held ≡ put_all ys (put_all xs held)
 put_all-append [] ys held = refl
@@ -32,10 +34,6 @@ put_all-append (x ∷ xs) ys held = put_all-append xs ys (finmap.insert held x.n
 put_twice : (xs ys : List EntryValue) (o : Option FileMap) → option_map (put_all ys) (option_map (put_all xs) o) ≡ option_map (put_all (xs ++ ys)) o
 put_twice xs ys None = refl
 put_twice xs ys (Some held) = ap (λ (m : FileMap). Some m) (sym (put_all-append xs ys held))
-
-pub put_none : (o : Option FileMap) → o ≡ option_map (put_all []) o
-put_none None = refl
-put_none (Some held) = refl
 
 -- ---- the files at a moment
 
@@ -58,10 +56,6 @@ either P first second told (inl is) = subst P (sym is) first
 either P first second told (inr is) = subst P (sym is) second
 
 -- ---- what goes out
-
-first_one : (o : Option Talk) → IsFirst o 1
-first_one None = tt
-first_one (Some talk) = λ none. refl
 
 -- ---- one
 
@@ -106,7 +100,7 @@ module _ {L F : Type 0} {talk : L → Option Talk} {since : L → L → Type 0} 
   kept_begin itself heads none = record {
     wholes = [];
     each = subst (λ (hs : List DbHead). EachSoFar talk since fault downs backups_under SaysCopied hs [] old old) (sym (take_none heads)) (each_none itself);
-    files = put_none (contents folder);
+    files = none_put (contents folder);
     each_moment = no_moment (HasSome [] (contents folder)) (moments folder) (moments folder) refl;
     told = none;
   }
@@ -233,7 +227,7 @@ module _ {L F : Type 0} {talk : L → Option Talk} {since : L → L → Type 0} 
       files = before.files;
       each_moment = before.each_moment;
       next = record { handle = 1; given = [] };
-      first = first_one (talk new.link);
+      first = one_first (talk new.link);
       behind = stops_none talk since fault downs (map text (next_acts (talk new.link) split.rest (record { handle = 1; given = [] }))) new.link new.link refl
           (itself new.link) (fell_none fault downs new.link);
       unkept = λ is. absurd cc;
@@ -250,7 +244,7 @@ module _ {L F : Type 0} {talk : L → Option Talk} {since : L → L → Type 0} 
   kept_all itself heads k {moved} {new} all before = record {
     done = take k heads;
     rest = [];
-    parts = append-nil (take k heads) ∙ take_all heads k all;
+    parts = append-nil (take k heads) ∙ take_whole heads k all;
     stretches = before.each.stretches;
     wholes = before.wholes;
     now = new.link;
@@ -261,7 +255,7 @@ module _ {L F : Type 0} {talk : L → Option Talk} {since : L → L → Type 0} 
     files = before.files;
     each_moment = before.each_moment;
     next = record { handle = 1; given = [] };
-    first = first_one (talk new.link);
+    first = one_first (talk new.link);
     behind = stops_none talk since fault downs [] new.link new.link refl (itself new.link) (fell_none fault downs new.link);
     unkept = λ is. absurd cc;
     all = (refl, refl);

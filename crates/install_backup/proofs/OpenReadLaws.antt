@@ -1,5 +1,5 @@
 -- A database that is opened to be read where nothing is open gets handle 1.
-use Rattle.std.proofs.Common.{◌≡◌, ◌∙◌, refl, sym, ap, subst, ℕ, List, lit<, lit≤}
+use Rattle.std.proofs.Common.{◌≡◌, ◌∙◌, sym, ap, subst, ℕ, List}
 use Rattle.std.specs.Prelude.{Option, Some, None, IfSome, Result, Ok, Err}
 use Rattle.dlp_replies.specs.Frames.{reply_text}
 use Rattle.dlp_replies.specs.ReplyReading.{reply_at}
@@ -10,22 +10,15 @@ use Rattle.palm_device.specs.Handles.{no_handles}
 use Rattle.dlp_commands.specs.DatabaseFunctions.{open_db}
 use Rattle.dlp_commands.specs.DeviceSteps.{outcome, tried}
 use Rattle.dlp_commands.specs.Reached.{Trial}
-use Rattle.dlp_commands.proofs.ReplyLaws.{Replies, refused_reply}
+use Rattle.dlp_commands.proofs.ReplyLaws.{refused_reply}
 use Rattle.dlp_commands.proofs.TableLaws.{tried_done}
 use Rattle.dlp_commands.proofs.TriedLaws.{Keeps}
 use Rattle.desktop_session.specs.Requests.{opening_to_read}
 use Rattle.desktop_session.proofs.GreetLaws.{no_fault_said}
 use Rattle.desktop_session.proofs.TellLaws.{IfDone, Opens, open_done, read_again}
 use Rattle.session_parts.specs.Rests.{IsFirst}
-use Rattle.session_parts.proofs.HandleLaws.{IsOpened}
+use Rattle.session_parts.proofs.HandleLaws.{IsOpened, said_of_answer, one_reply, any_kept}
 use Rattle.session_parts.proofs.LinkWords.{AsksOne, LinkFault, SessionFault, SessionValue, Talk, acted, answer_by, handle_of, said_in}
-
-one_reply : Replies 0x17 (reply.OpenDb 1)
-one_reply = record { is = record { fields = lit< tt; values = tt; fits = lit≤ tt }; function = refl }
-
-any_kept : (P : Device × ReplyValue → Type 0) (r : Trial) → Keeps P r → Keeps (λ (done : Device × ReplyValue). Unit {0}) r
-any_kept P (Ok done) keeps = tt
-any_kept P (Err code) keeps = keeps
 
 handle_by : (device : Device) (handle : ℕ) (name : List ℕ) (r : Trial) → IfDone (Opens name 0x90 (reply.OpenDb 1)) r
     → Keeps (λ (done : Device × ReplyValue). Unit {0}) r → said_in 0x17 handle_of (reply_at 0x17 (outcome device 0x17 r).0) ≡ Ok handle → handle ≡ 1
@@ -46,10 +39,6 @@ unfolding acted tried
 opens_one device name handle none is =
     handle_by device handle name (open_db device 0 0x90 name) (open_done device 0x90 name none)
     (any_kept _ (open_db device 0 0x90 name) (tried_done 0 device (opening_to_read name).asks tt)) is
-
-said_of_answer : {A : Type 0} (fault : Option LinkFault) (said : Result A SessionFault) (x : A) → Ok x ≡ answer_by fault said → said ≡ Ok x
-said_of_answer None said x is = sym is
-said_of_answer (Some fault) said x is = absurd cc
 
 first_by : (o : Option Talk) (name : List ℕ) (handle : ℕ) (bytes : List ℕ)
     → IfSome o (λ talk. bytes ≡ (acted (opening_to_read name) talk.device).0) → said_in 0x17 handle_of (reply_at 0x17 bytes) ≡ Ok handle → IsFirst o handle

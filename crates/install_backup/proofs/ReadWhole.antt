@@ -32,7 +32,7 @@ use Rattle.session_parts.specs.Rests.{IsAtRest}
 use Rattle.session_parts.specs.Spans.{within}
 use Rattle.session_parts.specs.Stretches.{AreFirst, EachSays, Stretch, each_acts}
 use Rattle.session_parts.proofs.LinkWords.{IsTellable, Talk, closing, counting, saying}
-use Rattle.session_parts.proofs.RestLaws.{after-append, closes_does, greeting_same, leads_to, listings_same, opened_on, reads_same}
+use Rattle.session_parts.proofs.RestLaws.{closes_does, greeting_same, leads_to, opened_on, reads_same}
 use Rattle.session_parts.proofs.StretchLaws.{Tells, first_is, tells_on}
 use Rattle.slow_mirror.specs.Reads.{entries_in, entries_told}
 use Rattle.install_backup.specs.BackupActs.{backup_of, backup_under, each_read, entry_reads}
@@ -40,6 +40,7 @@ use Rattle.install_backup.specs.BackupEnds.{backup_front, read_of}
 use Rattle.install_backup.specs.Backups.{SaysCopied, backups_under}
 use Rattle.install_backup.specs.Copies.{copied}
 use Rattle.install_backup.proofs.CopyLaws.{app_same, count_same, sort_same}
+use Rattle.desktop_session.proofs.ListLaws.{after_append, listings_same}
 
 -- ---- each database of a list is that of its name
 
@@ -85,7 +86,7 @@ each_same : (asks : ℕ → Act) → ((place : ℕ) → IsSame (asks place)) →
 unfolding each_read
 each_same asks same zero device = refl
 each_same asks same (suc count) device =
-    after-append (each_read asks count) (asks count ∷ []) device ∙ ap (λ d. (acted (asks count) d).1) (each_same asks same count device)
+    after_append (each_read asks count) (asks count ∷ []) device ∙ ap (λ d. (acted (asks count) d).1) (each_same asks same count device)
     ∙ (same count).at device
 
 entries_same : (b : Bool) (count : ℕ) (device : Device) → device_after (entry_reads b 1 count) device ≡ device
@@ -143,7 +144,7 @@ module _ (device : Device) (rests : IsAtRest device) (database : DatabaseValue) 
   leaves =
       let acts = backup_under (holds_resources database.head.attributes) (entry_count database) 1 in
       ap (device_after (acts ++ closing 1 ∷ [])) opens
-      ∙ after-append acts (closing 1 ∷ []) here
+      ∙ after_append acts (closing 1 ∷ []) here
       ∙ ap (λ d. (acted (closing 1) d).1) (under_same (holds_resources database.head.attributes) (entry_count database) here)
       ∙ closes_does device name 0x90 0 rests.closed
 
@@ -199,7 +200,7 @@ leaves_each : (device : Device) (kept : List DatabaseValue) → IsAtRest device 
     → device_after (flat_map backup_of kept) device ≡ device
 leaves_each device [] rests held = refl
 leaves_each device (database ∷ kept) rests held =
-    after-append (backup_of database) (flat_map backup_of kept) device
+    after_append (backup_of database) (flat_map backup_of kept) device
     ∙ ap (device_after (flat_map backup_of kept)) (leaves device rests database held.0)
     ∙ leaves_each device kept rests held.1
 
@@ -207,7 +208,7 @@ leaves_each device (database ∷ kept) rests held =
 pub leaves_all : (device : Device) → IsAtRest device → device_after (backup_front device ++ flat_map backup_of device.databases) device ≡ device
 leaves_all device rests =
     let count : ℕ = max 1 (length device.databases) in
-    after-append (backup_front device) (flat_map backup_of device.databases) device
+    after_append (backup_front device) (flat_map backup_of device.databases) device
     ∙ ap (device_after (flat_map backup_of device.databases))
-    (after-append greeting (listings count) device ∙ ap (device_after (listings count)) (greeting_same device) ∙ listings_same count device)
+    (after_append greeting (listings count) device ∙ ap (device_after (listings count)) (greeting_same device) ∙ listings_same count device)
     ∙ leaves_each device device.databases rests (held_all device.databases rests.proper.sound.names)

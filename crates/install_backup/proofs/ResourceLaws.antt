@@ -1,7 +1,6 @@
 -- Resources that are put one after another are those that are installed.
 use Rattle.std.proofs.lemmas.Bool.{and_parts, and_from, eqb-true}
-use Rattle.std.proofs.lemmas.Bool.Decides.{nat_tests}
-use Rattle.std.proofs.Common.{arith, ◌≡◌, ◌∙◌, ap, refl, sym, ℕ, ◌==◌, ◌||◌, not, Bool, true, false, cond, List, [], ◌∷◌}
+use Rattle.std.proofs.Common.{◌≡◌, ◌∙◌, ap, refl, sym, ℕ, ◌==◌, ◌||◌, not, Bool, true, false, cond, List, [], ◌∷◌}
 use Rattle.std.specs.Prelude.{filter}
 use Rattle.std.specs.List.{list_any}
 use Rattle.pdb_values.specs.Resources.{with_bytes}
@@ -11,6 +10,8 @@ use Rattle.palm_device.specs.Entries.{put_entry}
 use Rattle.palm_device.specs.Resources.{put_resource}
 use Rattle.install_backup.specs.Installed.{installed_behind, last_bytes, same_key}
 use Rattle.install_backup.specs.Puts.{put_each}
+use Rattle.handheld_files.proofs.SettledLaws.{own_id}
+use Rattle.desk_store.proofs.CountLaws.{same_truth}
 
 -- ---- one type and one id
 
@@ -23,21 +24,15 @@ key_is one other is =
     let parts = and_parts _ (other.id == one.id) is in
     record { kind = bytes_eq-is other.kind.0 one.kind.0 parts.0; id = eqb-true other.id one.id parts.1 }
 
-own_number : (n : ℕ) → (n == n) ≡ true
-own_number n = grind (arith, nat_tests)
-
 key_from : (one other : Resource) → SameKey one other → same_key one other ≡ true
-key_from one other same = rw (same.kind, same.id) (and_from _ (one.id == one.id) (bytes_eq-own one.kind.0) (own_number one.id))
-
-truth : (a b : Bool) → (a ≡ true → b ≡ true) → (b ≡ true → a ≡ true) → a ≡ b
-truth a b there back = grind arith
+key_from one other same = rw (same.kind, same.id) (and_from _ (one.id == one.id) (bytes_eq-own one.kind.0) (own_id one.id))
 
 key_turned : (one other : Resource) → SameKey one other → SameKey other one
 key_turned one other same = record { kind = sym same.kind; id = sym same.id }
 
 pub same_key-turned : (one other : Resource) → same_key one other ≡ same_key other one
 same_key-turned one other =
-    truth (same_key one other) (same_key other one) (λ is. key_from other one (key_turned one other (key_is one other is)))
+    same_truth (same_key one other) (same_key other one) (λ is. key_from other one (key_turned one other (key_is one other is)))
     (λ is. key_from one other (key_turned other one (key_is other one is)))
 
 -- with the other one's bytes it is the other one

@@ -1,6 +1,6 @@
 -- Whether a handheld that is told made a database, and why it did not.
 use Rattle.std.proofs.lemmas.Bool.{and_parts, eqb-true}
-use Rattle.std.proofs.Common.{◌≡◌, ◌∙◌, ap, refl, sym, subst, ℕ, ◌==◌, ◌&&◌, ◌||◌, Bool, true, false, cond, List, [], ◌∷◌, length, lit<, lit≤}
+use Rattle.std.proofs.Common.{◌≡◌, ◌∙◌, ap, refl, sym, subst, ℕ, ◌==◌, ◌&&◌, ◌||◌, Bool, true, false, cond, List, [], ◌∷◌, length}
 use Rattle.std.specs.Prelude.{Option, Some, None, IfErr, IfSome, Result, Ok, Err, is_none, is_some, nat_lt}
 use Rattle.pdb_values.specs.NamedDatabases.{database_of}
 use Rattle.pdb_values.specs.Names.{name_fault}
@@ -16,14 +16,14 @@ use Rattle.dlp_commands.specs.DatabaseFunctions.{create_db, named}
 use Rattle.dlp_commands.specs.DeviceSteps.{outcome, tried}
 use Rattle.dlp_commands.specs.Errors.{exists, limit, too_many_open, ◌>>=◌, check, need}
 use Rattle.dlp_commands.specs.Reached.{Trial}
-use Rattle.dlp_commands.proofs.ReplyLaws.{Replies, refused_reply}
+use Rattle.dlp_commands.proofs.ReplyLaws.{refused_reply}
 use Rattle.dlp_commands.proofs.TableLaws.{tried_done}
 use Rattle.dlp_commands.proofs.TriedLaws.{Keeps}
 use Rattle.desktop_session.specs.declared.fault.SessionFault.TheVariants as session
 use Rattle.desktop_session.proofs.TellLaws.{IfDone, Opens, done_then, read_again}
 use Rattle.session_parts.specs.declared.stop.Stop.TheVariants as stop
 use Rattle.desktop_session.proofs.LastLaws.{cause_answered}
-use Rattle.session_parts.proofs.HandleLaws.{make_done}
+use Rattle.session_parts.proofs.HandleLaws.{make_done, made_reply, any_kept}
 use Rattle.session_parts.proofs.LinkWords.{LinkFault, Talk, SessionFault, acted, answer_by, handle_of, said_in, making, SessionValue, AsksOne}
 use Rattle.install_backup.specs.Rooms.{IsUnmade, Judges, fault_of, has_room, stop_at}
 
@@ -73,13 +73,6 @@ full_refused device creator kind flags version name =
     neither (Some x) b new many = absurd cc
 
 -- ---- what is read of the answer
-
-made_reply : Replies 0x18 (reply.CreateDb 1)
-made_reply = record { is = record { fields = lit< tt; values = tt; fits = lit≤ tt }; function = refl }
-
-any_kept : (P : Device × ReplyValue → Type 0) (r : Trial) → Keeps P r → Keeps (λ (done : Device × ReplyValue). Unit {0}) r
-any_kept P (Ok done) keeps = tt
-any_kept P (Err code) keeps = keeps
 
 refused_read : (code : ℕ) (r : Trial) → r ≡ Err code → Keeps (λ (done : Device × ReplyValue). Unit {0}) r
     → reply_at 0x18 (reply_text (reply.Refused 0x18 code)) ≡ Ok (reply.Refused 0x18 code)

@@ -1,7 +1,7 @@
 -- At each front of an install the databases in front of one are installed, and all others are as they were.
 use Rattle.std.proofs.lemmas.Bool.{not-true}
 use Rattle.std.proofs.Common.{◌≡◌, ◌∙◌, ap, inl, inr, ◌⊎◌, refl, sym, subst, ℕ, Bool, true, false, cond, List, [], ◌∷◌, ◌++◌, map, append_assoc}
-use Rattle.std.specs.Prelude.{Option, Some, None, flat_map}
+use Rattle.std.specs.Prelude.{Some, None, flat_map}
 use Rattle.std.specs.List.{AllByRecursion}
 use Rattle.std.specs.Str.{bytes_eq}
 use Rattle.pdb_values.specs.Databases.{DatabaseValue}
@@ -32,6 +32,7 @@ use Rattle.install_backup.proofs.GoneLaws.{with_databases}
 use Rattle.install_backup.proofs.OthersLaws.{Behind, IsMine, OpenMine, Within, keeps-front, none_open_mine, run_cut}
 use Rattle.install_backup.proofs.StayLaws.{one_mine}
 use Rattle.install_backup.proofs.WholeLaws.{install_goes, installed_rests}
+use Rattle.install_backup.proofs.InstallOrder.{room_of}
 
 -- the database of this name is underway, from how it was on the one device
 abbrev Underway : Device → DatabaseValue → Device → Type 0
@@ -43,10 +44,6 @@ record WasDone (device : Device) (database : DatabaseValue) (databases : List Da
   after : device_after (says_one database) device ≡ with_databases (with_one database device.databases) device
   rests : IsAtRest (with_databases (with_one database device.databases) device)
   room : first_full databases (with_one database device.databases) ≡ None
-
-room_of : (b : Bool) (name : List ℕ) (rest : Option (List ℕ)) → cond b rest (Some name) ≡ None → (b ≡ true) × (rest ≡ None)
-room_of true name rest full = (refl, full)
-room_of false name rest full = absurd cc
 
 was_done : (device : Device) (database : DatabaseValue) (databases : List DatabaseValue) → IsAtRest device → IsBoundedDatabase database
     → first_full (database ∷ databases) device.databases ≡ None → WasDone device database databases

@@ -64,7 +64,7 @@ all_live : (items : List Record) → AllByRecursion (λ (item : Record). item.de
 all_live [] live = refl
 all_live (item ∷ items) live = rw live.0 (all_live items live.1)
 
-all_idle : (items : List Record) → list_all (λ (item : Record). not item.busy) items ≡ true → AllByRecursion (λ (item : Record). item.busy ≡ false) items
+pub all_idle : (items : List Record) → list_all (λ (item : Record). not item.busy) items ≡ true → AllByRecursion (λ (item : Record). item.busy ≡ false) items
 all_idle [] is = tt
 all_idle (item ∷ items) is =
     let both = and_parts (not item.busy) (list_all (λ (item : Record). not item.busy) items) is in

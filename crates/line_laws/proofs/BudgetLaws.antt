@@ -1,17 +1,14 @@
 -- The budget of an end that is held up.
-use Rattle.line_laws.proofs.Names.{rules, ◌≡◌, ℕ, zero, suc, ◌+◌, ◌*◌, ◌-◌, ◌<◌, ◌≤◌, Bool, true, false, ◌&&◌, cond, List, [], ◌∷◌, length, drop, Some, None}
-use Rattle.line_laws.proofs.Names.{refl, ap, subst, ◌∙◌, arith, inl, inr, cases_Bool, cases_lt, cond-true, cond-false, comes, faulted, data_comes, newest}
+use Rattle.line_laws.proofs.Names.{rules, ◌≡◌, ℕ, zero, suc, ◌+◌, ◌*◌, ◌-◌, ◌<◌, ◌≤◌, Bool, true, false, cond, List, [], ◌∷◌, length, drop, Some, None}
+use Rattle.line_laws.proofs.Names.{ap, subst, ◌∙◌, arith, inl, inr, cases_Bool, cases_lt, cond-true, cond-false, comes, faulted, data_comes, newest}
 use Rattle.line_laws.proofs.Names.{count, PastFrame, add, data_of, said, acked, at, is_data_of, End, data_pending, load, RepeatBudget, HeldBudget, FirstTry, HeldUp}
 use Rattle.line_laws.proofs.Names.{Counts, DataPends, AckPends, Progress, IsHeld, IsBlocked}
 use Rattle.line_laws.proofs.PastLaws.{at_all, at_push, at_at, add_either}
 use Rattle.line_laws.proofs.CountLaws.{follows-length}
 use Rattle.line_laws.proofs.FaultLaws.{newest_inside, newest_from, fault_at_tick, late_is_fault}
+use Rattle.std.proofs.lemmas.Bool.{and_left}
 
 -- ---- counts
-
-pub and_false : (a b : Bool) → a ≡ false → (a && b) ≡ false
-and_false true b is = absurd cc
-and_false false b is = refl
 
 pub count_pass : (p : PastFrame → Bool) (frame : PastFrame) (past : List PastFrame) → p frame ≡ true → count p (frame ∷ past) ≡ count p past + 1
 count_pass p frame past passes = cond-true _ _ _ passes
@@ -84,7 +81,7 @@ comes_data-drop X (suc k) (frame ∷ past) = let below = comes_data-drop X k pas
     arith,
     below,
     count_fail (is_data_of X) frame past fails,
-    count_fail (data_comes X) frame past (and_false (is_data_of X frame) (comes frame.course) fails),
+    count_fail (data_comes X) frame past (and_left (is_data_of X frame) (comes frame.course) fails),
   )
 ]
 

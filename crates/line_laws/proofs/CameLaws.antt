@@ -166,7 +166,7 @@ came_is : (cursor : End → ℕ) (past : List PastFrame) (n : ℕ) {frame : Past
     → came_by cursor past n ≡ (comes frame.course && leb n (cursor frame.from))
 came_is cursor past n here = ap (is_taken cursor n) here
 
-and_none : (b : Bool) → (b && false) ≡ false
+pub and_none : (b : Bool) → (b && false) ≡ false
 and_none true = refl
 and_none false = refl
 

@@ -66,7 +66,7 @@ counts_later counts more inside = search rules
 pub all_fit-is : {X : End} {a s c d cur : ℕ} (past : List PastFrame) → a ≡ c → s ≡ d → AllFit X a s cur past → AllFit X c d cur past
 all_fit-is past ac sd all = search rules
 
-len : {s t : List Key} → s ≡ t → length s ≡ length t
+pub len : {s t : List Key} → s ≡ t → length s ≡ length t
 len e = ap length e
 
 -- Y took the newest fragment of X, in frame n, and acknowledges it

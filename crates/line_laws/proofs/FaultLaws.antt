@@ -3,6 +3,7 @@ use Rattle.line_laws.proofs.Names.{rules, ◌≡◌, ◌⊎◌, ℕ, ◌+◌, �
 use Rattle.line_laws.proofs.Names.{cases_Bool, cases_lt, cond-true, cond-false, Key, faulted, late_of, newest, FrameCourse, Came, Gone, Late, PastFrame, said, acked, at}
 use Rattle.line_laws.proofs.Names.{IsAckOf, is_data_of, End, Handheld, Desktop, data_frame, ack_frame, DataPends, AckPends, Progress, IsHeld, IsBlocked}
 use Rattle.line_laws.proofs.PastLaws.{at_all, at_push}
+use Rattle.line_laws.proofs.CountLaws.{len}
 
 -- ---- the newest that passes
 
@@ -55,9 +56,6 @@ fault_at_tick {X} {Y} {past} {cx} {cy} {released} progress bx by = elim bx [
 
 pub at_top : {frame : PastFrame} {past : List PastFrame} → at (length past + 1) (frame ∷ past) ≡ frame ∷ past
 at_top = search rules
-
-len : {s t : List Key} → s ≡ t → length s ≡ length t
-len e = ap length e
 
 data_pends-push : {X : End} {frame : PastFrame} {past : List PastFrame} {cx : ℕ} → DataPends X past cx → said X (frame ∷ past) ≡ said X past
     → DataPends X (frame ∷ past) cx

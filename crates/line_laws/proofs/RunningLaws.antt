@@ -36,12 +36,12 @@ late_comes Came late = absurd cc
 late_comes Gone late = absurd cc
 late_comes Late late = refl
 
-no_data : (a b c : Bool) → (a && c) ≡ false → ((a && b) && c) ≡ false
+pub no_data : (a b c : Bool) → (a && c) ≡ false → ((a && b) && c) ≡ false
 no_data false b c gone = refl
 no_data true false c gone = refl
 no_data true true c gone = gone
 
-ack_no_data : (X : End) (frame : PastFrame) → IsAckOf X frame → data_comes X frame ≡ false
+pub ack_no_data : (X : End) (frame : PastFrame) → IsAckOf X frame → data_comes X frame ≡ false
 ack_no_data X frame is = go (is_end X frame.from) frame.is_data (comes frame.course) is where
   go : (a b c : Bool) → (a && not b) ≡ true → ((a && b) && c) ≡ false
   go false b c is = refl

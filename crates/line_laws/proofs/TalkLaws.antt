@@ -1,5 +1,5 @@
 -- The messages of both ends over each step of a running line.
-use Rattle.line_laws.proofs.Names.{rules, ◌≡◌, ℕ, ◌+◌, ◌-◌, ◌<◌, ◌≤◌, Bool, true, false, not, ◌&&◌, List, [], ◌∷◌, length, Some, refl, sym, ap, subst, ◌∙◌}
+use Rattle.line_laws.proofs.Names.{rules, ◌≡◌, ℕ, ◌+◌, ◌-◌, ◌<◌, ◌≤◌, Bool, true, false, ◌&&◌, List, [], ◌∷◌, length, Some, refl, sym, ap, subst, ◌∙◌}
 use Rattle.line_laws.proofs.Names.{arith, inl, inr, cases_lt, both_ways, and_parts, and_from, Key, Taken, session_id, piece_count, ReceiverValue}
 use Rattle.line_laws.proofs.Names.{next_key_differs, comes, late_of, data_comes, IsHeldIn, FrameCourse, PastFrame, is_end, first, data_of, ack_of, said, acked, at}
 use Rattle.line_laws.proofs.Names.{is_data_of, run, IsDataOf, IsAckOf, Reaches, AcksAreFor, IsKnown, EndReached, IfAnswers, is_ack_of, SpeaksProperly, Talk}
@@ -19,6 +19,7 @@ use Rattle.line_laws.proofs.CameLaws.{answers-grow, came-push, came-moves, same_
 use Rattle.line_laws.proofs.MessageLaws.{count-say, messages-other, longer-say, answers-longer}
 use Rattle.line_laws.proofs.SpeechLaws.{reaches-push, took-push, took-grows, speech-moves, speech-push, speech-again, speech-taken, speech-ends, speech-next}
 use Rattle.line_laws.proofs.SpeechLaws.{speech-starts, speech-longer}
+use Rattle.line_laws.proofs.RunningLaws.{ack_no_data}
 
 -- ---- what the steps share
 
@@ -233,13 +234,6 @@ talking_newest {X} {Y} {talk} {later} {past} {cx} {y} {fx} {k} {course} {frame} 
           (omega (arith, number, was.x_speech.begun, current, (accepting.answers waits).0, accepting.waits))
 
 -- ---- acknowledgements
-
-ack_no_data : (X : End) (frame : PastFrame) → IsAckOf X frame → data_comes X frame ≡ false
-ack_no_data X frame is = go (is_end X frame.from) frame.is_data (comes frame.course) is where
-  go : (a b c : Bool) → (a && not b) ≡ true → ((a && b) && c) ≡ false
-  go false b c is = refl
-  go true false c is = refl
-  go true true c is = absurd cc
 
 module _ {X Y : End} {talk : Talk} {past : List PastFrame} {cx cy released : ℕ} {x y : Side} {rx ry : ReceiverValue} {tx ty : ℕ} where
   -- the acknowledgement of the waiting piece of Y tells it that this was taken

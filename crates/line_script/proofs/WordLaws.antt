@@ -151,7 +151,7 @@ split_at_space-found words parts e =
     rw (← got.2, ← is) cut
 
 -- a digit is no space
-digit_is_none : (byte : ℕ) → digit_value byte < 10 → eqb byte 32 ≡ false
+pub digit_is_none : (byte : ℕ) → digit_value byte < 10 → eqb byte 32 ≡ false
 digit_is_none byte digit = grind (arith, ne_eqb)
 
 front_of : (front back : List ℕ) → AllDigits 10 front

@@ -11,6 +11,7 @@ use Rattle.line_steps.proofs.FrameLaws.{length-past}
 use Rattle.line_steps.proofs.HoldsLaws.{moved}
 use Rattle.line_steps.proofs.MarkingLaws.{marked_at, length-marked}
 use Rattle.line_steps.proofs.BytesLaws.{packet_of, scan_again}
+use Rattle.line_steps.proofs.XorLaws.{length-xored}
 
 -- ---- one frame
 
@@ -20,15 +21,10 @@ twice n a b = omega arith
 once : (n : ℕ) → raised (raised n 0) 0 ≡ raised n 0
 once n = omega arith
 
-xored_length : (xs bytes : List ℕ) → length (xored xs bytes) ≡ length bytes
-xored_length [] bytes = refl
-xored_length (x ∷ xs) [] = refl
-xored_length (x ∷ xs) (byte ∷ bytes) = ap suc (xored_length xs bytes)
-
 hit_length : (place : ℕ) (xs bytes : List ℕ) → length (hit_at place xs bytes) ≡ length bytes
 hit_length place xs bytes =
     let k = place % length bytes in
-    omega (arith, length-append (take k bytes) (xored xs (drop k bytes)), xored_length xs (drop k bytes), length-take k bytes, length-drop k bytes)
+    omega (arith, length-append (take k bytes) (xored xs (drop k bytes)), length-xored xs (drop k bytes), length-take k bytes, length-drop k bytes)
 
 -- no packet in what was left
 or_right : (a : Bool) {b : Bool} → (a || b) ≡ false → b ≡ false

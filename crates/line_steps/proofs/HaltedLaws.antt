@@ -370,7 +370,7 @@ module _ {wire mid new : Wire} {r : ℕ} {x y : Half} {given : FateValue} where
 
 -- ---- the same from elsewhere
 
-spoken_turned : {X Y : End} {talk : Talk} {cursor : End → ℕ} {past : List PastFrame} → HasProperPast X Y talk cursor past → HasProperPast Y X talk cursor past
+pub spoken_turned : {X Y : End} {talk : Talk} {cursor : End → ℕ} {past : List PastFrame} → HasProperPast X Y talk cursor past → HasProperPast Y X talk cursor past
 spoken_turned it = search rules
 
 module _ {halt : Halt} {wire : Wire} {x y : Half} {new : Wire} {later_x later_y : Half} where

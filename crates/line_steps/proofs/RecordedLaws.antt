@@ -13,6 +13,7 @@ use Rattle.line_steps.proofs.HoldsLaws.{course_comes, moved}
 use Rattle.line_steps.proofs.MarkingLaws.{length-marked}
 use Rattle.line_steps.proofs.StoryLaws.{heard_past}
 use Rattle.line_steps.proofs.TalkedLaws.{x_heard_now, y_heard_now, at_own, at_other, cursor_own, cursor_moves, talking_now}
+use Rattle.line_laws.proofs.RunningLaws.{no_data}
 
 -- ---- a frame is sent
 
@@ -165,16 +166,11 @@ recorded_other {x} {later_x} {later_y} holds next is adds passed stays was =
 
 -- ---- over skipped frames
 
-gone_data : (a b c : Bool) → (a && c) ≡ false → ((a && b) && c) ≡ false
-gone_data false b c gone = refl
-gone_data true false c gone = refl
-gone_data true true c gone = gone
-
 talks_past : {talk : Talk} {wire : Wire} {x y : Half} {frame : Frame} → Holds wire x y → slice_get wire.frames.items x.taken ≡ Some frame
     → (is_end x.end frame.from && arrives (fate_value frame.fate)) ≡ false → Talks talk wire x y → Talks talk wire (moved x) y
 talks_past {wire} {x} {y} {frame} holds here gone talks =
     let sent = sent_of frame in
-    let away : data_comes x.end sent ≡ false = gone_data (is_end x.end frame.from) sent.is_data (comes sent.course)
+    let away : data_comes x.end sent ≡ false = no_data (is_end x.end frame.from) sent.is_data (comes sent.course)
     (ap (λ b. is_end x.end frame.from && b) (course_comes (fate_value frame.fate)) ∙ gone) in
     record {
       fx = holds.fx;
@@ -194,7 +190,7 @@ took_past : {wire : Wire} {x y : Half} {frame : Frame} → Holds wire x y → sl
     → (is_end x.end frame.from && arrives (fate_value frame.fate)) ≡ false → took_count wire (moved x) ≡ took_count wire x
 took_past {wire} {x} {frame} holds here gone =
     let sent = sent_of frame in
-    let away : data_comes x.end sent ≡ false = gone_data (is_end x.end frame.from) sent.is_data (comes sent.course)
+    let away : data_comes x.end sent ≡ false = no_data (is_end x.end frame.from) sent.is_data (comes sent.course)
     (ap (λ b. is_end x.end frame.from && b) (course_comes (fate_value frame.fate)) ∙ gone) in
     ap (λ p. length (heard x.end p)) (past_at wire.frames.items x.taken holds.go here) ∙ ap length (cond-false _ _ _ away)
 

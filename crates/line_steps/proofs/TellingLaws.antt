@@ -1,7 +1,7 @@
 -- What the frames tell of the messages, where an end takes the other one's next frame.
 use Rattle.line_steps.proofs.Names.{rules, ◌≡◌, ◌+◌, ◌<◌, ◌≤◌, Bool, true, false, ◌&&◌, ◌∷◌, length, Some, None, sym, ap, subst, ◌∙◌, arith, Key, Taken}
-use Rattle.line_steps.proofs.Names.{Accepted, Whole, Repeated, Dropped, piece_count, SenderValue, waiting_key, End, FateValue, comes, data_comes, course_of}
-use Rattle.line_steps.proofs.Names.{PastFrame, first, said, acked, is_data_of, IsAckOf, Talk, Follows, ack_frame, part_now, data_frame, key_now, Side, Accepting}
+use Rattle.line_steps.proofs.Names.{Accepted, Whole, Repeated, Dropped, piece_count, SenderValue, waiting_key, FateValue, comes, course_of}
+use Rattle.line_steps.proofs.Names.{PastFrame, first, said, acked, is_data_of, Talk, Follows, ack_frame, part_now, data_frame, key_now, Side, Accepting}
 use Rattle.line_steps.proofs.Names.{acknowledged, take_ack, matched, talking_passes, talking_copy, talking_newest, talking_last_ack, talking_next_piece, Half}
 use Rattle.line_steps.proofs.Names.{Wire, sent_of, past_now, side_of, Holds, Sends, ack_fragment, AckNext, DataHeard, cursor_of, TellsTalk, Talks, HeardOf}
 use Rattle.line_steps.proofs.Names.{ack_is_no_data, and_from}
@@ -11,11 +11,9 @@ use Rattle.line_steps.proofs.SendingLaws.{extends}
 use Rattle.line_steps.proofs.TakingLaws.{head, waits_with, advanced}
 use Rattle.line_steps.proofs.StoryLaws.{heard_past, heard_again, heard_new, heard_beside, heard_begins}
 use Rattle.line_steps.proofs.TalkedLaws.{x_heard_now, y_heard_now, at_own, at_other, cursor_own, cursor_other, cursor_moves, talking_now}
+use Rattle.line_laws.proofs.RunningLaws.{ack_no_data}
 
 -- ---- an acknowledgement
-
-pub ack_comes_no_data : (X : End) (frame : PastFrame) → IsAckOf X frame → data_comes X frame ≡ false
-ack_comes_no_data X frame is = search rules
 
 pub ack_other-talks : {talk : Talk} {wire : Wire} {x y : Half} {key : Key} → Holds wire x y → AckNext x.end wire x.taken key → Talks talk wire x y
     → Talks talk wire (moved x) y
@@ -28,10 +26,10 @@ ack_other-talks {wire} {x} {y} holds it talks =
       back = holds.line.core.back.follows;
       talking = talking_passes holds.apart
           (cursor_own x.end x.taken y.taken) (cursor_moves x.taken y.taken holds.apart.there) at_head.here
-          (ack_comes_no_data x.end (sent_of it.next.frame) it.is) (talking_now holds talks);
+          (ack_no_data x.end (sent_of it.next.frame) it.is) (talking_now holds talks);
       x_heard = at_own x.end y.end (x.taken + 1) y.taken (past_now wire.frames.items) holds.fx (side_of x)
           (heard_past x.end (past_now wire.frames.items) x.taken holds.fx (side_of x) at_head.here
-          (ack_comes_no_data x.end (sent_of it.next.frame) it.is) (x_heard_now holds talks));
+          (ack_no_data x.end (sent_of it.next.frame) it.is) (x_heard_now holds talks));
       y_heard = at_other x.end y.end (x.taken + 1) y.taken (past_now wire.frames.items) holds.fy (side_of y) holds.apart.there (y_heard_now holds talks);
     }
 
@@ -54,7 +52,7 @@ ack_last-talks {wire} {x} {y} holds it is last talks =
           it.is it.next.comes_here w.waits (w.key_is ∙ sym it.key_is) ends (cursor_own x.end x.taken y.taken)
           (cursor_moves x.taken y.taken holds.apart.there) (talking_now holds talks);
       x_heard = at_own x.end y.end (x.taken + 1) y.taken past holds.fx (side_of x)
-          (heard_past x.end past x.taken holds.fx (side_of x) at_head.here (ack_comes_no_data x.end sent it.is) (x_heard_now holds talks));
+          (heard_past x.end past x.taken holds.fx (side_of x) at_head.here (ack_no_data x.end sent it.is) (x_heard_now holds talks));
       y_heard = at_other x.end y.end (x.taken + 1) y.taken past false (acknowledged (side_of y)) holds.apart.there
           (subst (λ f. HeardOf y.end past y.taken f (side_of y)) m.none_fresh (y_heard_now holds talks));
     }
@@ -94,7 +92,7 @@ module _ {talk : Talk} {wire : Wire} {x y : Half} {key : Key} where
             (cursor_other x.end y.end x.taken y.taken holds.apart.there) (cursor_moves x.taken y.taken holds.apart.there) (talking_now holds talks);
         x_heard = at_own x.end y.end (x.taken + 1) y.taken (next_frame y given ∷ past) false (side_of x)
             (heard_beside x.end (next_frame y given) past false (side_of x) (omega (arith, at_head.inside)) (ap (λ b. b && true) holds.apart.there)
-            (heard_past x.end past x.taken false (side_of x) at_head.here (ack_comes_no_data x.end sent it.is)
+            (heard_past x.end past x.taken false (side_of x) at_head.here (ack_no_data x.end sent it.is)
             (subst (λ f. HeardOf x.end past x.taken f (side_of x)) no_fresh (x_heard_now holds talks))));
         y_heard = at_other x.end y.end (x.taken + 1) y.taken (next_frame y given ∷ past) true next holds.apart.there
             (heard_begins y.end past (side_of y) next (course_of given) holds.line.core.back.cur_in new

@@ -6,12 +6,9 @@ use Rattle.line_steps.proofs.Names.{session_id, piece_count, pieces, piece_of, p
 use Rattle.line_steps.proofs.Names.{part_of, taken, message_parts, session_parts, PastFrame, is_end, at, is_data_of, IdMessage, told_parts, IsStoryOf, Talk, messages_of}
 use Rattle.line_steps.proofs.Names.{pieces_before, heard, part_at, same_end, stays_in, leaves, IsByCursor, some_pieces, at_push, at_all, parts-from}
 use Rattle.line_steps.proofs.Names.{TookMessages, told_from}
+use Rattle.line_laws.proofs.CameLaws.{and_none}
 
 -- ---- what came, by the frames and by the cursor
-
-and_none : (b : Bool) → (b && false) ≡ false
-and_none true = refl
-and_none false = refl
 
 newest_is : (cursor : End → ℕ) {came : ℕ → Bool} (frame : PastFrame) (past : List PastFrame) → IsByCursor cursor came (frame ∷ past)
     → came (length past + 1) ≡ (comes frame.course && leb (length past + 1) (cursor frame.from))

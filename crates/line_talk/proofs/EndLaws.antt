@@ -1,13 +1,11 @@
 -- A line with which it is over, or which is at rest.
-use Rattle.line_talk.proofs.Names.{rules, ◌≡◌, ℕ, List, [], ◌∷◌, refl, ap, subst, arith, End, Handheld, Desktop, PastFrame, Talk, messages_of, pieces_before, Apart}
+use Rattle.line_talk.proofs.Names.{rules, ◌≡◌, ℕ, List, [], ◌∷◌, refl, ap, subst, arith, Handheld, Desktop, Talk, messages_of, pieces_before, Apart}
 use Rattle.line_talk.proofs.Names.{count_messages, say, Half, Wire, Line, Halt, NoMemory, HaltsBy, HasProperPast, Spoke, past_now, IsNextTo, Talks, cursor_of, no_talk}
 use Rattle.line_talk.proofs.Names.{spoken_now, cursor_turned, apart_turned, settled_holds, settled_turned, LineEnds, MayAnswer, MayAsk, MayGreet, LineTells}
 use Rattle.line_talk.proofs.Names.{bytes_of, greeted, init, wake}
 use Rattle.line_talk.proofs.AskLaws.{woken}
 use Rattle.line_talk.proofs.MoreLaws.{spoken-unsent, turn-unsent}
-
-turned : {X Y : End} {talk : Talk} {cursor : End → ℕ} {past : List PastFrame} → HasProperPast X Y talk cursor past → HasProperPast Y X talk cursor past
-turned it = search rules
+use Rattle.line_steps.proofs.HaltedLaws.{spoken_turned}
 
 -- seen from the other end
 pub halts-turned : (halt : Halt) (wire : Wire) (x y : Half) → Apart x.end y.end → HaltsBy halt (cursor_of x y) wire.frames.items
@@ -16,7 +14,7 @@ halts-turned halt wire x y apart by = search rules
 
 pub spoke-turned : {talk : Talk} (wire : Wire) (x y : Half) → Apart x.end y.end → Spoke talk wire x y → Spoke talk wire y x
 spoke-turned {talk} wire x y apart it =
-    subst (λ c. HasProperPast y.end x.end talk c (past_now wire.frames.items)) (cursor_turned x.end y.end x.taken y.taken apart.there) (turned it)
+    subst (λ c. HasProperPast y.end x.end talk c (past_now wire.frames.items)) (cursor_turned x.end y.end x.taken y.taken apart.there) (spoken_turned it)
 
 pub ends-apart : (x y : Half) → x.end ≡ Handheld → y.end ≡ Desktop → Apart x.end y.end
 ends-apart x y handheld desktop = search rules
@@ -28,7 +26,7 @@ first-unsent {talk} wire x y message apart none it =
     let past = past_now wire.frames.items in
     let cursor = cursor_of x y in
     let zero : pieces_before (messages_of y.end talk) (count_messages y.end talk) ≡ 0 = ap (λ n. pieces_before (messages_of y.end talk) n) none in
-    turned (spoken-unsent message (apart_turned apart) (omega (arith, zero)) (turned it))
+    spoken_turned (spoken-unsent message (apart_turned apart) (omega (arith, zero)) (spoken_turned it))
 
 -- ---- at rest
 

@@ -16,7 +16,7 @@ last-on (frame ∷ before) last on = last-on before last on.1
 stop-ends : (why : Stop) (given : FateValue) (bytes : List ℕ) → StopsBy given bytes (Some why) → ends_run given bytes ≡ true
 stop-ends why given bytes is = grind (arith, common_steps)
 
-both : {b : Bool} → b ≡ true → b ≡ false → ⊥
+pub both : {b : Bool} → b ≡ true → b ≡ false → ⊥
 both is not = cc
 
 -- the last of them ends no run

@@ -5,7 +5,7 @@ use Rattle.line_world.proofs.Names.{HasAnswer, LacksAnswer, RequestReach, Unsent
 use Rattle.dlp_commands.specs.Talks.{Talk}
 use Rattle.line_world.proofs.LogLaws.{length-later, replies-all}
 
-exchanged-more : (xs ys : List (List ℕ)) (x y : List ℕ) → length xs ≡ length ys
+pub exchanged-more : (xs ys : List (List ℕ)) (x y : List ℕ) → length xs ≡ length ys
     → exchanged (xs ++ x ∷ []) (ys ++ y ∷ []) ≡ exchanged xs ys ++ record { request = x; reply = y } ∷ []
 exchanged-more [] [] x y same = refl
 exchanged-more [] (b ∷ ys) x y same = absurd (omega (arith, same))

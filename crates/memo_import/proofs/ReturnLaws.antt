@@ -20,6 +20,7 @@ use Rattle.record_export.specs.Exports.{exported_memos, memo_of}
 use Rattle.record_export.specs.Memos.{MemoValue}
 use Rattle.memo_import.specs.Databases.{category_at, category_ids, label_field, labels_from, labels_of, memo_block, memo_database, place_of, record_of, with_label}
 use Rattle.memo_import.specs.KeptMemos.{IsKept}
+use Rattle.pdb_values.proofs.NamedLaws.{bytes_eq-own}
 
 -- ---- places
 
@@ -30,7 +31,7 @@ position_is p xs i d inside is before =
     let small : nat_lt i (length xs) ≡ true = grind (arith, nat_tests, inside) in
     rw (at, small) refl
 
-position_none : {X : Type 0} (p : X → Bool) (xs : List X) (d : X) → position p xs ≡ None → (k : ℕ) → k < length xs → p (get_or xs k d) ≡ false
+pub position_none : {X : Type 0} (p : X → Bool) (xs : List X) (d : X) → position p xs ≡ None → (k : ℕ) → k < length xs → p (get_or xs k d) ≡ false
 position_none p xs d none k inside =
     let far : length xs ≤ position_or_len p xs = grind (arith, nat_tests, none) in
     fails_before_first p xs k d (omega (arith, inside, far))
@@ -125,9 +126,6 @@ label_in-block labels k label all few inside is short none =
 abbrev pub IsKnown : List (List ℕ) → List ℕ → Type 0
 IsKnown labels label = place_of labels label ≡ None → label ≡ []
 
-same_label : (label : List ℕ) → bytes_eq label label ≡ true
-same_label label = (bytes_eq-Decides label label).1 refl
-
 place_front : (o : Option ℕ) (labels : List (List ℕ)) (other label : List ℕ) → place_of labels label ≡ o → place_of (labels ++ other ∷ []) label ≡ None → place_of labels label ≡ None
 place_front None labels other label is none = is
 place_front (Some k) labels other label is none =
@@ -151,7 +149,7 @@ known_new true labels label is = some_place (place_of labels label) label is
 known_new false labels label is = λ none.
     let test : List ℕ → Bool = λ known. bytes_eq known label in
     let fails = position_none test (labels ++ label ∷ []) [] none (length labels) (omega (arith, length-append labels (label ∷ []))) in
-    let passes = ap test (get_or-append_seam labels label [] []) ∙ same_label label in
+    let passes = ap test (get_or-append_seam labels label [] []) ∙ bytes_eq-own label in
     absurd (cc (sym passes ∙ fails))
 
 known_later : (labels : List (List ℕ)) (memos : List MemoValue) (label : List ℕ) → IsKnown labels label → IsKnown (labels_from labels memos) label

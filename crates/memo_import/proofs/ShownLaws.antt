@@ -2,7 +2,7 @@
 use Rattle.std.proofs.lemmas.Bool.{and_parts, cases_eq}
 use Rattle.std.proofs.lemmas.Bool.Decides.{nat_tests}
 use Rattle.std.proofs.lemmas.List.Concat.{flat_map-append}
-use Rattle.std.proofs.lemmas.Str.{chars-encodes, encode_ascii}
+use Rattle.std.proofs.lemmas.Str.{chars-encodes}
 use Rattle.std.proofs.Math.Utf8.{encode, scalar, scalars}
 use Rattle.std.proofs.Common.{arith, ◌≡◌, ◌<◌, ◌++◌, ◌∷◌, [], ◌∙◌, ◌==◌, ◌&&◌, ◌||◌, ◌-◌, inl, inr, not, ap, refl, sym, subst, IsUtf8, ℕ, zero, suc, Bool, true, false, List, get_or, length, map, Some}
 use Rattle.std.specs.Prelude.{chars, encode_utf8_all, nat_lt}
@@ -11,7 +11,7 @@ use Rattle.std.specs.Option.{option_and_then}
 use Rattle.palm_text.specs.Characters.{char_of}
 use Rattle.palm_text.proofs.CharacterLaws.{every, every_at}
 use Rattle.record_export.specs.Heads.{label_char, label_char_text, label_chars}
-use Rattle.record_export.proofs.HeadLaws.{char_of-plain, is_plain}
+use Rattle.record_export.proofs.HeadLaws.{is_plain, label_char-plain}
 use Rattle.memo_import.specs.Characters.{byte_below, byte_of, bytes_of, line_bytes}
 use Rattle.memo_import.specs.Lines.{lines_in, without_return}
 use Rattle.memo_import.specs.Readings.{ReadingValue, with_bytes, with_line}
@@ -155,11 +155,6 @@ with_line-label_chars reading bytes p =
     ∙ ap (option_and_then (with_bytes reading)) (line_bytes-label_chars bytes p)
 
 -- ---- words
-
-label_char-plain : (c : ℕ) → 31 < c → c < 127 → label_char_text c ≡ c ∷ []
-label_char-plain c low high =
-    let other : (c == 10) ≡ false = grind (arith, nat_tests) in
-    rw (other, char_of-plain c low high) (encode_ascii c (omega arith))
 
 pub label_chars-plain : (word : List ℕ) → is_plain word ≡ true → label_chars word ≡ word
 unfolding is_plain

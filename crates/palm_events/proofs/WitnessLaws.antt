@@ -162,7 +162,7 @@ monthly_witness week weekday every start more few low =
 own_witness : (pattern : Pattern) (every start : ℕ) → has_day pattern every start start ≡ true → Witness pattern every start
 own_witness pattern every start is = record { number = start; low = omega arith; high = omega arith; has = is }
 
-is_own : (n : ℕ) → (n == n) ≡ true
+pub is_own : (n : ℕ) → (n == n) ≡ true
 is_own n = grind (arith, nat_tests)
 
 none_from : (n : ℕ) → n - n ≡ 0

@@ -35,7 +35,7 @@ one_is (suc zero) lt = refl
 one_is (suc (suc n)) lt = absurd (omega arith)
 
 -- the bits of a record's attributes, and its category
-bits_back : (item : Record) → item.content.category < 16
+pub bits_back : (item : Record) → item.content.category < 16
     → (has_bit 128 (attributes_of item) ≡ item.deleted)
     × (has_bit 64 (attributes_of item) ≡ item.dirty) × (has_bit 32 (attributes_of item) ≡ item.busy) × (has_bit 16 (attributes_of item) ≡ item.content.secret)
     × (attributes_of item % 16 ≡ item.content.category) × (attributes_of item < 256)

@@ -277,7 +277,7 @@ file-written database bytes is =
 pub one_database : (bytes : List ℕ) (one other : DatabaseValue) → IsFileText one bytes → IsFileText other bytes → one ≡ other
 one_database bytes one other is is' = sym (file-written one bytes is).reads ∙ (file-written other bytes is').reads
 
-bytes_from_all : (bytes : List ℕ) → All (λ byte. byte < 256) bytes → IsBytes bytes
+pub bytes_from_all : (bytes : List ℕ) → All (λ byte. byte < 256) bytes → IsBytes bytes
 bytes_from_all bytes each i =
     elim (cases_lt i (length bytes)) [
       | inl lt ↦ each i 0 lt

@@ -42,7 +42,7 @@ one_more_block data_of out items i {item} lt is =
     let text : List _ → List ℕ = λ items. concat (map data_of items) in
     cc (append_assoc out (data_of item) _, at_drop_more text items i item lt)
 
-all_behind : {X : Type 0} (P : X → Type 0) (xs : List X) (x : X) → AllByRecursion P xs → P x → AllByRecursion P (xs ++ x ∷ [])
+pub all_behind : {X : Type 0} (P : X → Type 0) (xs : List X) (x : X) → AllByRecursion P xs → P x → AllByRecursion P (xs ++ x ∷ [])
 all_behind P [] x each here = (here, tt)
 all_behind P (y ∷ ys) x each here = (each.0, all_behind P ys x each.1 here)
 
@@ -77,7 +77,7 @@ short_more : (block : Option (List ℕ)) (blocks : List (List ℕ)) → block_le
 short_more None blocks le short = short
 short_more (Some block) blocks le short = (le, short)
 
-length-block_list : (block : Option (List ℕ)) → length (block_list block) ≤ 1
+pub length-block_list : (block : Option (List ℕ)) → length (block_list block) ≤ 1
 length-block_list None = omega arith
 length-block_list (Some block) = omega arith
 

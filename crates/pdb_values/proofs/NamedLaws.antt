@@ -33,7 +33,7 @@ bytes_eq-other a b other = false_from_ne_true (bytes_eq a b) (λ same. other (by
 less : (o : Ordering) → is_lt o ≡ true → o ≡ Less
 less o is = grind arith
 
-less_differs : (o : Ordering) → is_lt o ≡ true → is_eq o ≡ false
+pub less_differs : (o : Ordering) → is_lt o ≡ true → is_eq o ≡ false
 less_differs o is = grind arith
 
 turned_less : (o : Ordering) → is_eq o ≡ false → is_lt (ordering_reverse o) ≡ false → is_lt o ≡ true

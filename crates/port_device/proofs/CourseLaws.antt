@@ -12,8 +12,8 @@ use Rattle.line_world.specs.SinceLaws.{served-itself}
 use Rattle.palm_device.specs.Devices.{Device}
 use Rattle.handheld_server.specs.declared.fault.ServeFault.{ServeFault}
 use Rattle.handheld_server.specs.declared.fault.ServeFault.TheVariants as serve
-use Rattle.device_stream.specs.Courses.{BeginsWith, PerformsAny}
-use Rattle.device_stream.specs.Hands.{Hand, waited_by, wake_said, with_end}
+use Rattle.device_stream.specs.Courses.{PerformsAny}
+use Rattle.device_stream.specs.Hands.{waited_by, wake_said, with_end}
 use Rattle.device_stream.specs.Talks.{TalkValue, talk_server}
 use Rattle.device_stream.specs.Laws.{DidNothing}
 use Rattle.device_stream.specs.declared.talk_end.TalkEnd.{TalkEnd}
@@ -27,7 +27,7 @@ use Rattle.port_line.specs.declared.port_fault.PortFault.TheVariants as port
 use Rattle.port_link.specs.Courses.{Holds, HoldsNext, Tells, reads_at, reads_of}
 use Rattle.port_link.specs.Desks.{Event, Came, Read}
 use Rattle.port_link.specs.Logs.{EntryValue, heard_entries, said_entries, speech}
-use Rattle.port_link.proofs.CourseLaws.{holds-from}
+use Rattle.port_link.proofs.CourseLaws.{holds-from, holds-then}
 use Rattle.port_link.proofs.TellLaws.{tells-failed, tells-nothing, tells-then, tells-unkept, written-none, written-then}
 use Rattle.port_device.specs.declared.port_end.PortEnd.{PortEnd}
 use Rattle.port_device.specs.declared.port_end.PortEnd.TheVariants.{Ended, PortFailed, Keeper, LineDown, LineSilent, Aborted, BadHello, TooLong, NoMemory}
@@ -35,10 +35,8 @@ use Rattle.port_device.specs.Courses.{GoesOn, GoesOut, HasStepped, Scene, Stops}
 use Rattle.port_device.specs.Ends.{IsDown, IsLong, IsOut, IsOver, IsSudden, end_of_fault, end_of_port, end_of_talk, fault_of, most_events}
 use Rattle.port_device.specs.Runs.{IsPortRun}
 use Rattle.port_device.specs.Vigils.{Step, Steps, Vigil, behind_tick, vigil, waking}
-
-holds-then : (es fs : List Event) (a b c : List ℕ) → Holds a es b → Holds b fs c → Holds a (es ++ fs) c
-holds-then [] fs a b c first next = holds-from fs c first next
-holds-then (event ∷ es) fs a b c first next = (first.0, first.1, holds-then es fs first.0 b c first.2 next)
+use Rattle.device_stream.proofs.ListenLaws.{same-hand}
+use Rattle.device_stream.proofs.CourseLaws.{begins-behind}
 
 gave-then : (a : Option (List (List ℕ))) {b c : Option (List (List ℕ))} (es fs : List Event) → b ≡ option_map (λ given. given ++ reads_of es) a
     → c ≡ option_map (λ given. given ++ reads_of fs) b → c ≡ option_map (λ given. given ++ reads_of (es ++ fs)) a
@@ -62,12 +60,6 @@ steps-then a (event ∷ es) kept b fs more c (said, later, between, step, is, st
 steps-one : (a : Vigil) (said : List OutgoingFragment) {b : Vigil} (event : Event) → Step a event said b → Steps a (event ∷ []) (heard_entries event ++ said_entries said) b
 steps-one a said {b} event step =
     (said, [], b, step, sym (append-nil (heard_entries event ++ said_entries said)), (refl, refl))
-
-begins-behind : {X : Type 0} (first all part : List X) → BeginsWith all part → BeginsWith (first ++ all) (first ++ part)
-begins-behind first all part begins = (begins.0, ap (λ (xs : List _). first ++ xs) begins.1 ∙ sym (append_assoc first part begins.0))
-
-same-hand : (hand : Hand) → DidNothing hand hand
-same-hand hand = record { device_is = refl; performed_is = refl; replies_are = refl }
 
 -- ---- events
 

@@ -1,9 +1,7 @@
 -- What a handheld performed at a port is a run of its device.
-use Rattle.std.proofs.Common.{◌≡◌, ℕ, List, [], ◌∷◌, ◌++◌, length, inl, inr, refl, sym, ap, subst, ◌∙◌, arith}
-use Rattle.std.proofs.lemmas.List.{length-append}
-use Rattle.dlp_commands.proofs.StepLaws.{ran_joined}
-use Rattle.dlp_commands.specs.DeviceRuns.{DeviceRun, Exchange, Ran, exchanged}
-use Rattle.device_stream.proofs.HandLaws.{takes-once}
+use Rattle.std.proofs.Common.{◌≡◌, List, [], ◌∷◌, inl, refl, sym, ap, subst, ◌∙◌}
+use Rattle.dlp_commands.specs.DeviceRuns.{DeviceRun}
+use Rattle.device_stream.proofs.HandLaws.{takes-once, run-on}
 use Rattle.device_stream.specs.Hands.{Hand}
 use Rattle.device_stream.specs.Laws.{DidOnce}
 use Rattle.padp_end.specs.Outgoings.{OutgoingFragment}
@@ -11,30 +9,6 @@ use Rattle.palm_device.specs.Devices.{Device}
 use Rattle.port_link.specs.Desks.{Event, Awaits, Begins, Came, Read}
 use Rattle.port_link.specs.Logs.{EntryValue}
 use Rattle.port_device.specs.Vigils.{Step, Steps, Vigil, waking}
-
-exchanged-more : (xs ys : List (List ℕ)) (x y : List ℕ) → length xs ≡ length ys
-    → exchanged (xs ++ x ∷ []) (ys ++ y ∷ []) ≡ exchanged xs ys ++ record { request = x; reply = y } ∷ []
-exchanged-more [] [] x y same = refl
-exchanged-more [] (b ∷ ys) x y same = absurd (omega (arith, same))
-exchanged-more (a ∷ xs) [] x y same = absurd (omega (arith, same))
-exchanged-more (a ∷ xs) (b ∷ ys) x y same = ap (λ l. record { request = a; reply = b } ∷ l) (exchanged-more xs ys x y (omega (arith, same)))
-
--- the run goes on by what was done
-run-on : (device : Device) {old new : Hand} → DeviceRun device old.performed old.replies old.device → DidOnce old new
-    → DeviceRun device new.performed new.replies new.device
-run-on device {old} {new} run (inl did) =
-    subst (λ (d : Device). DeviceRun device new.performed new.replies d) (sym did.device_is)
-    (subst (λ (ps : List (List ℕ)). DeviceRun device ps new.replies old.device) (sym did.performed_is)
-    (subst (λ (rs : List (List ℕ)). DeviceRun device old.performed rs old.device) (sym did.replies_are) run))
-run-on device {old} {new} run (inr did) =
-    let exchange : Exchange = record { request = did.request; reply = did.reply } in
-    let longer : DeviceRun device (old.performed ++ did.request ∷ []) (old.replies ++ did.reply ∷ []) new.device = record {
-      same = omega (arith, run.same, length-append old.performed (did.request ∷ []), length-append old.replies (did.reply ∷ []));
-      ran = subst (λ (es : List Exchange). Ran device es new.device) (sym (exchanged-more old.performed old.replies did.request did.reply (sym run.same)))
-          (ran_joined device old.device new.device (exchanged old.performed old.replies) (exchange ∷ []) run.ran (new.device, did.step, refl));
-    } in
-    subst (λ (ps : List (List ℕ)). DeviceRun device ps new.replies new.device) (sym did.performed_is)
-    (subst (λ (rs : List (List ℕ)). DeviceRun device (old.performed ++ did.request ∷ []) rs new.device) (sym did.replies_are) longer)
 
 did-nothing : (old new : Hand) → new ≡ old → DidOnce old new
 did-nothing old new is = inl (record { device_is = ap (λ h. h.device) is; performed_is = ap (λ h. h.performed) is; replies_are = ap (λ h. h.replies) is })

@@ -1,5 +1,5 @@
 -- The stages of a session over a handheld and a cable, from the opening on.
-use Rattle.std.proofs.Common.{◌≡◌, ◌≤◌, ◌<◌, ℕ, is_none, true, false, List, [], ◌∷◌, ◌++◌, length, Option, Some, None, inl, inr, refl, subst, sym, ap, ◌∙◌, arith}
+use Rattle.std.proofs.Common.{◌≡◌, ◌≤◌, ◌<◌, ℕ, true, false, List, [], ◌∷◌, ◌++◌, length, Some, None, inl, inr, refl, subst, sym, ap, ◌∙◌, arith}
 use Rattle.std.proofs.lemmas.Bool.{and_parts, eqb-true, not-true}
 use Rattle.cable_laws.proofs.MomentLaws.{begins, expects, turned}
 use Rattle.cable_laws.specs.Cables.{Cable, Count, IsOver, Way, packets_of, parcels}
@@ -17,6 +17,7 @@ use Rattle.port_laws.proofs.HandLaws.{packets_in-parcels}
 use Rattle.port_laws.proofs.MoveLaws.{joined}
 use Rattle.port_laws.specs.Palms.{Palm, is_first, is_nil}
 use Rattle.port_laws.specs.Talking.{Asking, DeskTook, Greeting, IsAt, IsReplyOf, Resting, Stage, Stands, Waking, Woken, side, with_said}
+use Rattle.dlp_commands.proofs.TableLaws.{none_is}
 
 -- the same at another stage
 pub at_stage : (stage next : Stage) (end : EndValue) (held : List ℕ) (palm : Palm) → (stands : Stands stage end held palm)
@@ -174,10 +175,6 @@ desk_greets was end held palm id init stands short =
 nil_is : {X : Type 0} (xs : List X) → is_nil xs ≡ true → xs ≡ []
 nil_is [] is = refl
 nil_is (x ∷ xs) is = absurd cc
-
-none_is : {X : Type 0} (x : Option X) → is_none x ≡ true → x ≡ None
-none_is None is = refl
-none_is (Some x) is = absurd cc
 
 -- what the test of a first palm tells
 pub record Opened (palm : Palm) : Type 0 where

@@ -1,5 +1,4 @@
 pub mod CradleLaws
 pub mod GivingLaws
 pub mod Pieces
-pub mod Prefixes
 pub mod WayLaws

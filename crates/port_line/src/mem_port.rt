@@ -99,7 +99,7 @@ impl MemPort {
 
 // Beside the trait's clauses each method says that it fails exactly where the good calls are over, and
 // a read gives what comes next.
-#[tactic(auto, using(crate::proofs::Prefixes::none_taken))]
+#[tactic(auto, using(hs_folders::proofs::Prefixes::none_taken))]
 impl Port for MemPort {
     ghost given = { λ port. Some (map vec_items port.given.items) };
 

@@ -78,7 +78,7 @@ fn write_bytes<F: Write>(file: &mut Option<F>, bytes: &[u8]) -> io::Result<()> {
     }
 }
 
-#[tactic(auto, using(crate::proofs::Prefixes::none_taken))]
+#[tactic(auto, using(hs_folders::proofs::Prefixes::none_taken))]
 impl<'r, R: Files> Port for TtyPort<'r, R> {
     ghost given = { λ _. None };
 

@@ -36,7 +36,7 @@ pub holds-from : (events : List Event) {a b : List ℕ} (c : List ℕ) → Conti
 holds-from [] c first next = continues_then first next
 holds-from (event ∷ events) c first next = (next.0, next-from event next.0 first next.1, next.2)
 
-holds-then : (es fs : List Event) (a b c : List ℕ) → Holds a es b → Holds b fs c → Holds a (es ++ fs) c
+pub holds-then : (es fs : List Event) (a b c : List ℕ) → Holds a es b → Holds b fs c → Holds a (es ++ fs) c
 holds-then [] fs a b c first next = holds-from fs c first next
 holds-then (event ∷ es) fs a b c first next = (first.0, first.1, holds-then es fs first.0 b c first.2 next)
 

@@ -27,6 +27,7 @@ use Rattle.port_link.specs.Standing.{IsBegun, IsStanding, IsStill, exchanges_of,
 use Rattle.port_link.proofs.GreetLaws.{greets_met}
 use Rattle.port_link.proofs.ReplyLaws.{asked_left, says_asked, says_taken, taken_answered}
 use Rattle.port_link.proofs.RoundLaws.{round}
+use Rattle.cable_laws.proofs.TakeLaws.{some_of}
 
 -- ---- where nothing is told
 
@@ -181,9 +182,6 @@ answered_from request reply old new was is answered = subst (λ (o : Option Talk
 unanswered_from : (request : List ℕ) (old new : Option Talk) (was : Talk) → old ≡ Some was → WasLeft was request new → LacksAnswer old request new
 unanswered_from request old new was is left = subst (λ (o : Option Talk). LacksAnswer o request new) (sym is) (inr left)
 
-pub same_some : {X : Type 0} {a b : X} → Some a ≡ Some b → a ≡ b
-same_some e = cc
-
 some_cause : (cause : Option PortCause) → (cause ≡ None → ⊥) → (some : PortCause) × (cause ≡ Some some)
 some_cause None failed = absurd (failed refl)
 some_cause (Some cause) failed = (cause, refl)
@@ -218,7 +216,7 @@ asks_told request reply old new short none begun stands asks = go old.scene.palm
       new.scene.palm still next asked.id_is (taken fine) in
       record {
         answered = λ fine.
-            let reply_is : (taken fine).reply ≡ reply = same_some (sym (taken fine).whole ∙ asks.converses.reply_is fine) in
+            let reply_is : (taken fine).reply ≡ reply = some_of (sym (taken fine).whole ∙ asks.converses.reply_is fine) in
             let now : option_map (talk_at None true new.id new.scene.desk.end) new.scene.palm ≡ talk_of new
             = ap (λ (c : Option PortCause). option_map (talk_at c true new.id new.scene.desk.end) new.scene.palm) (sym fine)
             ∙ ap (λ (b : Bool). option_map (talk_at new.cause b new.id new.scene.desk.end) new.scene.palm) (sym begun_is) in
@@ -236,7 +234,7 @@ asks_told request reply old new short none begun stands asks = go old.scene.palm
         stands = standing_still new.cause new.begun new.scene.desk.end new.scene.held new.id new.scene.palm asked.stood.palm (λ fine. begun_is)
             asked.stood.told_is
             (λ fine. subst (λ (p : Palm). IsStill new.scene.desk.end new.scene.held new.id p)
-            (same_some (sym (taken fine).stood.told_is ∙ asked.stood.told_is)) (done fine).1);
+            (some_of (sym (taken fine).stood.told_is ∙ asked.stood.told_is)) (done fine).1);
       }
 
 -- a link that answers may be asked where it has begun

@@ -25,9 +25,10 @@ use Rattle.port_link.specs.Calls.{Converses, Says}
 use Rattle.port_link.specs.Causes.{cause_of}
 use Rattle.port_link.specs.Courses.{Course, Holds, Scene}
 use Rattle.port_link.specs.Desks.{Event, Awaits, Begins, Came, Read, Reaction, desk_after, idle_silence, reacts, silence, waiting_silence}
-use Rattle.port_link.specs.Listening.{EndsWith, GoesThrough, Listens}
+use Rattle.port_link.specs.Listening.{EndsWith, Listens}
 use Rattle.port_link.proofs.CourseLaws.{course-then}
 use Rattle.port_link.proofs.WholeLaws.{fault-caused}
+use Rattle.port_link.proofs.StandLaws.{through_heard}
 
 -- ---- packets
 
@@ -148,10 +149,6 @@ events-gain id desk (Read (byte ∷ bytes) ∷ events) hears awaited = events-ga
 
 -- ---- a request
 
-through-heard : (awaited : Awaited) (desk : Desk) (events : List Event) → GoesThrough awaited desk events → AreHeard events
-through-heard awaited desk [] through = tt
-through-heard awaited desk (event ∷ events) through = (through.0, through-heard awaited (reacts desk event).desk events through.2)
-
 heard-then : (es fs : List Event) → AreHeard es → AreHeard fs → AreHeard (es ++ fs)
 heard-then [] fs first next = next
 heard-then (event ∷ es) fs first next = (first.0, heard-then es fs first.1 next)
@@ -167,12 +164,12 @@ listens-came awaited old new turn listens = go listens.between new listens.cours
   go : (between last : Scene) → Course listens.events None old between → EndsWith awaited (length listens.events) (Ok turn) between last → Heard-since old last
   go between last course (inl ends) = record {
     events = listens.events ++ ends.0.0 ∷ [];
-    hears = heard-then listens.events (ends.0.0 ∷ []) (through-heard awaited old.desk listens.events listens.through) (ends.0.1, tt);
+    hears = heard-then listens.events (ends.0.0 ∷ []) (through_heard awaited old.desk listens.events listens.through) (ends.0.1, tt);
     course = course-then course ends.0.3;
   }
   go between last course (inr ends) = record {
     events = listens.events;
-    hears = through-heard awaited old.desk listens.events listens.through;
+    hears = through_heard awaited old.desk listens.events listens.through;
     course = subst (λ (s : Scene). Course listens.events None old s) (sym ends.2) course;
   }
 

@@ -25,10 +25,11 @@ use Rattle.port_link.specs.Hands.{HasOneMore}
 use Rattle.port_link.specs.Standing.{IsStill, exchanges_of, talk_at}
 use Rattle.port_link.proofs.AskLaws.{Asked}
 use Rattle.port_link.proofs.GreetLaws.{greets_met, listens_stood}
-use Rattle.port_link.proofs.LinkLaws.{Standing, asks_told, hello_told, same_some, standing_first, standing_told}
+use Rattle.port_link.proofs.LinkLaws.{Standing, asks_told, hello_told, standing_first, standing_told}
 use Rattle.port_link.proofs.ReplyLaws.{asked_left, exchanged-more, exchanges_more, says_asked, says_taken}
 use Rattle.port_link.proofs.RoundLaws.{round}
 use Rattle.port_link.proofs.StandLaws.{Stood}
+use Rattle.cable_laws.proofs.TakeLaws.{some_of}
 
 -- ---- a hand since an earlier time
 
@@ -172,7 +173,7 @@ left-ran from request cause old new none failed ran asks = go asked.stood.stands
   told =
       ap (λ (c : Option PortCause). talk_at c new.begun new.id new.scene.desk.end palm) failed
       ∙ ap (λ (b : Bool). talk_at (Some cause) b new.id new.scene.desk.end palm) (asks.asks.begun ∙ asks.greeted)
-      ∙ same_some (sym (ap (option_map (talk_at (Some cause) true new.id new.scene.desk.end)) asked.stood.told_is) ∙ left.is)
+      ∙ some_of (sym (ap (option_map (talk_at (Some cause) true new.id new.scene.desk.end)) asked.stood.told_is) ∙ left.is)
 
   device_is : (talk_by new palm).device ≡ palm.hand.device
   device_is =

@@ -11,6 +11,7 @@ use Rattle.port_line.specs.declared.port_fault.PortFault.{PortFault}
 use Rattle.port_line.specs.declared.port_fault.PortFault.TheVariants.{Failed, NoMemory}
 use Rattle.port_link.specs.Courses.{Keeps, Takes, Tells}
 use Rattle.port_link.specs.Logs.{EntryValue, spoken, spoken_at}
+use Rattle.device_stream.proofs.CourseLaws.{prefix-behind}
 
 pub written-none : {X : Type 0} (told : Option (List X)) → told ≡ option_map (λ taken. taken ++ []) told
 written-none None = refl
@@ -21,14 +22,6 @@ pub written-then : {X : Type 0} (told : Option (List X)) {mid later : Option (Li
 written-then None a b first next = next ∙ ap (option_map (λ taken. taken ++ b)) first
 written-then (Some taken) a b first next =
     next ∙ ap (option_map (λ taken. taken ++ b)) first ∙ ap Some (append_assoc taken a b)
-
-prefix-behind : (told : Option (List ℕ)) {mid later : Option (List ℕ)} (a b : List ℕ) → mid ≡ option_map (λ taken. taken ++ a) told
-    → AppendsPrefix mid later b → AppendsPrefix told later (a ++ b)
-prefix-behind told a b first part = record {
-  count = length a + part.count;
-  is = written-then told a (take part.count b) first part.is
-      ∙ ap (λ (s : List ℕ). option_map (λ taken. taken ++ s) told) (sym (take-append-add a b part.count));
-}
 
 keeps-then : (fault : Option PortFault) (log : List EntryValue) {mid : List EntryValue} (later es fs : List EntryValue) → mid ≡ log ++ es
     → Keeps fault mid later fs → Keeps fault log later (es ++ fs)

@@ -20,7 +20,6 @@ use Rattle.port_link.specs.Calls.{LinkValue, Since}
 use Rattle.port_link.specs.Hands.{HandRan}
 use Rattle.port_link.specs.Logs.{EntryValue}
 use Rattle.port_link.specs.Standing.{exchanges_of, talk_at, talk_of}
-use Rattle.port_link.proofs.LinkLaws.{same_some}
 use Rattle.run_words.specs.Cables.{Cable}
 use Rattle.session_parts.specs.Rests.{IsAtRest}
 use Rattle.session_parts.specs.declared.report.DbReport.{DbReport}
@@ -39,6 +38,7 @@ use Rattle.port_run.proofs.LeftLaws.{BeganWith, EndsOver, session_left}
 use Rattle.port_link.proofs.RanLaws.{HandSince, RanAt, calls-ran, first-ran, last-palm, later-ran, since-once}
 use Rattle.port_run.proofs.TalkedLaws.{ToldAll, all-exchanged, all-performed}
 use Rattle.hotsync_run.proofs.EndLaws.{exchanged-append}
+use Rattle.cable_laws.proofs.TakeLaws.{some_of}
 
 -- ---- from a handheld that was never asked
 
@@ -58,7 +58,7 @@ module _ (was : Hand) (performed : was.performed ≡ []) (replies : was.replies 
   link-ran : {link : LinkValue} {talk : Talk} (ran : RanAt was link) → talk_of link ≡ Some talk → HandRan was.device talk ran.palm.hand
   link-ran {link} {talk} ran told =
       let is : talk_at link.cause link.begun link.id link.scene.desk.end ran.palm ≡ talk =
-      same_some (sym (ap (option_map (talk_at link.cause link.begun link.id link.scene.desk.end)) ran.told_is) ∙ told) in
+      some_of (sym (ap (option_map (talk_at link.cause link.begun link.id link.scene.desk.end)) ran.told_is) ∙ told) in
       subst (λ (t : Talk). HandRan was.device t ran.palm.hand) is
       (record { run = hand-run ran.since; device_is = ran.device_is; once = ran.once })
 
@@ -71,7 +71,7 @@ module _ (was : Hand) (performed : was.performed ≡ []) (replies : was.replies 
       let mid = calls-ran was before.0 old between first before.1 in
       let at = link-ran mid is in
       let later = calls-ran mid.palm.hand behind.0 between new (later-ran mid) behind.1 in
-      let same : later.palm ≡ ran.palm = same_some (sym later.told_is ∙ ran.told_is) in
+      let same : later.palm ≡ ran.palm = some_of (sym later.told_is ∙ ran.told_is) in
       let since : HandSince mid.palm.hand hand = since-once (subst (λ (p : Palm). HandSince mid.palm.hand p.hand) same later.since) (inl did) in
       let own : mid.palm.hand.performed ≡ map text acts = all-performed at all.none_left ∙ all.issued_are in
       let performed_are : hand.performed ≡ map text acts ++ since.requests =

@@ -73,7 +73,7 @@ dock_unsaid ends.NoMemory = tt
 traced_keeper : (said status : Status) → IsTracedStatus said status → status ≡ HandheldFolder → said ≡ HandheldFolder
 traced_keeper said status is e = grind (arith, common_steps)
 
-traced_port : (said status : Status) → IsTracedStatus said status → status ≡ PortFailed → said ≡ PortFailed
+pub traced_port : (said status : Status) → IsTracedStatus said status → status ≡ PortFailed → said ≡ PortFailed
 traced_port said status is e = grind (arith, common_steps)
 
 traced_in_use : (said status : Status) → IsTracedStatus said status → status ≡ InUse end.Handheld → said ≡ InUse end.Handheld

@@ -3,8 +3,6 @@ use Rattle.std.proofs.Common.{◌≡◌, ◌⊎◌, ◌≤◌, ◌+◌, ℕ, Lis
 use Rattle.std.specs.Prelude.{Option, Some, None, IsErr, Result, Ok, Err, filter, replicate}
 use Rattle.std.specs.Global.{Vec}
 use Rattle.std.specs.List.{AllByRecursion, flat_map}
-use Rattle.hs_folders.specs.Moments.{EachMomentSince}
-use Rattle.hs_folders.proofs.MomentLaws.{moments_weaken}
 use Rattle.pdb_values.specs.declared.user.UserInfo.{UserInfo}
 use Rattle.palm_device.specs.Devices.{Device}
 use Rattle.dlp_commands.specs.Changes.{changes, given_in}
@@ -38,7 +36,7 @@ use Rattle.hotsync_run.specs.LineRuns.{write_count}
 use Rattle.hotsync_run.specs.Told.{FolderTold}
 use Rattle.hotsync_run.specs.declared.report.SessionEnd.TheVariants.{Ended, Stopped}
 use Rattle.hotsync_run.proofs.EndLaws.{count-append, none-front, none-given, prefix-count}
-use Rattle.hotsync_run.proofs.LeftLaws.{no-limit, parts-are, prefix-length, writes-before}
+use Rattle.hotsync_run.proofs.LeftLaws.{no-limit, parts-are, prefix-length, writes-before, stood_or_merged}
 use Rattle.port_link.specs.Calls.{LinkValue, Since}
 use Rattle.port_link.specs.Standing.{exchanges_of, talk_of}
 use Rattle.port_link.specs.Hands.{HandRan}
@@ -118,12 +116,6 @@ abbrev pub EndsOver : (LinkValue → Option LinkFault) → (LinkValue → ℕ) �
     → Result (Vec DbReport) Stop → Type 0
 EndsOver fault downs meeting old new desk desk_after answer =
     SessionEnds talk_of (λ (first last : LinkValue). Since first last) fault downs meeting old new (tellings_of desk desk_after) answer
-
-stood_or_merged : (meeting : Meeting) (given : List ℕ) (desk desk_after : FolderTold) → MergedSince meeting given desk.moments desk_after.moments
-    → EachMomentSince (λ told. FinishesAs desk.contents told ⊎ StandsForSlots (merged_slots meeting given) told) desk.moments desk_after.moments
-stood_or_merged meeting given desk desk_after since =
-    moments_weaken (StandsForSlots (merged_slots meeting given)) (λ told. FinishesAs desk.contents told ⊎ StandsForSlots (merged_slots meeting given) told)
-    desk.moments desk_after.moments since (λ told stands. inr stands)
 
 -- a session of both sides over a link that told a fresh talk, and what is known of the handheld behind it
 module _ (fault : LinkValue → Option LinkFault) (downs : LinkValue → ℕ) {meeting : Meeting} (old new : LinkValue) (talk : Talk) (hand : Hand)

@@ -25,7 +25,7 @@ use Rattle.session_parts.specs.declared.stop.Stop.{Stop}
 use Rattle.hotsync_looks.specs.Opening.{Opens, OpensGiven, OpensGivenAtMost}
 use Rattle.hotsync_looks.specs.Told.{SinkTold}
 use Rattle.hotsync_looks.specs.declared.status.Status.{Status}
-use Rattle.hotsync_looks.specs.declared.status.Status.TheVariants.{NoMemory, PortFailed, DesktopFolder, InUse}
+use Rattle.hotsync_looks.specs.declared.status.Status.TheVariants.{NoMemory, DesktopFolder, InUse}
 use Rattle.hotsync_run.specs.Causes.{IsTracedStatus}
 use Rattle.hotsync_run.specs.Refusals.{HasDesktop, LeavesDesktopUnread}
 use Rattle.hotsync_run.specs.Runs.{StandsAsItDid}
@@ -42,6 +42,7 @@ use Rattle.port_run.specs.Talks.{DesktopRan, KeptSilent, StaysUnsaid, PortSessio
 use Rattle.port_run.specs.Told.{PortTold, SyncTold}
 use Rattle.port_run.specs.declared.synced.CableReport.{CableReport}
 use Rattle.folder_copies.proofs.CopyLaws.{rose_before}
+use Rattle.port_run.proofs.DockLaws.{traced_port}
 
 -- the desktop's folder, from before its journal was finished on
 desktop_ran : {first before after : FolderTold} {end : SessionEnd} → before.contents ≡ option_map finished first.contents → StandsAsItDid first before
@@ -69,9 +70,6 @@ desktop_ran {first} {before} {after} finished_is stood ran =
 
 traced_memory : (said status : Status) → IsTracedStatus said status → said ≡ NoMemory → status ≡ NoMemory
 traced_memory said status is memory = grind (arith, common_steps)
-
-traced_port : (said status : Status) → IsTracedStatus said status → status ≡ PortFailed → said ≡ PortFailed
-traced_port said status is e = grind (arith, common_steps)
 
 traced_desktop : (said status : Status) → IsTracedStatus said status → status ≡ DesktopFolder → said ≡ DesktopFolder
 traced_desktop said status is e = grind (arith, common_steps)

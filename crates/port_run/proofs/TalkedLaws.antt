@@ -22,11 +22,11 @@ use Rattle.hotsync_run.specs.LineRuns.{write_count}
 use Rattle.hotsync_run.proofs.FrontLaws.{exchanged-requests}
 use Rattle.port_link.specs.Calls.{LinkValue}
 use Rattle.port_link.specs.Standing.{exchanges_of, talk_of}
-use Rattle.port_link.proofs.LinkLaws.{same_some}
 use Rattle.port_link.specs.Hands.{HandRan}
 use Rattle.port_run.specs.Ends.{given_by}
 use Rattle.hotsync_run.proofs.EndLaws.{said_left}
 use Rattle.hotsync_run.proofs.BackupSpoke.{prefix-on}
+use Rattle.cable_laws.proofs.TakeLaws.{some_of}
 
 -- ---- lists that begin others
 
@@ -70,12 +70,12 @@ pub told_all : {acts : List Act} (device : Device) (talk : Talk) (old new : Link
 unfolding saying sent grown
 told_all {acts} device talk old new was is does =
     let told : Some talk ≡ Some (said acts (fresh device)) = sym is ∙ does.said ∙ ap (λ (o : Option Talk). saying acts o) was in
-    let same : talk ≡ said acts (fresh device) = same_some told in
+    let same : talk ≡ said acts (fresh device) = some_of told in
     let out : Some (issued talk) ≡ Some (map text acts) = sym (ap (λ (o : Option Talk). sent o) is) ∙ does.sent
     ∙ ap (λ (o : Option Talk). grown (sent o) (map text acts)) was in
     record {
       device_is = ap (λ (t : Talk). t.device) same ∙ said_device acts (fresh device);
-      issued_are = same_some out;
+      issued_are = some_of out;
       exchanges_are = ap (λ (t : Talk). t.exchanges) same ∙ said_exchanges acts (fresh device);
       none_left = ap (λ (t : Talk). t.left) same ∙ said_left acts (fresh device) refl;
     }

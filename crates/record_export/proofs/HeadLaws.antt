@@ -34,7 +34,7 @@ begins_with-cons c word bytes e = grind (arith, nat_tests)
 
 -- ---- the characters of a label
 
-label_char-plain : (c : ℕ) → 31 < c → c < 127 → label_char_text c ≡ c ∷ []
+pub label_char-plain : (c : ℕ) → 31 < c → c < 127 → label_char_text c ≡ c ∷ []
 label_char-plain c low high =
     let other : (c == 10) ≡ false = grind (arith, nat_tests) in
     rw (other, char_of-plain c low high) (encode_ascii c (omega arith))

@@ -157,7 +157,7 @@ filter-append : {A : Type 0} (p : A → Bool) (xs ys : List A) → filter p (xs 
 filter-append p [] ys = refl
 filter-append p (x ∷ xs) ys = grind (arith, common_steps, filter-append p xs ys)
 
-filter-each_below : {A : Type 0} (p : A → Bool) (f : ℕ → List A) (n : ℕ) → filter p (each_below f n) ≡ each_below (λ i. filter p (f i)) n
+pub filter-each_below : {A : Type 0} (p : A → Bool) (f : ℕ → List A) (n : ℕ) → filter p (each_below f n) ≡ each_below (λ i. filter p (f i)) n
 filter-each_below p f zero = ap (filter p) (each_below-zero f) ∙ sym (each_below-zero (λ i. filter p (f i)))
 filter-each_below p f (suc n) = ap (filter p) (each_below-suc f n) ∙ filter-append p (each_below f n) (f n)
     ∙ ap (λ ys. ys ++ filter p (f n)) (filter-each_below p f n) ∙ sym (each_below-suc (λ i. filter p (f i)) n)

@@ -75,7 +75,7 @@ choice-merged_for a ch h given records view gone_counts differ bounded shows fre
 
 -- ---- no row under id 0
 
-kept_zero : (a : Action) (s : Sides) → s.base 0 ≡ no_base → s.handheld 0 ≡ nothing → (fate_for a s 0).keep ≡ None
+pub kept_zero : (a : Action) (s : Sides) → s.base 0 ≡ no_base → s.handheld 0 ≡ nothing → (fate_for a s 0).keep ≡ None
 kept_zero a s none free = grind arith
 
 add_zero : (given : List ℕ) (cs : List ContentValue) (now : List Record) (o : Option ContentValue) → AreFree (numbered given cs) now

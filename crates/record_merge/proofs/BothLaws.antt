@@ -8,7 +8,7 @@ use Rattle.record_merge.specs.Merging.{row_at, AreNew}
 use Rattle.record_merge.specs.Stops.{behind, with_add, rest_of}
 use Rattle.record_merge.specs.Writes.{numbered, adding}
 
-no_contents : (given : List ℕ) → numbered given [] ≡ []
+pub no_contents : (given : List ℕ) → numbered given [] ≡ []
 no_contents [] = refl
 no_contents (g ∷ gs) = refl
 

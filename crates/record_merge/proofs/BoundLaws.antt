@@ -17,8 +17,9 @@ use Rattle.record_merge.specs.Writes.{after, numbered, replaces, adding, giving,
 use Rattle.record_merge.specs.Merging.{AreBounded}
 use Rattle.record_merge.proofs.PutLaws.{put_all, put_record-nil, put_record-cons}
 use Rattle.record_merge.proofs.AfterLaws.{finished, after-append, after-replaces, after-adding_all, after-clearing, differ-put_all}
+use Rattle.conduit_rules.proofs.RisingLaws.{rising_end}
 
-bounded-put : (i : ℕ) (c : ContentValue) (records : List Record) → nat_lt i id_bound ≡ true → AreBounded records → AreBounded (put_record i c records)
+pub bounded-put : (i : ℕ) (c : ContentValue) (records : List Record) → nat_lt i id_bound ≡ true → AreBounded records → AreBounded (put_record i c records)
 bounded-put i c [] l bounded = subst AreBounded (sym (put_record-nil i c)) (l, tt)
 bounded-put i c (r ∷ records) l bounded = grind (arith, put_record-cons i c r records, bounded-put i c records l bounded.1)
 
@@ -30,13 +31,9 @@ bounded-put_all : (es : List (ℕ × ContentValue)) (records : List Record) → 
 bounded-put_all [] records have bounded = bounded
 bounded-put_all (e ∷ es) records have bounded = bounded-put_all es (put_record e.0 e.1 records) have.1 (bounded-put e.0 e.1 records have.0 bounded)
 
-end-of : (low end : ℕ) (is : List ℕ) → IsRisingFrom low is end → low ≤ end
-end-of low end [] rising = rising
-end-of low end (i ∷ is) rising = let l = end-of (suc i) end is rising.1 in omega (arith, rising.0, l)
-
 have-rising : (low : ℕ) (es : List (ℕ × ContentValue)) → IsRisingFrom low (pair_ids es) id_bound → HaveIds es
 have-rising low [] rising = tt
-have-rising low (e ∷ es) rising = grind (arith, end-of (suc e.0) id_bound (pair_ids es) rising.1, have-rising (suc e.0) es rising.1)
+have-rising low (e ∷ es) rising = grind (arith, rising_end (suc e.0) id_bound (pair_ids es) rising.1, have-rising (suc e.0) es rising.1)
 
 have-free : (es : List (ℕ × ContentValue)) (now : List Record) → AreFree es now → HaveIds es
 have-free [] now free = tt
@@ -45,11 +42,11 @@ have-free (e ∷ es) now free = (subst (λ n. nat_lt e.0 n ≡ true) (sym id_bou
     below : (n : ℕ) → n ≤ 16777215 → nat_lt n (2 ^ 24) ≡ true
     below n l = grind (arith, nat_tests, l)
 
-bounded-filter : (keep : Record → Bool) (records : List Record) → AreBounded records → AreBounded (filter keep records)
+pub bounded-filter : (keep : Record → Bool) (records : List Record) → AreBounded records → AreBounded (filter keep records)
 bounded-filter keep [] bounded = tt
 bounded-filter keep (r ∷ records) bounded = grind (arith, bounded-filter keep records bounded.1)
 
-bounded-clean : (records : List Record) → AreBounded records → AreBounded (map clean records)
+pub bounded-clean : (records : List Record) → AreBounded records → AreBounded (map clean records)
 bounded-clean [] bounded = tt
 bounded-clean (r ∷ records) bounded = (bounded.0, bounded-clean records bounded.1)
 

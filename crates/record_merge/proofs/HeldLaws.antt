@@ -53,7 +53,7 @@ held-cleaned [] j differ = refl
 held-cleaned (r ∷ records) j differ =
     grind (arith, nat_tests, held-cleaned records j differ.1, differ.0, only_live_record r, first-filter_none is_live r.id records differ.0)
 
-held-clean : (records : List Record) (j : ℕ) → held (map clean records) j ≡ held records j
+pub held-clean : (records : List Record) (j : ℕ) → held (map clean records) j ≡ held records j
 held-clean [] j = refl
 held-clean (r ∷ records) j = grind (arith, held-clean records j)
 

@@ -14,7 +14,7 @@ use Rattle.conduit_rules.specs.States.{live, first, held}
 use Rattle.conduit_rules.proofs.AgreedLaws.{RowsDiffer}
 use Rattle.record_merge.specs.Merging.{written_over}
 
-first-among : (i : ℕ) (records : List Record) → is_among i (ids_of records) ≡ false → first i records ≡ None
+pub first-among : (i : ℕ) (records : List Record) → is_among i (ids_of records) ≡ false → first i records ≡ None
 first-among i [] e = refl
 first-among i (r ∷ records) e = grind (arith, e, first-among i records)
 
@@ -78,7 +78,7 @@ map-replaced_apart : (e : ℕ × ContentValue) (es : List (ℕ × ContentValue))
 map-replaced_apart e es [] none = refl
 map-replaced_apart e es (r ∷ records) none = grind (arith, nat_tests, none, map-replaced_apart e es records)
 
-appended-put : (e : ℕ × ContentValue) (es : List (ℕ × ContentValue)) (records : List Record) → at e.0 es ≡ None
+pub appended-put : (e : ℕ × ContentValue) (es : List (ℕ × ContentValue)) (records : List Record) → at e.0 es ≡ None
     → appended (put_record e.0 e.1 records) es ≡ appended records es
 appended-put e [] records none = refl
 appended-put e (x ∷ es) records none = grind (arith, nat_tests, none, appended-put e es records, first-put e.0 e.1 records x.0)

@@ -48,7 +48,7 @@ fast_shows base records bounded honest i = by (nat_lt i id_bound) refl
 
 -- ---- live is shown as live
 
-live_held : (r : Record) → is_held_live (record_held r) ≡ is_live r
+pub live_held : (r : Record) → is_held_live (record_held r) ≡ is_live r
 live_held r = grind arith
 
 live_by : (p : Bool) (b : BaseState) (r : Record) → (not r.dirty && not r.deleted) ≡ p

@@ -13,6 +13,7 @@ use Rattle.record_merge.specs.Merging.{AreShown, is_held_live}
 use Rattle.record_merge.specs.Writes.{Write, replace, add, purge, clean_up, reset, after}
 use Rattle.record_merge.proofs.AfterLaws.{finished, differ-filter, has-purged}
 use Rattle.record_merge.proofs.PutLaws.{without_record-nil, without_record-cons}
+use Rattle.record_merge.proofs.HeldLaws.{held-clean}
 
 -- purges of ids that have no row, clean ups and resets alone
 abbrev pub AreClearing : (ℕ → Option ContentValue) → List Write → Type 0
@@ -64,10 +65,6 @@ only_live (archived c) = nothing
 held-cleaned : (records : List Record) (j : ℕ) → RowsDiffer records → held (filter is_live records) j ≡ only_live (held records j)
 held-cleaned [] j differ = refl
 held-cleaned (r ∷ records) j differ = grind (arith, held-cleaned records j differ.1)
-
-held-clean : (records : List Record) (j : ℕ) → held (map clean records) j ≡ held records j
-held-clean [] j = refl
-held-clean (r ∷ records) j = grind (arith, held-clean records j)
 
 first-clean : (records : List Record) (j : ℕ) → first j records ≡ None → first j (map clean records) ≡ None
 first-clean [] j none = refl

@@ -7,7 +7,7 @@ use Rattle.std.proofs.lemmas.Bool.Decides.{nat_tests}
 use Rattle.pdb_values.specs.Contents.{ContentValue}
 use Rattle.pdb_values.specs.declared.record.Record.{Record}
 use Rattle.conduit_rules.specs.ById.{id_bound, with_id, at}
-use Rattle.conduit_rules.specs.Choices.{Choice, Sides, choice_for, sides_of, fate_for, row_of}
+use Rattle.conduit_rules.specs.Choices.{Choice, Sides, choice_for, sides_of, row_of}
 use Rattle.conduit_rules.specs.News.{live_contents, archived_records}
 use Rattle.conduit_rules.specs.Plans.{replacement, lost, replaced_rows, gone_rows}
 use Rattle.conduit_rules.specs.States.{SideState, nothing, live, live_of, archived_of, content_of, held, held_where, BaseState, no_base, base_at}
@@ -26,15 +26,16 @@ use Rattle.record_merge.specs.Merging.{row_at, row_under, settled_record, merged
 use Rattle.record_merge.specs.Merging.{is_held_live, AreBounded}
 use Rattle.record_merge.specs.Writes.{Write, after, numbered, replaces, adding, giving, clearing, whole, AreFree, GotFreeIds}
 use Rattle.record_merge.proofs.AfterLaws.{finished, after-append, after-clearing}
-use Rattle.record_merge.proofs.AgainLaws.{choice-merged_for}
+use Rattle.record_merge.proofs.AgainLaws.{choice-merged_for, kept_zero}
 use Rattle.record_merge.proofs.HeldLaws.{held-rows, at-bounded}
 use Rattle.record_merge.proofs.PutLaws.{differ-ids}
-use Rattle.record_merge.proofs.ShownLaws.{bounded-none}
+use Rattle.record_merge.proofs.ShownLaws.{bounded-none, live_held}
 use Rattle.record_merge.proofs.SettledLaws.{based-merged, based_two, at_zero, none_loose, first-zero}
 use Rattle.repeat_laws.specs.Repeats.{Finding, IsRead, EndAlike, ended, sides, chosen, shown, GotIds, clearing_done, left_behind_commit, left_at_end}
 use Rattle.repeat_laws.proofs.ClearLaws.{AreClearing, clearing-take, Fits, AllFit, fits-after, with_rows, rows-after, finished-rows}
 use Rattle.repeat_laws.proofs.GivenLaws.{FitsGiven, given-is, bounded-given, differ-given, purges-given, clearing-given}
-use Rattle.repeat_laws.proofs.NewsLaws.{whole-is, are_shown, live_held, ended_by}
+use Rattle.repeat_laws.proofs.NewsLaws.{whole-is, are_shown, ended_by}
+use Rattle.record_merge.proofs.BothLaws.{no_contents}
 
 -- ---- what the next session chooses
 
@@ -52,10 +53,6 @@ lost_by b k a h bare none = grind arith
 
 zero_bare : (now : ℕ → SideState) (i : ℕ) → now 0 ≡ nothing → (i == 0) ≡ true → now i ≡ nothing
 zero_bare now i bare is = let same : i ≡ 0 = grind (arith, nat_tests, is) in ap now same ∙ bare
-
--- no row stands under id 0
-pub kept_zero : (a : Action) (s : Sides) → s.base 0 ≡ no_base → s.handheld 0 ≡ nothing → (fate_for a s 0).keep ≡ None
-kept_zero a s none free = grind arith
 
 zero_by : (b : Bool) {k o : Option ContentValue} → k ≡ None → o ≡ None → (if b then option_or k o else None) ≡ None
 zero_by b none too = grind arith
@@ -124,14 +121,10 @@ desktop-behind ch h {given} view g b =
 
 -- ---- how it ends
 
-pub no_contents : (given : List ℕ) → numbered given [] ≡ []
-no_contents [] = refl
-no_contents (g ∷ gs) = refl
-
 row_alone : (keep : ℕ → Option ContentValue) (later : List ℕ) (i : ℕ) → row_at (kept_alone keep) later i ≡ keep i
 row_alone keep later i = grind (arith, no_contents later)
 
-within_bound : (b : Bool) (o : Option ContentValue) → b ≡ true → (if b then o else None) ≡ o
+pub within_bound : (b : Bool) (o : Option ContentValue) → b ≡ true → (if b then o else None) ≡ o
 within_bound b o is = grind arith
 
 pub rows-again : (ch : Choice) (given later : List ℕ) → merged_rows (kept_alone (row_under ch given)) later ≡ merged_rows ch given

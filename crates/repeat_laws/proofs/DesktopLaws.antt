@@ -23,10 +23,10 @@ use Rattle.record_merge.proofs.CountLaws.{new-free}
 use Rattle.record_merge.proofs.PutLaws.{held-put, first-put, put_over, differ-put, differ-ids}
 use Rattle.repeat_laws.specs.Repeats.{Finding, IsRead, EndAlike, ended, sides, chosen, shown, GotIds, news_done, left_among_news}
 use Rattle.repeat_laws.proofs.FirstLaws.{first-out}
-use Rattle.repeat_laws.proofs.GivenLaws.{bounded-put}
 use Rattle.repeat_laws.proofs.CommitLaws.{base-alike}
 use Rattle.repeat_laws.proofs.NewsLaws.{whole-is, ended_by}
 use Rattle.repeat_laws.proofs.ResumeLaws.{replaced_put, purges_put, rows_behind, replace_head, add_head}
+use Rattle.record_merge.proofs.BoundLaws.{bounded-put}
 
 -- ---- ids that are free among more records
 

@@ -19,16 +19,13 @@ use Rattle.record_merge.specs.Merging.{row_under, AreBounded}
 use Rattle.record_merge.specs.Writes.{clean_up, reset, after, numbered, replaces, adding, purges, giving, clearing, AreFree, GotFreeIds}
 use Rattle.record_merge.proofs.AfterLaws.{after-append, after-replaces, after-adding_all, differ-put_all, free_before_all, apart-rising}
 use Rattle.record_merge.proofs.HeldLaws.{over, not_over, held-put_all, at-free, at-bounded, apart-free}
-use Rattle.record_merge.proofs.PutLaws.{put_all, put_record-nil, put_record-cons}
+use Rattle.record_merge.proofs.PutLaws.{put_all}
 use Rattle.record_merge.proofs.ShownLaws.{bounded-none}
 use Rattle.repeat_laws.proofs.ClearLaws.{AreClearing}
+use Rattle.conduit_rules.proofs.RisingLaws.{rising_end}
+use Rattle.record_merge.proofs.BoundLaws.{bounded-put}
 
 -- ---- ids stay those of records
-
-pub bounded-put : (i : ℕ) (c : ContentValue) (records : List Record) → nat_lt i id_bound ≡ true → AreBounded records
-    → AreBounded (put_record i c records)
-bounded-put i c [] l bounded = subst AreBounded (sym (put_record-nil i c)) (l, tt)
-bounded-put i c (r ∷ records) l bounded = grind (arith, put_record-cons i c r records, bounded-put i c records l bounded.1)
 
 abbrev HaveIds : List (ℕ × ContentValue) → Type 0
 HaveIds [] = Unit {0}
@@ -38,13 +35,9 @@ bounded-put_all : (es : List (ℕ × ContentValue)) (records : List Record) → 
 bounded-put_all [] records have bounded = bounded
 bounded-put_all (e ∷ es) records have bounded = bounded-put_all es (put_record e.0 e.1 records) have.1 (bounded-put e.0 e.1 records have.0 bounded)
 
-end_of : (low end : ℕ) (is : List ℕ) → IsRisingFrom low is end → low ≤ end
-end_of low end [] rising = rising
-end_of low end (i ∷ is) rising = let l = end_of (suc i) end is rising.1 in omega (arith, rising.0, l)
-
 have-rising : (low : ℕ) (es : List (ℕ × ContentValue)) → IsRisingFrom low (pair_ids es) id_bound → HaveIds es
 have-rising low [] rising = tt
-have-rising low (e ∷ es) rising = grind (arith, end_of (suc e.0) id_bound (pair_ids es) rising.1, have-rising (suc e.0) es rising.1)
+have-rising low (e ∷ es) rising = grind (arith, rising_end (suc e.0) id_bound (pair_ids es) rising.1, have-rising (suc e.0) es rising.1)
 
 have-free : (es : List (ℕ × ContentValue)) (now : List Record) → AreFree es now → HaveIds es
 have-free [] now free = tt

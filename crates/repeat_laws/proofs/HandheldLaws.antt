@@ -22,10 +22,12 @@ use Rattle.record_merge.proofs.StopLaws.{handheld-given}
 use Rattle.repeat_laws.specs.Repeats.{Finding, IsRead, EndAlike, ended, sides, chosen, shown, GotIds, news_done, clearing_done, left_among_news}
 use Rattle.repeat_laws.specs.Repeats.{left_behind_commit}
 use Rattle.repeat_laws.proofs.ClearLaws.{clearing-take, Fits}
-use Rattle.repeat_laws.proofs.CommitLaws.{copies-again, rows-again, base-again, records-again, fits-behind, no_contents, over_bound}
+use Rattle.repeat_laws.proofs.CommitLaws.{copies-again, rows-again, base-again, records-again, fits-behind, over_bound}
 use Rattle.repeat_laws.proofs.FirstLaws.{with_ids, with_ids-suc}
 use Rattle.repeat_laws.proofs.GivenLaws.{clearing-given}
 use Rattle.repeat_laws.proofs.NewsLaws.{ended_by}
+use Rattle.desk_store.proofs.FindLaws.{or_true}
+use Rattle.record_merge.proofs.BothLaws.{no_contents}
 
 -- ---- a stop before the commit
 
@@ -97,9 +99,6 @@ copies-more earlier (e ∷ xs) ys all =
 -- what is given for an id stands in the list by id
 here : (i n : ℕ) (c : ContentValue) → (i == n) ≡ true → is_archived (i, c) ((n, c) ∷ []) ≡ true
 here i n c is = grind (arith, same_content-same c)
-
-or_true : (a : Bool) → (a || true) ≡ true
-or_true a = grind arith
 
 pub among-below : (f : ℕ → Option ContentValue) (i : ℕ) {c : ContentValue} (n : ℕ) → i < n → f i ≡ Some c → is_archived (i, c) (with_ids f n) ≡ true
 among-below f i zero l is = absurd (omega (arith, l))

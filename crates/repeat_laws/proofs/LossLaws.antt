@@ -3,7 +3,7 @@ use Rattle.std.proofs.lemmas.Bool.{cases_lt, or_parts}
 use Rattle.std.proofs.lemmas.Bool.Decides.{nat_tests}
 use Rattle.std.proofs.lemmas.List.{append_assoc}
 use Rattle.std.proofs.lemmas.List.Folds.{list_any-append}
-use Rattle.std.proofs.Common.{◌≡◌, ◌∙◌, ◌<◌, ◌||◌, ◌&&◌, ◌++◌, refl, ap, sym, subst, arith, ℕ, zero, suc, Bool, true, false, not, List, [], ◌∷◌, map, Option, Some, None, inl, inr}
+use Rattle.std.proofs.Common.{◌≡◌, ◌∙◌, ◌<◌, ◌||◌, ◌&&◌, ◌++◌, refl, ap, sym, subst, arith, ℕ, zero, suc, Bool, true, false, not, List, [], ◌∷◌, map, Some, None, inl, inr}
 use Rattle.std.proofs.Common.{if◌then◌else◌, nat_lt, ◌==◌}
 use Rattle.std.specs.List.{list_any}
 use Rattle.std.specs.Prelude.{◌⊎◌, ◌≤◌}
@@ -27,7 +27,7 @@ use Rattle.record_merge.proofs.StopLaws.{choice-after, giving-of, of-take, sides
 use Rattle.session_plan.specs.Losses.{is_lost, stays}
 use Rattle.repeat_laws.specs.Losses.{loses_rows}
 use Rattle.repeat_laws.specs.Repeats.{Finding, GotIds, IsRead, StopsAmongNews, chosen, left_among_news, left_at_end, left_behind_commit, news_done}
-use Rattle.repeat_laws.proofs.CommitLaws.{chosen-commit, chosen-end, kept_alone}
+use Rattle.repeat_laws.proofs.CommitLaws.{chosen-commit, chosen-end, kept_alone, within_bound}
 use Rattle.repeat_laws.proofs.NewsLaws.{choice-counted}
 use Rattle.repeat_laws.proofs.ResumeLaws.{not_kept}
 use Rattle.repeat_laws.proofs.SoundLaws.{read-commit, read-news}
@@ -173,9 +173,6 @@ settled-stay before (e ∷ es) =
     or_true : (b : Bool) → (b || true) ≡ true
     or_true true = refl
     or_true false = refl
-
-within_bound : (b : Bool) (o : Option ContentValue) → b ≡ true → (if b then o else None) ≡ o
-within_bound b o is = grind arith
 
 -- so merged rows lose none where they alone are kept
 merged-loses : (ch : Choice) (given : List ℕ) (now : Choice) → now ≡ kept_alone (row_under ch given)

@@ -5,7 +5,7 @@ use Rattle.pdb_values.specs.Contents.{ContentValue}
 use Rattle.pdb_values.specs.Records.{is_live}
 use Rattle.pdb_values.specs.declared.record.Record.{Record}
 use Rattle.conduit_rules.specs.Choices.{Choice, Sides, choice, sides_of}
-use Rattle.conduit_rules.specs.States.{SideState, nothing, held, record_held, first, BaseState, no_base, based_where}
+use Rattle.conduit_rules.specs.States.{SideState, nothing, held, first, BaseState, no_base, based_where}
 use Rattle.conduit_rules.specs.Views.{view_held, slow_view}
 use Rattle.conduit_rules.specs.Writes.{given_to}
 use Rattle.conduit_rules.specs.declared.action.Action.TheVariants.{Sync}
@@ -47,9 +47,6 @@ choice-counted view rows base records false shows free =
     ap choice left_out ∙ choice-gone s (λ i. if_gone (s.base i) (shows i) (free i))
 
 -- ---- the writes make the merge
-
-pub live_held : (r : Record) → is_held_live (record_held r) ≡ is_live r
-live_held r = grind arith
 
 abbrev pub LivesShow : (ℕ → SideState) → List Record → Type 0
 LivesShow h records = (i : ℕ) (r : Record) → first i records ≡ Some r → is_held_live (h i) ≡ is_live r

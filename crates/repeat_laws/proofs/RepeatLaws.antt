@@ -19,12 +19,13 @@ use Rattle.repeat_laws.specs.Repeats.{StopsAmongNews, Finding, IsRead, Ending, E
 use Rattle.repeat_laws.specs.Repeats.{among_news, behind_commit, at_end}
 use Rattle.repeat_laws.specs.Repeats.{left, MayStop, left_by, left_among_news, left_behind_commit, left_at_end, ids_with, all_ids, AreStops}
 use Rattle.repeat_laws.specs.Renaming.{AreUnknown, SameEnds}
-use Rattle.repeat_laws.proofs.CommitLaws.{behind-commit, commit-adds, at-end, end-adds, no_contents}
+use Rattle.repeat_laws.proofs.CommitLaws.{behind-commit, commit-adds, at-end, end-adds}
 use Rattle.repeat_laws.proofs.DesktopLaws.{desktop-news, chosen-again}
 use Rattle.repeat_laws.proofs.HandheldLaws.{handheld-news, handheld-behind}
 use Rattle.repeat_laws.proofs.NewsLaws.{news, news_and_ids, news-adds}
 use Rattle.repeat_laws.proofs.RenamingLaws.{renamed}
 use Rattle.repeat_laws.proofs.SoundLaws.{read-news, read-commit}
+use Rattle.record_merge.proofs.BothLaws.{no_contents}
 
 pub alike_same : {e f : Ending} → e ≡ f → EndAlike e f
 alike_same is = grind arith
@@ -62,7 +63,7 @@ none_numbered x given = ap (λ ch. numbered given (Choice.adds ch)) (handheld-is
 ended-any : (x : Finding) (given later : List ℕ) → ended Handheld x given ≡ ended Handheld x later
 ended-any x given later = ap (ended_with (chosen Handheld x) (shown x) x.records x.archive) (none_numbered x given ∙ sym (none_numbered x later))
 
-got-any : (x : Finding) (given : List ℕ) → GotIds Handheld x given
+pub got-any : (x : Finding) (given : List ℕ) → GotIds Handheld x given
 got-any x given = grind (arith, none_numbered x given)
 
 -- ---- one stop

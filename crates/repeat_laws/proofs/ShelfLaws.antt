@@ -14,6 +14,7 @@ use Rattle.session_plan.specs.Merges.{rows_before, archive_of, DesktopMerge, mer
 use Rattle.session_plan.specs.Tasks.{Meeting, Task, task_of, slot_of, records_of}
 use Rattle.repeat_laws.specs.Meetings.{ids_dealt}
 use Rattle.repeat_laws.proofs.MergedLaws.{AreTasks, IsTask, NotNamed, PutsOwn, others-stay, puts, own-changes}
+use Rattle.session_plan.proofs.ArchiveLaws.{entries-records}
 
 -- ---- one role of a merged database
 
@@ -140,10 +141,6 @@ shelf-others g f is head m ts given shelves name are unnamed =
 
 -- ---- an archive that is written, or left as it is
 
-entries-again : (es : List (ℕ × ContentValue)) → entries_of (archive_records es) ≡ es
-entries-again [] = refl
-entries-again (e ∷ es) = ap (λ xs. e ∷ xs) (entries-again es)
-
 nothing_old : (old new : List (ℕ × ContentValue)) → one_copy_behind [] (old ++ new) ≡ [] → old ≡ []
 nothing_old [] new is = refl
 nothing_old (e ∷ old) new is = absurd (cc)
@@ -156,4 +153,4 @@ archive-entries r was new = by (one_copy_behind [] (entries_of (records_of was) 
     by : (es : List (ℕ × ContentValue)) → one_copy_behind [] (entries_of (records_of was) ++ new) ≡ es
         → entries_of (records_of (if_put (archive_of r (archive_records es)) was)) ≡ es
     by [] is = nothing_old (entries_of (records_of was)) new is
-    by (e ∷ es) is = entries-again (e ∷ es)
+    by (e ∷ es) is = entries-records (e ∷ es)

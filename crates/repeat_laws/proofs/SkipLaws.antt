@@ -17,6 +17,7 @@ use Rattle.session_plan.specs.Tasks.{Meeting, task_of}
 use Rattle.session_parts.specs.declared.skip.Skip.{Skip}
 use Rattle.session_parts.specs.declared.skip.Skip.TheVariants as skip
 use Rattle.repeat_laws.specs.Meetings.{IsLike, IsLikeFirst, StandsLike}
+use Rattle.folder_files.proofs.ValueLaws.{or_first}
 
 -- ---- a test of attributes
 
@@ -27,9 +28,6 @@ passes_none : (test : ℕ → Bool) → Keeps test → (own other now : Option D
     → passes test other ≡ false → passes test now ≡ false
 passes_none test keeps own other now like no_own no_other = grind arith
 
-pub left_false : (a b : Bool) → (a || b) ≡ false → a ≡ false
-left_false a b is = grind arith
-
 pub right_false : (a b : Bool) → (a || b) ≡ false → b ≡ false
 right_false a b is = grind arith
 
@@ -39,7 +37,7 @@ both_false {b} no_a no_b = ap (λ x. x || b) no_a ∙ no_b
 one_none : (test : ℕ → Bool) → Keeps test → (h r h1 r1 : Option DbHead) → IsLikeFirst h r h1 → IsLikeFirst r h r1 → one_passes test h r ≡ false
     → one_passes test h1 r1 ≡ false
 one_none test keeps h r h1 r1 like_h like_r is =
-    let no_h = left_false (passes test h) (passes test r) is in
+    let no_h = or_first (passes test h) (passes test r) is in
     let no_r = right_false (passes test h) (passes test r) is in
     both_false (passes_none test keeps h r h1 like_h no_h no_r) (passes_none test keeps r h r1 like_r no_r no_h)
 

@@ -1,5 +1,5 @@
 -- What a stopped session leaves can be read: its ids are those of records.
-use Rattle.std.proofs.Common.{◌≡◌, ℕ, zero, suc, ◌<◌, ◌≤◌, ◌^◌, List, [], ◌∷◌, ◌++◌, refl, ap, ◌∙◌, sym, subst, arith, true, Bool, Option, Some, None, map}
+use Rattle.std.proofs.Common.{◌≡◌, ℕ, zero, suc, ◌<◌, ◌≤◌, ◌^◌, List, [], ◌∷◌, ◌++◌, refl, ap, ◌∙◌, sym, subst, arith, true, Option, Some, None, map}
 use Rattle.std.proofs.Common.{filter, nat_lt, take}
 use Rattle.std.proofs.lemmas.Bool.Decides.{nat_tests}
 use Rattle.pdb_values.specs.Contents.{ContentValue}
@@ -19,9 +19,9 @@ use Rattle.record_merge.proofs.PutLaws.{without_record-nil, without_record-cons}
 use Rattle.record_merge.proofs.SettledLaws.{first-zero}
 use Rattle.record_merge.proofs.ShownLaws.{slow_shows}
 use Rattle.repeat_laws.specs.Repeats.{Finding, IsRead, chosen, shown, sides, GotIds, news_done, clearing_done, left_among_news, left_behind_commit}
-use Rattle.repeat_laws.proofs.CommitLaws.{kept_zero}
 use Rattle.repeat_laws.proofs.FirstLaws.{with_ids, with_ids-suc}
-use Rattle.repeat_laws.proofs.GivenLaws.{bounded-put}
+use Rattle.record_merge.proofs.BoundLaws.{bounded-filter, bounded-clean, bounded-put}
+use Rattle.record_merge.proofs.AgainLaws.{kept_zero}
 
 -- each id that is written to is one that a record can have
 abbrev CanWrite : List Write → Type 0
@@ -66,14 +66,6 @@ ids-after (reset ∷ ws) records can ids = ids-after ws (map clean records) can 
 bounded-without : (i : ℕ) (records : List Record) → AreBounded records → AreBounded (without_record i records)
 bounded-without i [] bounded = subst AreBounded (sym (without_record-nil i)) tt
 bounded-without i (r ∷ records) bounded = grind (arith, without_record-cons i r records, bounded-without i records bounded.1)
-
-bounded-filter : (keep : Record → Bool) (records : List Record) → AreBounded records → AreBounded (filter keep records)
-bounded-filter keep [] bounded = tt
-bounded-filter keep (r ∷ records) bounded = grind (arith, bounded-filter keep records bounded.1)
-
-bounded-clean : (records : List Record) → AreBounded records → AreBounded (map clean records)
-bounded-clean [] bounded = tt
-bounded-clean (r ∷ records) bounded = (bounded.0, bounded-clean records bounded.1)
 
 bounded-after : (ws : List Write) (records : List Record) → CanWrite ws → AreBounded records → AreBounded (after ws records)
 bounded-after [] records can bounded = bounded

@@ -3,7 +3,7 @@ use Rattle.std.proofs.Common.{◌≡◌, ◌⊎◌, inl, inr, ◌<◌, ℕ, zero
 use Rattle.std.proofs.Common.{Some}
 use Rattle.std.specs.Prelude.{not, bytes_eq, slice_get, ◌&&◌, ◌||◌}
 use Rattle.std.specs.List.{list_all, list_any}
-use Rattle.std.proofs.lemmas.Bool.{and_parts}
+use Rattle.std.proofs.lemmas.Bool.{and_parts, or_parts}
 use Rattle.std.proofs.lemmas.Slice.Eq.{bytes_eq-Decides}
 
 abbrev pub Text : Type 0
@@ -26,9 +26,6 @@ disjoint xs ys = list_all (λ x. not (list_any (bytes_eq x) ys)) xs
 pub not_true : (b : Bool) → not b ≡ true → b ≡ false
 not_true b e = grind arith
 
-pub or_false : (a b : Bool) → (a || b) ≡ false → (a ≡ false) × (b ≡ false)
-or_false a b e = grind arith
-
 pub same_text : (x : Text) → bytes_eq x x ≡ true
 same_text x = (bytes_eq-Decides x x).1 refl
 
@@ -44,16 +41,16 @@ apart_first x xs e =
 pub differs_in : (x : Text) (ys : List Text) (y : Text) → list_any (bytes_eq x) ys ≡ false → IsIn y ys → bytes_eq x y ≡ false
 differs_in x [] y e i = absurd i
 differs_in x (z ∷ ys) y e i =
-    let parts = or_false (bytes_eq x z) (list_any (bytes_eq x) ys) e in
+    let parts = or_parts (bytes_eq x z) (list_any (bytes_eq x) ys) e in
     elim i [ inl same ↦ ap (bytes_eq x) (sym same) ∙ parts.0 | inr more ↦ differs_in x ys y parts.1 more ]
 
 pub differs_at : (x : Text) (ys : List Text) (k : ℕ) {y : Text} → list_any (bytes_eq x) ys ≡ false → slice_get ys k ≡ Some y → bytes_eq x y ≡ false
 differs_at x [] k e at = cc
 differs_at x (z ∷ ys) zero {y} e at =
-    let parts = or_false (bytes_eq x z) (list_any (bytes_eq x) ys) e in
+    let parts = or_parts (bytes_eq x z) (list_any (bytes_eq x) ys) e in
     let same : z ≡ y = cc in
     ap (bytes_eq x) (sym same) ∙ parts.0
-differs_at x (z ∷ ys) (suc k) e at = differs_at x ys k (or_false (bytes_eq x z) (list_any (bytes_eq x) ys) e).1 at
+differs_at x (z ∷ ys) (suc k) e at = differs_at x ys k (or_parts (bytes_eq x z) (list_any (bytes_eq x) ys) e).1 at
 
 pub disjoint_in : (xs ys : List Text) (x y : Text) → disjoint xs ys ≡ true → IsIn x xs → IsIn y ys → bytes_eq x y ≡ false
 disjoint_in [] ys x y e i j = absurd i

@@ -8,7 +8,8 @@ use Rattle.clap.specs.Walk.{Rule, arg_by_id, arg_by_index, arg_by_long}
 use Rattle.clap.specs.Simple.{filled, filled_from, with_index}
 use Rattle.run_words.specs.Forms.{WordFormValue, NamedOption}
 use Rattle.run_clap.specs.Apps.{flag_rule, form_rules, option_rule, plain_rule}
-use Rattle.run_clap.proofs.Lists.{IsIn, Text, apart, apart_first, differs_at, differs_in, in-map, or_false, same_text}
+use Rattle.run_clap.proofs.Lists.{IsIn, Text, apart, apart_first, differs_at, differs_in, in-map, same_text}
+use Rattle.std.proofs.lemmas.Bool.{or_parts}
 
 abbrev pub plain_in : ℕ → Text → Rule
 plain_in place id = with_index place (filled (plain_rule id))
@@ -30,7 +31,7 @@ names_of options = map (λ (option : NamedOption). option.name) options
 abbrev pub rules_of : WordFormValue → List Rule
 rules_of form = numbered 1 form.plain ++ (map option_in form.options ++ map flag_in form.flags)
 
-least : (place : ℕ) → suc place ≤ 18446744073709551615 → min (place + 1) 18446744073709551615 ≡ suc place
+pub least : (place : ℕ) → suc place ≤ 18446744073709551615 → min (place + 1) 18446744073709551615 ≡ suc place
 least place le = grind (arith, nat_tests)
 
 filled_plain : (place : ℕ) (ids : List Text) (rest filled_rest : List Rule) → place + length ids ≤ 18446744073709551615
@@ -100,7 +101,7 @@ behind_options : (options : List NamedOption) (rest : List Rule) (name : Text) �
     → arg_by_long (map option_in options ++ rest) name ≡ arg_by_long rest name
 behind_options [] rest name e = refl
 behind_options (x ∷ options) rest name e =
-    let parts = or_false (bytes_eq x.name name) _ e in
+    let parts = or_parts (bytes_eq x.name name) _ e in
     let other = parts.0 in
     rw other (behind_options options rest name parts.1)
 

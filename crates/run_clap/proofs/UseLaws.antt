@@ -2,7 +2,7 @@
 use Rattle.std.proofs.lemmas.Grind.{common_steps}
 use Rattle.std.proofs.Common.{◌≡◌, ◌⊎◌, inl, inr, ◌<◌, ◌≤◌, ◌+◌, ℕ, zero, suc, ◌==◌, Bool, true, false, cond, List, [], ◌∷◌, ◌++◌, length, refl, sym, ap, ◌∙◌, arith, codes}
 use Rattle.std.proofs.Common.{Option, Some, None}
-use Rattle.std.proofs.lemmas.Bool.{and_parts}
+use Rattle.std.proofs.lemmas.Bool.{and_parts, or_parts}
 use Rattle.std.proofs.lemmas.Bool.Decides.{nat_tests}
 use Rattle.std.specs.Prelude.{bytes_eq, slice_get, not, ◌&&◌, ◌||◌, option_map, unwrap_or}
 use Rattle.std.specs.Option.{option_map_or, option_or}
@@ -13,7 +13,7 @@ use Rattle.clap.proofs.LexerLemmas.{name_and_value-at, name_and_value-without}
 use Rattle.run_words.specs.Forms.{WordFormValue, NamedOption, has_flag, has_value, is_flag, is_word, plain_at, plain_words, value_in, value_of}
 use Rattle.run_words.specs.Words.{is_plain}
 use Rattle.run_words.proofs.WordLaws.{after-is}
-use Rattle.run_clap.proofs.Lists.{IsIn, Text, apart, apart_first, differs_at, disjoint, disjoint_in, each_passes, in-map, in_at, not_true, or_false, passing, same_is, same_text, some_at}
+use Rattle.run_clap.proofs.Lists.{IsIn, Text, apart, apart_first, differs_at, disjoint, disjoint_in, each_passes, in-map, in_at, not_true, passing, same_is, same_text, some_at}
 use Rattle.run_clap.proofs.RuleLaws.{names_of}
 
 -- a name is not empty and has no `=`
@@ -34,8 +34,8 @@ pub record Proper (form : WordFormValue) : Type 0 where
 
 lacks : (name : Text) → list_any (λ byte. byte == 61) name ≡ false → Lacks 61 name
 lacks [] e i lt = absurd (omega arith)
-lacks (x ∷ xs) e zero lt = let parts = or_false (x == 61) _ e in λ same. grind (arith, nat_tests)
-lacks (x ∷ xs) e (suc i) lt = lacks xs (or_false (x == 61) _ e).1 i (omega arith)
+lacks (x ∷ xs) e zero lt = let parts = or_parts (x == 61) _ e in λ same. grind (arith, nat_tests)
+lacks (x ∷ xs) e (suc i) lt = lacks xs (or_parts (x == 61) _ e).1 i (omega arith)
 
 -- ---- `--NAME=VALUE` and `--NAME`
 

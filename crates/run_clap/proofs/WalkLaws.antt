@@ -1,8 +1,6 @@
 -- What `clap` makes of one word of a form.
 use Rattle.std.proofs.Common.{arith, ◌≡◌, ◌≤◌, ◌+◌, ℕ, suc, ◌==◌, Bool, true, false, List, [], ◌∷◌, ◌++◌, ◌&&◌, append-nil, refl, ap, ◌∙◌, codes}
 use Rattle.std.proofs.Common.{Option, Some, None}
-use Rattle.std.proofs.lemmas.Bool.Decides.{nat_tests}
-use Rattle.std.specs.Prelude.{min}
 use Rattle.std.specs.Str.{bytes_eq}
 use Rattle.clap.specs.Lexer.{long_of}
 use Rattle.clap.specs.declared.parser.matches.ValueSource.TheVariants.{CommandLine}
@@ -13,8 +11,9 @@ use Rattle.clap.specs.Simple.{Shape, built}
 use Rattle.clap.specs.Takes.{turn_passes, settle_passes}
 use Rattle.run_words.specs.Forms.{NamedOption}
 use Rattle.run_clap.proofs.AppLaws.{app_with}
-use Rattle.run_clap.proofs.Lists.{Text, or_false, same_is}
-use Rattle.run_clap.proofs.RuleLaws.{flag_in, option_in, plain_in}
+use Rattle.run_clap.proofs.Lists.{Text, same_is}
+use Rattle.run_clap.proofs.RuleLaws.{flag_in, option_in, plain_in, least}
+use Rattle.std.proofs.lemmas.Bool.{or_parts}
 
 -- the command with these arguments, filled in
 abbrev pub shape_of : List Rule → Shape
@@ -28,7 +27,7 @@ row u = record { id = u.0; values = u.1 ∷ []; count = None; source = Some Comm
 pub at_row-none : (id : Text) (change : Row → List Row) (missing rows : List Row) → has_row id rows ≡ false
     → at_row id change missing rows ≡ rows ++ missing
 at_row-none id change missing [] e = refl
-at_row-none id change missing (x ∷ xs) e = grind (arith, at_row-none id change missing xs (or_false (bytes_eq x.id id) (has_row id xs) e).1)
+at_row-none id change missing (x ∷ xs) e = grind (arith, at_row-none id change missing xs (or_parts (bytes_eq x.id id) (has_row id xs) e).1)
 
 -- a first use of an argument adds its row
 with_values-new : (id value : Text) (rows : List Row) → has_row id rows ≡ false
@@ -93,9 +92,6 @@ flag_turns rules flag word place rows h found long f none =
 
 and_false : (b : Bool) → (b && false) ≡ false
 and_false b = grind arith
-
-least : (place : ℕ) → suc place ≤ 18446744073709551615 → min (place + 1) 18446744073709551615 ≡ suc place
-least place le = grind (arith, nat_tests)
 
 pub plain_turns : (rules : List Rule) (id : Text) (x : ℕ) (xs : Text) (place : ℕ) (rows : List Row) (h : Held)
     → arg_by_index rules place ≡ Some (plain_in place id) → arg_by_id rules id ≡ Some (plain_in place id) → (x == 45) ≡ false

@@ -26,7 +26,7 @@ use Rattle.run_words.proofs.StemLaws.{bytes_of_stem-first, from_first}
 first_plain : (byte : ℕ) (rest : List ℕ) → is_plain byte ≡ true → first_of (byte ∷ rest) ≡ Some (byte, rest)
 first_plain byte rest e = grind arith
 
-digit_number-hex_digit : (n : ℕ) → n < 16 → digit_number (hex_digit n) ≡ n
+pub digit_number-hex_digit : (n : ℕ) → n < 16 → digit_number (hex_digit n) ≡ n
 digit_number-hex_digit n e = grind (arith, nat_tests, e)
 
 first_escape : (byte : ℕ) (rest : List ℕ) → byte < 256 → is_plain byte ≡ false

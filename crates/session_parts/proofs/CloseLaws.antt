@@ -23,7 +23,9 @@ use Rattle.dlp_commands.specs.Writings.{WritingValue, written_in}
 use Rattle.desktop_session.proofs.TellLaws.{IfDone, Opens, done_then, open_done, said_device}
 use Rattle.slow_mirror.specs.News.{purge_writes, puts}
 use Rattle.session_parts.proofs.HandleLaws.{make_done}
-use Rattle.session_parts.proofs.RestLaws.{after-append, all-append, outcome_is}
+use Rattle.session_parts.proofs.RestLaws.{outcome_is}
+use Rattle.desk_journal.proofs.StepLaws.{all_and}
+use Rattle.desktop_session.proofs.ListLaws.{after_append}
 
 -- something is open under handle 1, or nothing is, and under no other handle
 pub record OneOpen (device : Device) : Type 0 where
@@ -63,7 +65,7 @@ making_one head = record {
 pub record KeepsHandles (one : Act) : Type 0 where
   pub at : (device : Device) → (acted one device).1.handles ≡ device.handles
 
-writes_keep : (free : ℕ) (device : Device) (handle number : ℕ) (asked : WritingValue)
+pub writes_keep : (free : ℕ) (device : Device) (handle number : ℕ) (asked : WritingValue)
     → (outcome device number (writes free device handle asked)).1.handles ≡ device.handles
 writes_keep free device handle number asked =
     let P : Device × ReplyValue → Type 0 = λ done. done.0.handles ≡ device.handles in
@@ -115,7 +117,7 @@ removes_keep handle (id ∷ ids) = (removing_keeps handle id, removes_keep handl
 pub purges_keep : (handle : ℕ) (ids : List ℕ) → AllByRecursion KeepsHandles (purge_writes handle ids)
 unfolding acted tried
 purges_keep handle ids =
-    all-append KeepsHandles (map (removing handle) ids) (cleaning handle ∷ resetting handle ∷ []) (removes_keep handle ids) (
+    all_and KeepsHandles (map (removing handle) ids) (cleaning handle ∷ resetting handle ∷ []) (removes_keep handle ids) (
       record { at = λ device. writes_keep 0 device handle 0x26 writing.CleanUp },
       (record { at = λ device. writes_keep 0 device handle 0x27 writing.ResetFlags }, tt),
     )
@@ -138,7 +140,7 @@ around_none first acts device opens keeps none =
     let open_now = opens.at device none in
     let now : Device = (acted first device).1 in
     let written : (device_after acts now).handles ≡ with_handle 1 open_now.slot no_handles = handles_after acts now keeps ∙ open_now.is in
-    ap (λ (d : Device). d.handles) (after-append acts (closing 1 ∷ []) now) ∙ closed_by (device_after acts now) open_now.slot written
+    ap (λ (d : Device). d.handles) (after_append acts (closing 1 ∷ []) now) ∙ closed_by (device_after acts now) open_now.slot written
 
 -- ---- a link that tells a device on which nothing is open
 

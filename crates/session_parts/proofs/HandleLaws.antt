@@ -29,10 +29,10 @@ one_free device handle none is =
     let one : ◌≡◌ {A = Option ℕ} (Some 1) (Some handle) = sym (ap free_handle none) ∙ is in
     sym (let same : 1 ≡ handle = cc in same)
 
-one_reply : Replies 0x17 (reply.OpenDb 1)
+pub one_reply : Replies 0x17 (reply.OpenDb 1)
 one_reply = record { is = record { fields = lit< tt; values = tt; fits = lit≤ tt }; function = refl }
 
-made_reply : Replies 0x18 (reply.CreateDb 1)
+pub made_reply : Replies 0x18 (reply.CreateDb 1)
 made_reply = record { is = record { fields = lit< tt; values = tt; fits = lit≤ tt }; function = refl }
 
 pub make_done : (device : Device) (creator kind : List ℕ) (flags version : ℕ) (name : List ℕ) → device.handles ≡ no_handles
@@ -66,7 +66,7 @@ handle_by device number handle mode name answer (Err code) reads says opens keep
     absurd (let none = sym (ap (said_in number handle_of) read) ∙ is in cc)
 
 -- whatever was refused has a code
-any_kept : (P : Device × ReplyValue → Type 0) (r : Trial) → Keeps P r → Keeps (λ (done : Device × ReplyValue). Unit {0}) r
+pub any_kept : (P : Device × ReplyValue → Type 0) (r : Trial) → Keeps P r → Keeps (λ (done : Device × ReplyValue). Unit {0}) r
 any_kept P (Ok done) keeps = tt
 any_kept P (Err code) keeps = keeps
 
@@ -88,7 +88,7 @@ makes_one device head handle none is =
 
 -- ---- where it was answered
 
-said_of_answer : {A : Type 0} (fault : Option LinkFault) (said : Result A SessionFault) (x : A) → Ok x ≡ answer_by fault said → said ≡ Ok x
+pub said_of_answer : {A : Type 0} (fault : Option LinkFault) (said : Result A SessionFault) (x : A) → Ok x ≡ answer_by fault said → said ≡ Ok x
 said_of_answer None said x is = sym is
 said_of_answer (Some fault) said x is = absurd cc
 

@@ -1,6 +1,6 @@
 -- What is opened on a handheld at rest, read and closed leaves it as it was.
 use Rattle.std.proofs.Common.{◌≡◌, ◌∙◌, ◌+◌, refl, sym, ap, subst, ℕ, zero, suc, false, List, [], ◌∷◌, ◌++◌, lit<}
-use Rattle.std.specs.Prelude.{Option, Some, None, IsSomeAnd, Ok, Err, ◌&&◌, replicate, flat_map, slice_get}
+use Rattle.std.specs.Prelude.{Some, Ok, Err, ◌&&◌, replicate, flat_map, slice_get}
 use Rattle.std.specs.List.{AllByRecursion}
 use Rattle.std.specs.Option.{option_map}
 use Rattle.pdb_values.specs.Databases.{DatabaseValue}
@@ -19,28 +19,15 @@ use Rattle.dlp_commands.specs.Reached.{Trial, next_of, read_next_modified_rec, r
 use Rattle.dlp_commands.specs.Readings.{read_in}
 use Rattle.dlp_commands.specs.declared.reading.Reading.{Reading}
 use Rattle.session_parts.proofs.LinkWords.{Act, acted, closing, listing, opening, reading_next, IsTellable, device_after}
-use Rattle.desktop_session.specs.Lists.{listings}
 use Rattle.desktop_session.specs.Orders.{CanOpen}
 use Rattle.desktop_session.proofs.ChangeRows.{row_does}
-use Rattle.desktop_session.proofs.OrderLaws.{name_right}
+use Rattle.desktop_session.proofs.OrderLaws.{name_right, some_with}
 use Rattle.desktop_session.proofs.RequestFits.{open_fits}
 use Rattle.desktop_session.proofs.TellLaws.{IfDone, act_sayable, acted_proper, done_then}
-
--- what is there, with what holds of it
-there_with : {A : Type 0} (P : A → Type 0) (o : Option A) → IsSomeAnd o P → (x : A) × (o ≡ Some x) × P x
-there_with P None is = absurd is
-there_with P (Some x) is = (x, refl, is)
+use Rattle.desk_journal.proofs.StepLaws.{all_and}
+use Rattle.desktop_session.proofs.ListLaws.{after_append}
 
 -- ---- acts, one after another
-
-pub after-append : (xs ys : List Act) (device : Device) → device_after (xs ++ ys) device ≡ device_after ys (device_after xs device)
-after-append [] ys device = refl
-after-append (x ∷ xs) ys device = after-append xs ys (acted x device).1
-
--- what holds of all of a list holds of its parts
-pub all-append : {A : Type 0} (P : A → Type 0) (xs ys : List A) → AllByRecursion P xs → AllByRecursion P ys → AllByRecursion P (xs ++ ys)
-all-append P [] ys first second = second
-all-append P (x ∷ xs) ys first second = (first.0, all-append P xs ys first.1 second)
 
 pub all-replicate : {A : Type 0} (P : A → Type 0) (n : ℕ) (x : A) → P x → AllByRecursion P (replicate n x)
 all-replicate P zero x is = tt
@@ -48,7 +35,7 @@ all-replicate P (suc n) x is = (is, all-replicate P n x is)
 
 pub all-flat_map : {A B : Type 0} (P : B → Type 0) (f : A → List B) (xs : List A) → ((x : A) → AllByRecursion P (f x)) → AllByRecursion P (flat_map f xs)
 all-flat_map P f [] each = tt
-all-flat_map P f (x ∷ xs) each = all-append P (f x) (flat_map f xs) (each x) (all-flat_map P f xs each)
+all-flat_map P f (x ∷ xs) each = all_and P (f x) (flat_map f xs) (each x) (all-flat_map P f xs each)
 
 -- what is done holds of the device after, if it holds of the one before
 pub outcome_is : (P : Device → Type 0) (old : Device) (number : ℕ) (r : Trial) → P old → IfDone (λ (done : Device × ReplyValue). P done.0) r
@@ -76,13 +63,6 @@ pub listing_same : (device : Device) (start : ℕ) → (acted (listing start) de
 unfolding acted tried
 listing_same device start =
     outcome_is (λ d. d ≡ device) device 0x16 (read_db_list device 0x80 0 start) refl (list_done device 0x80 0 start)
-
-pub listings_same : (count : ℕ) (device : Device) → device_after (listings count) device ≡ device
-unfolding listings
-listings_same zero device = refl
-listings_same (suc count) device =
-    after-append (listings count) (listing count ∷ []) device ∙ ap (λ d. (acted (listing count) d).1) (listings_same count device)
-    ∙ listing_same device count
 
 pub greeting_same : (device : Device) → device_after greeting device ≡ device
 unfolding acted tried
@@ -125,7 +105,7 @@ open_row : (device : Device) (name : List ℕ) → CanOpen device 0 0xD0 name
     → tried 0 device (opening name).asks ≡ Ok (opened_on device name 0xD0 0, reply.OpenDb 1)
 unfolding tried open_db
 open_row device name can =
-    let found = there_with (λ (database : DatabaseValue). (has_bit 0x40 0xD0 && is_read_only database.head.attributes) ≡ false)
+    let found = some_with (λ (database : DatabaseValue). (has_bit 0x40 0xD0 && is_read_only database.head.attributes) ≡ false)
     (database_of name device.databases) can.there in
     rw (name_right name can.named, found.1, can.none_open, found.2) refl
 
@@ -148,7 +128,7 @@ pub around_same : (device : Device) (name : List ℕ) (acts : List Act) → devi
 around_same device name acts closed can all =
     let more = after_open device name 0xD0 acts 0 all in
     ap (device_after (acts ++ closing 1 ∷ [])) (opens_does device name can)
-    ∙ after-append acts (closing 1 ∷ []) (opened_on device name 0xD0 0)
+    ∙ after_append acts (closing 1 ∷ []) (opened_on device name 0xD0 0)
     ∙ ap (λ d. (acted (closing 1) d).1) more.1
     ∙ closes_does device name 0xD0 more.0 closed
 

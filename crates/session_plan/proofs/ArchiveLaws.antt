@@ -11,7 +11,7 @@ use Rattle.slow_mirror.proofs.NewsLaws.{split_at}
 use Rattle.session_plan.specs.Archives.{Notes, archive_records, entries_of, entry_at, same_entry, with_entries, with_entry}
 use Rattle.session_plan.specs.declared.archive.EntryKey.{EntryKey}
 
-or_later : (a b c : Bool) → (a || (b || c)) ≡ (b || (a || c))
+pub or_later : (a b c : Bool) → (a || (b || c)) ≡ (b || (a || c))
 or_later true true c = refl
 or_later true false c = refl
 or_later false true c = refl
@@ -68,7 +68,7 @@ put_known_entry seen key e kept new at notes told is_old =
     ap (λ b. if b then kept ++ settled_record e ∷ [] else kept) (sym is_old)
     ∙ by_key e kept new (told ∙ ap not (notes key ∙ ap (λ x. is_archived x (entries_of kept)) at))
 
-entries-records : (es : List (ℕ × ContentValue)) → entries_of (archive_records es) ≡ es
+pub entries-records : (es : List (ℕ × ContentValue)) → entries_of (archive_records es) ≡ es
 entries-records [] = refl
 entries-records (e ∷ es) = ap (λ xs. e ∷ xs) (entries-records es)
 

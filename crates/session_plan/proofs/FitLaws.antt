@@ -24,6 +24,7 @@ use Rattle.session_plan.specs.declared.planned.Planned.{Planned}
 use Rattle.session_parts.specs.declared.skip.Skip.{Skip}
 use Rattle.session_plan.specs.declared.wishes.Wishes.{Wishes}
 use Rattle.session_plan.proofs.RiseLaws.{rise-with_names}
+use Rattle.palm_device.proofs.TellingLaws.{none_where}
 
 -- ---- names
 
@@ -47,22 +48,17 @@ session-rises {shelves} {planned} of =
 
 -- ---- rows
 
--- the rows that a database changes take its plan
-not_skipped : {A : Type 0} (o : Option A) → is_some o ≡ false → o ≡ None
-not_skipped None none = refl
-not_skipped (Some a) none = absurd cc
-
 pub takes-rows : (date : ℕ) (shelves : ShelvesValue) (one : Planned) (given : List ℕ) (rows : DatabaseValue) → IsTakeable date shelves one given
     → is_some one.job.skip ≡ false → database_of one.job.name shelves.rows ≡ Some rows → TakesPlan one.job.name one.plan given rows
 takes-rows date shelves one given rows takes active there =
-    subst (λ o. IfSome (rows_begun date o one.job.handheld) (TakesPlan one.job.name one.plan given)) there (takes (not_skipped one.job.skip active))
+    subst (λ o. IfSome (rows_begun date o one.job.handheld) (TakesPlan one.job.name one.plan given)) there (takes (none_where one.job.skip active))
 
 pub takes-head : (date : ℕ) (shelves : ShelvesValue) (one : Planned) (given : List ℕ) (head : DbHead) → IsTakeable date shelves one given
     → is_some one.job.skip ≡ false → database_of one.job.name shelves.rows ≡ None → one.job.handheld ≡ Some head
     → TakesPlan one.job.name one.plan given (empty_database (rows_head date head))
 takes-head date shelves one given head takes active none is =
     subst (λ h. IfSome (rows_begun date None h) (TakesPlan one.job.name one.plan given)) is
-    (subst (λ o. IfSome (rows_begun date o one.job.handheld) (TakesPlan one.job.name one.plan given)) none (takes (not_skipped one.job.skip active)))
+    (subst (λ o. IfSome (rows_begun date o one.job.handheld) (TakesPlan one.job.name one.plan given)) none (takes (none_where one.job.skip active)))
 
 -- ---- at a place
 

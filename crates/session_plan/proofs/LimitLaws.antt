@@ -11,10 +11,10 @@ use Rattle.std.specs.List.{position_or_len}
 use Rattle.session_plan.proofs.PlanWords.{ContentValue, ShelvesValue, Planned}
 use Rattle.pdb_values.proofs.PlaceLaws.{place_found, place_past}
 use Rattle.conduit_rules.specs.declared.view.Seen.{Seen}
-use Rattle.slow_mirror.proofs.NewsLaws.{take_all}
 use Rattle.session_plan.specs.Limits.{with_one}
 use Rattle.session_plan.specs.PlannedLimits.{begins_with, entries_from, one_unless, over_planned, past_room, sizes_planned, unseen_count}
 use Rattle.session_plan.specs.Sizes.{is_over}
+use Rattle.desktop_session.proofs.GrowLaws.{take_whole}
 
 -- ---- entries that are passed
 
@@ -44,7 +44,7 @@ pub from_slice : (id : ℕ) (view : List Seen) (place : ℕ) → position (λ (s
     → take (length view - place) (drop place view) ≡ entries_from id view
 from_slice id view place found =
     let whole = length-drop place view in
-    take_all (drop place view) (length view - place) (omega (arith, whole)) ∙ sym (from_found id view place found)
+    take_whole (drop place view) (length view - place) (omega (arith, whole)) ∙ sym (from_found id view place found)
 
 -- ---- counts that stop at the greatest number
 

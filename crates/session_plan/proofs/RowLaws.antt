@@ -12,7 +12,7 @@ use Rattle.conduit_rules.specs.Views.{first_seen}
 use Rattle.conduit_rules.specs.declared.action.Action.{Action}
 use Rattle.conduit_rules.specs.declared.view.Seen.{Seen}
 use Rattle.conduit_rules.proofs.ByIdLaws.{each_below-same}
-use Rattle.conduit_rules.proofs.PlanLaws.{at-each_below}
+use Rattle.conduit_rules.proofs.PlanLaws.{at-each_below, at-append}
 use Rattle.record_merge.specs.Merging.{gone_record, merged_base, merged_rows, row_at, settled_record}
 use Rattle.record_merge.specs.Writes.{numbered}
 use Rattle.slow_mirror.specs.Entries.{ordered}
@@ -27,7 +27,7 @@ rows_on old now new es more e is before grows =
 
 -- ---- numbers
 
-numbered-push : (gs : List ℕ) (cs : List ContentValue) (g : ℕ) (c : ContentValue) → length gs ≡ length cs
+pub numbered-push : (gs : List ℕ) (cs : List ContentValue) (g : ℕ) (c : ContentValue) → length gs ≡ length cs
     → numbered (gs ++ g ∷ []) (cs ++ c ∷ []) ≡ numbered gs cs ++ (g, c) ∷ []
 numbered-push [] [] g c same = refl
 numbered-push [] (d ∷ cs) g c same = absurd (omega arith)
@@ -72,10 +72,6 @@ at_by : {A : Type 0} (b : Bool) (x : A) (all first last : Option A) → all ≡ 
     → (if b then Some x else all) ≡ option_or (if b then Some x else first) last
 at_by true x all first last later = refl
 at_by false x all first last later = later
-
-at-append : {A : Type 0} (i : ℕ) (es fs : List (ℕ × A)) → at i (es ++ fs) ≡ option_or (at i es) (at i fs)
-at-append i [] fs = refl
-at-append i (e ∷ es) fs = at_by (e.0 == i) e.1 (at i (es ++ fs)) (at i es) (at i fs) (at-append i es fs)
 
 merged_at : (a : Action) (s : Sides) (plan : Plan) (given : List ℕ) (i : ℕ) → IsPlan a s plan → i < id_bound
     → with_id i (at i (row_entries plan given)) ≡ with_id i (row_at (choice_for a s) given i)

@@ -6,12 +6,11 @@ use Rattle.std.proofs.lemmas.Bool.Decides.{nat_tests}
 use Rattle.std.proofs.lemmas.Grind.{common_steps}
 use Rattle.std.proofs.lemmas.List.{map-append}
 use Rattle.std.proofs.lemmas.List.Elements.{filter-append}
-use Rattle.std.specs.Prelude.{◌||◌, ◌==◌, filter, if◌then◌else◌, is_none, is_some, nat_lt}
+use Rattle.std.specs.Prelude.{◌==◌, filter, if◌then◌else◌, is_none, is_some, nat_lt}
 use Rattle.std.specs.List.{AllByRecursion}
 use Rattle.std.specs.Option.{option_map}
 use Rattle.session_plan.proofs.PlanWords.{ContentValue, kept_rows}
 use Rattle.pdb_values.specs.declared.record.Record.{Record}
-use Rattle.palm_device.specs.FreshIds.{is_among}
 use Rattle.palm_device.specs.Soundness.{AreIds, ids_of}
 use Rattle.conduit_rules.specs.ById.{each_below, each_id, id_bound, put, with_id}
 use Rattle.conduit_rules.specs.States.{first}
@@ -22,6 +21,7 @@ use Rattle.conduit_rules.proofs.PlanLaws.{IsRisingFrom, ids_of as row_ids, kept_
 use Rattle.conduit_rules.proofs.ViewLaws.{any_view, first-id}
 use Rattle.record_merge.specs.Merging.{new_under}
 use Rattle.session_plan.specs.PlannedLimits.{begins_with, entries_from, one_unless, unseen_count}
+use Rattle.record_merge.proofs.PutLaws.{first-among}
 
 -- ---- as many entries as records
 
@@ -32,15 +32,6 @@ view_by g records = each_id (λ i. option_to_list (option_map g (first i records
 ones : {A : Type 0} (xs : List A) → sum_by (λ x. 1) xs ≡ length xs
 ones [] = refl
 ones (x ∷ xs) = grind (arith, common_steps, ones xs)
-
-first_none : (i : ℕ) (records : List Record) → is_among i (ids_of records) ≡ false → first i records ≡ None
-first_none i [] none = refl
-first_none i (r ∷ records) none = by (r.id == i) none (first_none i records)
-  where
-    by : (b : Bool) → (b || is_among i (ids_of records)) ≡ false → (is_among i (ids_of records) ≡ false → first i records ≡ None)
-        → (if b then Some r else first i records) ≡ None
-    by true e rest = absurd (cc)
-    by false e rest = rest e
 
 turned : (i j : ℕ) → (i == j) ≡ (j == i)
 turned i j = grind (arith, nat_tests)
@@ -55,7 +46,7 @@ counted : (g : Record → Seen) (n : ℕ) (records : List Record) → AreIds (id
 counted g n [] ids bounded = ap (sum_by (λ (s : Seen). 1)) (each_below-none (λ i. option_to_list (option_map g (first i []))) n (λ i. refl))
 counted g n (r ∷ records) ids bounded =
     let f : ℕ → Option Seen = λ i. option_map g (first i records) in
-    let none : f r.id ≡ None = ap (option_map g) (first_none r.id records ids.1) in
+    let none : f r.id ≡ None = ap (option_map g) (first-among r.id records ids.1) in
     ap (sum_by (λ (s : Seen). 1)) (each_below-same (λ i. option_to_list (option_map g (first i (r ∷ records))))
     (λ i. option_to_list (put f r.id (Some (g r)) i)) n
     (λ i less. with_first g (r.id == i) (i == r.id) r (first i records) (turned r.id i)))

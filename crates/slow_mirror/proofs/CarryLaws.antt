@@ -31,8 +31,8 @@ use Rattle.desktop_session.specs.Requests.{cleaning, putting, removing, resettin
 use Rattle.desktop_session.specs.Tellings.{device_after}
 use Rattle.desktop_session.proofs.RowLaws.{writes_row}
 use Rattle.slow_mirror.specs.News.{AreIdsOf, ArePuttable, IsOpenWith, after_purges, after_puts, purge_writes, puts, removed}
-use Rattle.slow_mirror.proofs.ReadLaws.{after_append}
 use Rattle.std.proofs.lemmas.Grind.{common_steps}
+use Rattle.desktop_session.proofs.ListLaws.{after_append}
 
 -- ---- a handle leads to what was written
 
@@ -69,7 +69,7 @@ done_open device handle free number asked {base} rs answer is writable done =
 
 -- ---- one put
 
-secret_again : (secret : Bool) → has_bit 0x10 (secret_bit secret) ≡ secret
+pub secret_again : (secret : Bool) → has_bit 0x10 (secret_bit secret) ≡ secret
 secret_again true = refl
 secret_again false = refl
 
@@ -79,7 +79,7 @@ put_written : (free id : ℕ) (content : ContentValue) (database : DatabaseValue
     ≡ Ok (with_records (put_record (given_id free id) content database.records) database, reply.WriteRecord (given_id free id))
 put_written free id content database records bounded sorted room = grind (arith, common_steps, nat_tests, secret_again)
 
-room_left : (new : Bool) (n : ℕ) → n < 65535 → (not new || nat_lt n 65535) ≡ true
+pub room_left : (new : Bool) (n : ℕ) → n < 65535 → (not new || nat_lt n 65535) ≡ true
 room_left new n few = search (rules)
 
 put_open : (device : Device) (handle free id : ℕ) (content : ContentValue) {base : Base} → base_at device handle ≡ Some base → is_writable base ≡ true

@@ -27,6 +27,7 @@ use Rattle.slow_mirror.proofs.AskLaws.{SoFar, all_said, asked_answer, asked_part
 use Rattle.slow_mirror.proofs.EntryLaws.{cause_by}
 use Rattle.std.proofs.lemmas.Grind.{common_steps}
 use Rattle.std.proofs.lemmas.Bool.Decides.{nat_tests}
+use Rattle.desktop_session.proofs.GrowLaws.{take_whole}
 
 -- ---- lists of puts
 
@@ -95,7 +96,7 @@ pub record PutsSome {L : Type 0} (talk : L → Option Talk) (since : L → L →
   pub given : List ℕ
   pub puts : PutsSoFar talk since fault downs handle entries given old now
 
-free_none : (o : Option Talk) (handle : ℕ) → IfSome o (λ talk. AreFreeFor handle [] [] talk.device)
+pub free_none : (o : Option Talk) (handle : ℕ) → IfSome o (λ talk. AreFreeFor handle [] [] talk.device)
 free_none None handle = tt
 free_none (Some talk) handle = tt
 
@@ -139,12 +140,6 @@ split_at (y ∷ ys) (suc k) x below is =
       is = cc;
       next = cc;
     }
-
-pub take_all : {A : Type 0} (xs : List A) (k : ℕ) → length xs ≤ k → take k xs ≡ xs
-take_all [] zero all = refl
-take_all [] (suc k) all = refl
-take_all (x ∷ xs) zero all = absurd (omega arith)
-take_all (x ∷ xs) (suc k) all = cc (take_all xs k (omega arith))
 
 pub take_none : {A : Type 0} (xs : List A) → take 0 xs ≡ []
 take_none [] = refl
@@ -279,7 +274,7 @@ module _ {L : Type 0} {talk : L → Option Talk} {since : L → L → Type 0} {f
 
   pub remove_done : {A : Type 0} (handle k : ℕ) (ids : List ℕ) {new : SessionValue L} {answer : A} → length ids ≤ k
       → SoFar talk since fault downs (map (removing handle) (take k ids)) old new → Asks talk since fault downs (map (removing handle) ids) old new (Ok answer)
-  remove_done handle k ids all before = search (rules, said_all, take_all)
+  remove_done handle k ids all before = search (rules, said_all, take_whole)
 
   -- ---- puts of a list
 
@@ -311,7 +306,7 @@ module _ {L : Type 0} {talk : L → Option Talk} {since : L → L → Type 0} {f
   pub some_done : {A : Type 0} {handle : ℕ} (k : ℕ) {es : List (ℕ × ContentValue)} {says : List ℕ → A → Type 0} {answer : A} {new : SessionValue L}
       → length es ≤ k → ((gs : List ℕ) → says gs answer) → PutsSome talk since fault downs handle (take k es) old new
       → PutsAll talk since fault downs handle es says old new (Ok answer)
-  some_done k all each before = search (rules, puts_done, take_all)
+  some_done k all each before = search (rules, puts_done, take_whole)
 
   -- ---- new records
 

@@ -27,6 +27,7 @@ use Rattle.slow_mirror.specs.Reads.{entries_in, entries_of, entries_told, reads,
 use Rattle.slow_mirror.proofs.AskLaws.{SoFar, asked_part, asks_then, none_said, one_said, said_on, said_part}
 use Rattle.std.proofs.lemmas.Grind.{common_steps}
 use Rattle.std.proofs.lemmas.Bool.Decides.{nat_tests}
+use Rattle.desktop_session.proofs.ListLaws.{after_append, next}
 
 -- ---- a request that only reads leaves the device as it is
 
@@ -47,19 +48,12 @@ pub count_same : (device : Device) (handle : ℕ) → (acted (counting handle) d
 unfolding acted tried
 count_same device handle = grind (arith, common_steps, nat_tests, outcome_same, reached_keeps)
 
-pub after_append : (xs ys : List Act) (device : Device) → device_after (xs ++ ys) device ≡ device_after ys (device_after xs device)
-after_append [] ys device = refl
-after_append (x ∷ xs) ys device = after_append xs ys (acted x device).1
-
 reads_same : (handle count : ℕ) (device : Device) → device_after (reads handle count) device ≡ device
 unfolding reads
 reads_same handle zero device = refl
 reads_same handle (suc count) device = grind (arith, common_steps, nat_tests, after_append, reads_same handle count device, at_same)
 
 -- ---- one record more
-
-next : (k : ℕ) → k + 1 ≡ suc k
-next k = omega arith
 
 pub reads_none : (handle : ℕ) → reads handle 0 ≡ []
 unfolding reads
@@ -139,7 +133,7 @@ pub count_told : (first : Option Talk) {count : ℕ} (handle : ℕ) (bytes : Lis
     → count ≡ entries_in (reply_at 0x2B bytes) → IfSome first (λ talk. count ≡ entries_told talk.device handle)
 count_told first handle bytes told is = grind (arith, common_steps, nat_tests)
 
-grown_untold : (xs ys : List (List ℕ)) → grown (sent None) xs ≡ grown (sent None) ys
+pub grown_untold : (xs ys : List (List ℕ)) → grown (sent None) xs ≡ grown (sent None) ys
 unfolding grown sent
 grown_untold xs ys = refl
 

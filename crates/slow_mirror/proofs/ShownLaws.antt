@@ -2,11 +2,9 @@
 use Rattle.std.proofs.Common.{◌≡◌, ◌∙◌, ◌≤◌, ◌<◌, ◌+◌, ◌^◌, refl, ap, ℕ, zero, suc, Bool, true, false, List, [], ◌∷◌, ◌++◌, length, map, take}
 use Rattle.std.proofs.Common.{not, ◌&&◌, if◌then◌else◌, arith, rules}
 use Rattle.std.proofs.lemmas.List.{map-append}
-use Rattle.std.specs.Prelude.{Option, Some, None, option_and_then, slice_get}
+use Rattle.std.specs.Prelude.{Some, None, slice_get}
 use Rattle.std.specs.Option.{option_map}
 use Rattle.pdb_values.specs.Heads.{has_bit}
-use Rattle.pdb_values.specs.Databases.{DatabaseValue}
-use Rattle.pdb_values.specs.NamedDatabases.{database_of}
 use Rattle.pdb_values.specs.declared.record.Kind.TheVariants.{Archived, Deleted, Live}
 use Rattle.pdb_values.specs.declared.record.Record.{Record}
 use Rattle.dlp_replies.specs.ReplyReading.{reply_at}
@@ -14,10 +12,7 @@ use Rattle.dlp_replies.specs.ReplyValues as reply
 use Rattle.dlp_replies.specs.ReplyValues.{ReplyValue}
 use Rattle.palm_device.specs.Blocks.{entry_count}
 use Rattle.palm_device.specs.Devices.{Device}
-use Rattle.palm_device.specs.Bounds.{IsBoundedDatabase}
-use Rattle.palm_device.specs.Handles.{Base, base_at, base_of, opened_at}
-use Rattle.palm_device.specs.declared.opened.Opened.{Opened}
-use Rattle.pdb_values.proofs.NamedLaws.{AllByRecursion-database_of}
+use Rattle.palm_device.specs.Handles.{Base, base_at}
 use Rattle.dlp_commands.specs.Holding.{on_records}
 use Rattle.dlp_commands.specs.Readings.{bit_if}
 use Rattle.conduit_rules.specs.States.{first}
@@ -28,7 +23,7 @@ use Rattle.desktop_session.specs.Acts.{acted}
 use Rattle.desktop_session.specs.Lent.{lent_kind, record_lent}
 use Rattle.desktop_session.specs.Requests.{counting, reading_at}
 use Rattle.desktop_session.specs.Tellings.{IsTellable, told}
-use Rattle.desktop_session.proofs.LentLaws.{lent_at}
+use Rattle.desktop_session.proofs.LentLaws.{lent_at, base_bounded}
 use Rattle.desktop_session.proofs.RequestFits.{count_fits}
 use Rattle.desktop_session.proofs.RowLaws.{count_row}
 use Rattle.desktop_session.proofs.TellLaws.{act_sayable, acted_reads}
@@ -115,27 +110,13 @@ records_told device handle base proper byte is records =
 
 -- ---- a database keeps its bounds
 
-found_at : (device : Device) {base : Base} (opened : Opened) (o : Option DatabaseValue) → database_of opened.name device.databases ≡ o
-    → option_map (λ database. let b : Base = record { opened = opened; database = database } in b) o ≡ Some base
-    → database_of base.opened.name device.databases ≡ Some base.database
-found_at device opened o here is = grind (arith, common_steps, nat_tests)
-
-led_to : (device : Device) {base : Base} (o : Option Opened) → option_and_then (base_of device) o ≡ Some base
-    → database_of base.opened.name device.databases ≡ Some base.database
-led_to device o is = grind (arith, common_steps, nat_tests, found_at)
-
-base_bounded : {device : Device} (handle : ℕ) {base : Base} → IsTellable device → base_at device handle ≡ Some base → IsBoundedDatabase base.database
-base_bounded {device} handle {base} proper is =
-    AllByRecursion-database_of IsBoundedDatabase base.opened.name device.databases base.database proper.bounded.databases
-    (led_to device (opened_at handle device.handles) is)
-
 -- ---- the view
 
 pub first-mapped : (i : ℕ) (records : List Record) → first_seen i (map slow_seen records) ≡ option_map slow_seen (first i records)
 first-mapped i [] = refl
 first-mapped i (r ∷ records) = grind (arith, common_steps, nat_tests, first-mapped i records)
 
-ordered-slow : (records : List Record) → ordered (map slow_seen records) ≡ slow_view records
+pub ordered-slow : (records : List Record) → ordered (map slow_seen records) ≡ slow_view records
 ordered-slow records = grind (arith, common_steps, nat_tests, each_below-same, first-mapped)
 
 pub slow_shown-is : (device : Device) (handle : ℕ) (base : Base) → IsTellable device → handle < 2 ^ 8 → base_at device handle ≡ Some base

@@ -14,7 +14,7 @@ xor_twice : (a b : ℕ) → bit_xor a b * 2 ≡ bit_xor (a * 2) (b * 2)
 xor_twice a b = grind (arith, nat_tests, common_steps, xor_shr (a * 2) (b * 2) 1, shl-shr a 1, shl-shr b 1, xor_mod (a * 2) (b * 2) 1)
 
 -- two numbers of two bytes with the same bytes
-same_bytes : (a b : ℕ) → a / 256 ≡ b / 256 → a % 256 ≡ b % 256 → a ≡ b
+pub same_bytes : (a b : ℕ) → a / 256 ≡ b / 256 → a % 256 ≡ b % 256 → a ≡ b
 same_bytes a b upper lower = omega (arith, upper, lower)
 
 -- the same upper bit, the same side of the middle

@@ -1,4 +1,4 @@
-mod CrcLaws
+pub mod CrcLaws
 pub mod PlaceLaws
 pub mod PlaceTests
 pub mod ScanLaws

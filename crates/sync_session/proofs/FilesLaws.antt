@@ -1,9 +1,8 @@
 -- The files of a commit are those of databases that the session doesn't skip, in the picked slot.
-use Rattle.std.proofs.Common.{◌≡◌, ap, refl, sym, subst, inl, inr, ℕ, true, false, Bool, List, [], ◌∷◌, map}
-use Rattle.std.specs.Prelude.{IfSome, Option, Some, None, is_none, ◌||◌}
+use Rattle.std.proofs.Common.{◌≡◌, ap, refl, sym, subst, inl, inr, ℕ, true, List, [], ◌∷◌, map}
+use Rattle.std.specs.Prelude.{IfSome, Option, Some, None, is_none}
 use Rattle.std.specs.List.{AllByRecursion, flat_map, list_any}
 use Rattle.std.specs.Str.{bytes_eq}
-use Rattle.std.proofs.lemmas.Slice.Eq.{bytes_eq-Decides}
 use Rattle.desk_journal.specs.Entries.{EntryValue}
 use Rattle.desk_store.specs.Changes.{archive_entries, db_entries, slots_entry}
 use Rattle.desk_store.specs.DeskFiles.{slot_file}
@@ -16,9 +15,11 @@ use Rattle.pdb_values.specs.declared.record.Record.{Record}
 use Rattle.pdb_values.specs.declared.user.Marks.{Marks}
 use Rattle.sync_session.specs.Outcomes.{IsCommitFile}
 use Rattle.session_plan.specs.Takes.{change_from, change_unless, changes_of, taken_entries, taken_slots}
-use Rattle.session_parts.proofs.RestLaws.{all-append}
 use Rattle.sync_session.proofs.SwapLaws.{HasName}
 use Rattle.sync_session.proofs.TakenLaws.{change-task, old_at, planned_name, rows_at, rows_name}
+use Rattle.std.proofs.lemmas.Bool.{or_left, or_right}
+use Rattle.pdb_values.proofs.NamedLaws.{bytes_eq-own}
+use Rattle.desk_journal.proofs.StepLaws.{all_and}
 
 -- ---- the changes
 
@@ -49,7 +50,7 @@ module _ (meeting : Meeting) where
   changes-of_tasks [] [] ids there are = tt
   changes-of_tasks (n ∷ ns) (one ∷ planned) [] there are = tt
   changes-of_tasks (n ∷ ns) (one ∷ planned) (given ∷ ids) there are =
-      all-append (IsTaskChange meeting) _ (changes_of meeting.wishes.date (slot_of meeting).shelves planned ids)
+      all_and (IsTaskChange meeting) _ (changes_of meeting.wishes.date (slot_of meeting).shelves planned ids)
       (subst (AllByRecursion (IsTaskChange meeting)) (sym (change-task meeting n one given are.0))
       (change_by n (skip_of (task_of meeting n)) one.plan given (old_at meeting n) (rows_at meeting n) there.0 refl (λ d e. rows_name meeting n d e)))
       (changes-of_tasks ns planned ids there.1 are.1)
@@ -57,23 +58,12 @@ module _ (meeting : Meeting) where
 
 -- ---- names
 
-same_name : (name : List ℕ) → bytes_eq name name ≡ true
-same_name name = (bytes_eq-Decides name name).1 refl
-
-or_later : (b c : Bool) → c ≡ true → (b || c) ≡ true
-or_later true c is = refl
-or_later false c is = is
-
-or_first : (b c : Bool) → b ≡ true → (b || c) ≡ true
-or_first true c is = refl
-or_first false c is = cc
-
 named_in : (all ns : List (List ℕ)) → ((name : List ℕ) → list_any (λ other. bytes_eq other name) ns ≡ true → list_any (λ other. bytes_eq other name) all ≡ true)
     → AllByRecursion (λ name. list_any (λ other. bytes_eq other name) all ≡ true) ns
 named_in all [] into = tt
 named_in all (n ∷ ns) into = (
-  into n (or_first (bytes_eq n n) (list_any (λ other. bytes_eq other n) ns) (same_name n)),
-  named_in all ns (λ name is. into name (or_later (bytes_eq n name) (list_any (λ other. bytes_eq other name) ns) is)),
+  into n (or_left (bytes_eq n n) (list_any (λ other. bytes_eq other n) ns) (bytes_eq-own n)),
+  named_in all ns (λ name is. into name (or_right (bytes_eq n name) (list_any (λ other. bytes_eq other name) ns) is)),
 )
 
 -- ---- the files
@@ -84,7 +74,7 @@ AreCommitFiles meeting entries = AllByRecursion (λ (entry : EntryValue). IsComm
 all_flat : {A B : Type 0} (P : B → Type 0) (Q : A → Type 0) (f : A → List B) (xs : List A) → ((x : A) → Q x → AllByRecursion P (f x))
     → AllByRecursion Q xs → AllByRecursion P (flat_map f xs)
 all_flat P Q f [] each all = tt
-all_flat P Q f (x ∷ xs) each all = all-append P (f x) (flat_map f xs) (each x all.0) (all_flat P Q f xs each all.1)
+all_flat P Q f (x ∷ xs) each all = all_and P (f x) (flat_map f xs) (each x all.0) (all_flat P Q f xs each all.1)
 
 module _ (meeting : Meeting) where
   file_of : {change : DbChange} (is : IsTaskChange meeting change) (role : Role) (own : List ℕ) → own ≡ is.name
@@ -108,6 +98,6 @@ module _ (meeting : Meeting) where
   taken-files planned ids are =
       let changes : List DbChange = changes_of meeting.wishes.date (slot_of meeting).shelves planned ids in
       let marks : List Marks = marks_of (taken_slots meeting.wishes.date meeting.device.user planned ids meeting.picked meeting.slots) in
-      all-append (λ (entry : EntryValue). IsCommitFile meeting entry.name) (flat_map (db_entries meeting.picked) changes) (slots_entry marks ∷ [])
+      all_and (λ (entry : EntryValue). IsCommitFile meeting entry.name) (flat_map (db_entries meeting.picked) changes) (slots_entry marks ∷ [])
       (all_flat (λ (entry : EntryValue). IsCommitFile meeting entry.name) (IsTaskChange meeting) (db_entries meeting.picked) changes change_files
       (changes-of_tasks meeting (names meeting) planned ids (named_in (names meeting) (names meeting) (λ name is. is)) are)) (inl refl, tt)

@@ -1,21 +1,17 @@
 -- Ids that are free at their turn.
-use Rattle.std.proofs.Common.{◌≡◌, refl, subst, ℕ, false, List, [], ◌∷◌, ◌++◌, map, Option, Some, None, IfSome, ◌==◌}
+use Rattle.std.proofs.Common.{refl, ℕ, List, [], ◌∷◌, ◌++◌, map}
 use Rattle.std.specs.List.{AllByRecursion}
 use Rattle.sync_session.proofs.MeetingWords.{ContentValue, purged_ids, choice, seen_held, before_writes, Meeting, Task}
 use Rattle.palm_device.specs.Devices.{Device}
-use Rattle.palm_device.specs.Handles.{Base, base_at}
-use Rattle.palm_device.specs.Records.{IsFree}
-use Rattle.dlp_args.specs.Fields.{Fields}
 use Rattle.dlp_requests.specs.Forms as form
-use Rattle.dlp_requests.specs.Forms.{Form, kinds_of}
-use Rattle.dlp_commands.specs.Changes.{asks_by}
 use Rattle.dlp_commands.specs.DeviceSteps.{FormMayGive}
 use Rattle.session_parts.proofs.LinkWords.{Act, AsksNoId, acted, closing, removing, cleaning, resetting, putting, device_after}
 use Rattle.slow_mirror.specs.News.{AreFreeFor, AreIdsOf, purge_writes, puts}
 use Rattle.session_parts.specs.Given.{GetFreeIds}
 use Rattle.sync_session.specs.News.{purge_acts}
-use Rattle.session_parts.proofs.RestLaws.{all-append}
 use Rattle.sync_session.proofs.SaidLaws.{HoldsOfOpens, opened-all, writes-all}
+use Rattle.desktop_session.proofs.TellLaws.{form_gives}
+use Rattle.desk_journal.proofs.StepLaws.{all_and}
 
 -- ---- acts that ask for no id
 
@@ -23,16 +19,8 @@ use Rattle.sync_session.proofs.SaidLaws.{HoldsOfOpens, opened-all, writes-all}
 pub record NoId (one : Act) : Type 0 where
   pub is : AsksNoId one.asks
 
-never_new : (o : Option Base) (id given : ℕ) → (id == 0) ≡ false → IfSome o (λ base. id ≡ 0 → IsFree given base.database.records)
-never_new None id given fixed = tt
-never_new (Some base) id given fixed = λ zero. absurd (let no : (0 == 0) ≡ false = subst (λ n. (n == 0) ≡ false) zero fixed in cc)
-
-form_free : (device : Device) (given : ℕ) (f : Form) (fields : Fields (kinds_of f)) → asks_by f fields ≡ false → FormMayGive device given f fields
-form_free device given form.WriteRecord (handle, (flags, (id, more))) fixed = never_new (base_at device handle) id given fixed
-form_free device given other fields fixed = tt
-
 pub act_free : (one : Act) (device : Device) → NoId one → FormMayGive device one.given one.asks.form one.asks.fields
-act_free one device none = form_free device one.given one.asks.form one.asks.fields none.is
+act_free one device none = form_gives device one.given one.asks.form one.asks.fields none.is
 
 pub none_free : (acts : List Act) (device : Device) → AllByRecursion NoId acts → GetFreeIds acts device
 none_free [] device all = tt
@@ -67,7 +55,7 @@ unfolding purge_acts
 purge_acts-none meeting task =
     let ids : List ℕ = purged_ids (choice meeting task).keep (seen_held meeting task) in
     opened-all opens-none task.name (purge_writes 1 ids)
-    (all-append NoId (map (removing 1) ids) (cleaning 1 ∷ resetting 1 ∷ []) (removes-none 1 ids) (record { is = refl }, (record { is = refl }, tt)))
+    (all_and NoId (map (removing 1) ids) (cleaning 1 ∷ resetting 1 ∷ []) (removes-none 1 ids) (record { is = refl }, (record { is = refl }, tt)))
 
 -- ---- puts
 

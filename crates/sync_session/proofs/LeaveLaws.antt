@@ -42,8 +42,9 @@ use Rattle.session_parts.specs.declared.report.DbReport.{DbReport}
 use Rattle.session_parts.specs.declared.stop.Stop.{Stop}
 use Rattle.session_parts.specs.declared.stop.Stop.TheVariants as stop
 use Rattle.session_plan.specs.declared.wishes.Wishes.{Wishes}
-use Rattle.session_parts.proofs.RestLaws.{all-append, all-flat_map}
+use Rattle.session_parts.proofs.RestLaws.{all-flat_map}
 use Rattle.session_parts.proofs.SpanLaws.{on_ok}
+use Rattle.desk_journal.proofs.StepLaws.{all_and}
 
 -- ---- causes
 
@@ -92,7 +93,7 @@ unfolding taken_entries
 taken_files date user planned ids place slots =
     let changes : List DbChange = changes_of date (slot_at slots place).shelves planned ids in
     let marks : List Marks = marks_of (taken_slots date user planned ids place slots) in
-    all-append (λ (entry : EntryValue). IsSlotsFile place entry.name) (flat_map (db_entries place) changes) (slots_entry marks ∷ [])
+    all_and (λ (entry : EntryValue). IsSlotsFile place entry.name) (flat_map (db_entries place) changes) (slots_entry marks ∷ [])
     (all-flat_map (λ (entry : EntryValue). IsSlotsFile place entry.name) (db_entries place) changes (change_files place)) (inl refl, tt)
 
 -- ---- call by call

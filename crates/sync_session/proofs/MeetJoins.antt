@@ -27,9 +27,10 @@ use Rattle.session_plan.specs.declared.wishes.Wishes.{Wishes}
 use Rattle.session_plan.specs.Jobs.{head_named, job_by, job_of, jobs_of, names_with}
 use Rattle.session_parts.specs.Meets.{Meets, meeting_acts}
 use Rattle.sync_session.proofs.ReadJoins.{jobs_for}
-use Rattle.session_parts.proofs.RestLaws.{after-append, greeting_same, listings_same}
+use Rattle.session_parts.proofs.RestLaws.{greeting_same}
 use Rattle.session_parts.proofs.MeetLaws.{seated_with}
 use Rattle.session_parts.proofs.StretchLaws.{Leads, Tells, tells_on}
+use Rattle.desktop_session.proofs.ListLaws.{after_append, listings_same}
 
 -- ---- lists
 
@@ -135,7 +136,7 @@ pub meeting_leaves : (meeting : Meeting) → device_after (greeting ++ listing_a
 unfolding listing_all
 meeting_leaves meeting =
     let all : ℕ = max 1 (length meeting.device.databases) in
-    after-append greeting (listings all) meeting.device ∙ ap (device_after (listings all)) (greeting_same meeting.device) ∙ listings_same all meeting.device
+    after_append greeting (listings all) meeting.device ∙ ap (device_after (listings all)) (greeting_same meeting.device) ∙ listings_same all meeting.device
 
 module _ {L : Type 0} {talk : L → Option Talk} {since : L → L → Type 0} {fault : L → Option LinkFault} {downs : L → ℕ} {users : List ℕ} {add : Bool}
     {old : L} (meeting : Meeting) (rests : IsAtRest meeting.device) (tells : Tells meeting.device (talk old)) where

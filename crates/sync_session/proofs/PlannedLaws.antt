@@ -198,7 +198,7 @@ first_if meeting handhelds desktops false task later = refl
 
 -- ---- what is told of each
 
-at_most : (a b : ℕ) → nat_lt a b ≡ false → b ≤ a
+pub at_most : (a b : ℕ) → nat_lt a b ≡ false → b ≤ a
 at_most a b none = grind (arith, nat_tests, none)
 
 -- no limit is passed

@@ -17,7 +17,7 @@ changes-act : (a : Act) → changes (text a) ≡ is_change (function_number a.as
 unfolding text
 changes-act a = changes-text a.asks
 
-keeps : (b : Bool) (x : List ℕ) (xs : List (List ℕ)) → b ≡ false → (if b then x ∷ xs else xs) ≡ xs
+pub keeps : (b : Bool) (x : List ℕ) (xs : List (List ℕ)) → b ≡ false → (if b then x ∷ xs else xs) ≡ xs
 keeps true x xs is = absurd cc
 keeps false x xs is = refl
 

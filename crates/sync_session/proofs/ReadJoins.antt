@@ -5,7 +5,6 @@ use Rattle.std.proofs.lemmas.List.Folds.{flat_map-map}
 use Rattle.std.proofs.lemmas.Simd.{map-map}
 use Rattle.std.specs.Prelude.{Option, Some, None, ◌||◌, ◌&&◌, not, is_none, is_some, flat_map, if◌then◌else◌}
 use Rattle.std.specs.List.{AllByRecursion}
-use Rattle.std.specs.Option.{option_map}
 use Rattle.sync_session.proofs.MeetingWords.{DatabaseValue, DbHead, ShelvesValue, Job, Skip, action_or_sync, agrees, base_rows, base_rows_by, is_fast}
 use Rattle.sync_session.proofs.MeetingWords.{is_fast_by, is_sync, view, IsAtRest, IsFirst, job_for, listed_head, active, head_of, reason_by, skip_of, AreFirst}
 use Rattle.sync_session.proofs.MeetingWords.{EachSays, Stretch, each_acts, Meeting, Task, names, records_of, slot_of, task_of, tasks}
@@ -39,11 +38,13 @@ use Rattle.fast_mirror.proofs.ViewLaws.{fast_reads-are, fast_shown-is}
 use Rattle.session_parts.specs.declared.skip.Skip.TheVariants as skip
 use Rattle.sync_session.specs.Readings.{opened_reads, opened_shown, reads_by, reads_under, shown_by, shown_under}
 use Rattle.sync_session.specs.Reads.{opened, read_acts, reads}
-use Rattle.session_parts.proofs.RestLaws.{KeepsOpen, after-append, around_same, keeps_next, keeps_same, leads_to}
+use Rattle.session_parts.proofs.RestLaws.{KeepsOpen, around_same, keeps_next, keeps_same, leads_to}
 use Rattle.session_parts.proofs.RestLaws.{opened_on, opened_proper, opens_does, reads_same}
 use Rattle.sync_session.proofs.SaidLaws.{reads-all}
 use Rattle.session_parts.proofs.StretchLaws.{Leads, Pairs, Steps, Tells, first_is, flat_map-kept, flat_map-none, pairs-map}
 use Rattle.session_parts.proofs.StretchLaws.{stretches_join, stretches_lead, tells_on, where_kept}
+use Rattle.hs_folders.proofs.FileTrees.{is_some-option_map}
+use Rattle.desktop_session.proofs.ListLaws.{after_append}
 
 -- ---- a database that is not skipped holds records and can be written
 
@@ -88,10 +89,6 @@ kept_here device name database a rows base rests is kept =
 
 -- ---- what is known of a job before it is read
 
-some-map : {A B : Type 0} (f : A → B) (o : Option A) → is_some (option_map f o) ≡ is_some o
-some-map f None = refl
-some-map f (Some x) = refl
-
 -- a seed is no reason
 reason-listed : (a : Option Action) (h : Option DatabaseValue) (rows : Option DbHead) (base : Bool)
     → reason_by a (listed_head h) rows base ≡ reason_by a (head_of h) rows base
@@ -111,7 +108,7 @@ job-skip meeting task = reason-listed task.action task.handheld (head_of task.ro
 pub job-fast : (meeting : Meeting) (task : Task) → (job_for meeting task).fast ≡ is_fast meeting task
 unfolding is_fast
 job-fast meeting task =
-    rw (some-map (λ (database : DatabaseValue). listed database.head) task.handheld, some-map (λ (database : DatabaseValue). database.head) task.rows)
+    rw (is_some-option_map (λ (database : DatabaseValue). listed database.head) task.handheld, is_some-option_map (λ (database : DatabaseValue). database.head) task.rows)
 
 -- ---- what a reading asks for
 
@@ -317,7 +314,7 @@ module _ (meeting : Meeting) (rests : IsAtRest meeting.device) where
       each : (ns : List (List ℕ)) → device_after (flat_map (read_says meeting) ns) meeting.device ≡ meeting.device
       each [] = refl
       each (name ∷ ns) =
-          after-append (read_says meeting name) (flat_map (read_says meeting) ns) meeting.device
+          after_append (read_says meeting name) (flat_map (read_says meeting) ns) meeting.device
           ∙ ap (device_after (flat_map (read_says meeting) ns)) (read_leaves meeting name rests) ∙ each ns
 
   module _ (told : Option Talk) (ones : List Stretch) (tells : Tells meeting.device told)

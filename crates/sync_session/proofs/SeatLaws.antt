@@ -17,7 +17,7 @@ use Rattle.desk_store.proofs.SlotListLaws.{marks-length, slot_at-any}
 use Rattle.session_plan.specs.Fits.{IsSeat}
 use Rattle.session_plan.specs.Users.{agreed_user}
 
-no_place : {X : Type 0} (test : X → Bool) (x : X) (xs : List X) → (b : Bool) → test x ≡ b → (o : Option ℕ)
+pub no_place : {X : Type 0} (test : X → Bool) (x : X) (xs : List X) → (b : Bool) → test x ≡ b → (o : Option ℕ)
     → cond b (Some 0) (option_map (λ place. suc place) o) ≡ None → (b ≡ false) × (o ≡ None)
 no_place test x xs b is o none = grind (arith, common_steps)
 

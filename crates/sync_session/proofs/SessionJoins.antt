@@ -26,8 +26,10 @@ use Rattle.sync_session.proofs.FreeLaws.{NoId, free-append, none_free, purge_act
 use Rattle.sync_session.proofs.MeetJoins.{meeting_leaves, meets_join, meets_lead}
 use Rattle.sync_session.proofs.NewsJoins.{news_join, news_lead, purge_join}
 use Rattle.sync_session.proofs.ReadJoins.{IsSeen, jobs_for, reads_join, reads_lead, reads_leave, shows_under}
-use Rattle.session_parts.proofs.RestLaws.{after-append, all-append, all-flat_map}
+use Rattle.session_parts.proofs.RestLaws.{all-flat_map}
 use Rattle.session_parts.proofs.StretchLaws.{Leads, Pairs, Tells, tells_on}
+use Rattle.desk_journal.proofs.StepLaws.{all_and}
+use Rattle.desktop_session.proofs.ListLaws.{after_append}
 
 -- ---- what was done so far
 
@@ -70,7 +72,7 @@ unfolding before_writes
 writes_leave meeting rests =
     let reading : List Act = flat_map (read_acts meeting) (active meeting) in
     ap (λ zs. device_after zs meeting.device) (sym (append_assoc greeting (listing_all meeting) reading))
-    ∙ after-append (greeting ++ listing_all meeting) reading meeting.device ∙ ap (device_after reading) (meeting_leaves meeting)
+    ∙ after_append (greeting ++ listing_all meeting) reading meeting.device ∙ ap (device_after reading) (meeting_leaves meeting)
     ∙ reads_leave meeting rests
 
 -- each new record got an id that was free at its turn
@@ -98,7 +100,7 @@ session_free meeting given free =
     let last : List Act = end_mark meeting ∷ ending ∷ [] in
     let device : Device = device_after (before_commit meeting given) meeting.device in
     free-append (before_commit meeting given) (purges ++ last) meeting.device free
-    (none_free (purges ++ last) device (all-append NoId purges last (all-flat_map NoId (purge_acts meeting) (active meeting)
+    (none_free (purges ++ last) device (all_and NoId purges last (all-flat_map NoId (purge_acts meeting) (active meeting)
     (λ task. purge_acts-none meeting task))
     (record { is = refl }, (record { is = refl }, tt))))
 

@@ -2,7 +2,7 @@
 use Rattle.std.proofs.Common.{◌≡◌, ◌∙◌, ◌<◌, ◌+◌, append-nil, append_assoc, arith, get_or, length, take, ap, refl, sym, ℕ, Bool, true, false, List, [], ◌∷◌, ◌++◌, Option, map}
 use Rattle.std.specs.Prelude.{filter, replicate}
 use Rattle.std.specs.List.{flat_map, range_with_len}
-use Rattle.std.proofs.lemmas.List.{replicate-append-replicate, take_more}
+use Rattle.std.proofs.lemmas.List.{replicate-append-replicate}
 use Rattle.std.proofs.lemmas.List.FromFn.{map-range_with_len_more}
 use Rattle.std.proofs.lemmas.Grind.{flat_map-append}
 use Rattle.pdb_values.specs.declared.record.Record.{Record}
@@ -14,6 +14,7 @@ use Rattle.table_export.specs.Addresses.{columns_before, field_columns}
 use Rattle.table_export.specs.Exports.{item_row, item_text, items_text}
 use Rattle.table_export.specs.Tables.{table_text, table_writer}
 use Rattle.table_export.specs.declared.kind.Kind.{Kind}
+use Rattle.card_export.proofs.ExportLaws.{taken}
 
 -- ---- fields
 
@@ -63,12 +64,6 @@ pub items_text-filter : (kind : Kind) (app : Option (List ℕ)) (wanted : Privac
 items_text-filter kind app wanted [] = refl
 items_text-filter kind app wanted (item ∷ items) =
     by_item (is_exported wanted item) kind app wanted item items refl (items_text-filter kind app wanted items)
-
-taken : (f : Record → List ℕ) (items : List Record) (i : ℕ) (item : Record) → i < length items
-    → flat_map f (take (i + 1) items) ≡ flat_map f (take i items) ++ f (get_or items i item)
-taken f items i item inside =
-    ap (flat_map f) (take_more items i item inside)
-    ∙ (flat_map-append f (take i items) (get_or items i item ∷ []) ∙ ap (λ l. flat_map f (take i items) ++ l) (append-nil (f (get_or items i item))))
 
 -- one more record, with the block that the database has
 pub items_text-more : (head old new : List ℕ) (kind : Kind) (app block : Option (List ℕ)) (wanted : Privacy) (items : List Record) (i : ℕ) (item : Record)

@@ -1,11 +1,12 @@
 -- Two talks whose numbers have one text have the same numbers.
-use Rattle.std.proofs.Common.{◌≡◌, ◌∙◌, ℕ, ◌/◌, ◌%◌, Bool, true, false, List, Option, Some, None, unwrap_or, get_or, eqb, cond, refl, sym, ap, arith}
+use Rattle.std.proofs.Common.{◌≡◌, ◌∙◌, ℕ, Bool, true, false, List, Option, Some, None, unwrap_or, get_or, eqb, cond, refl, sym, ap, arith}
 use Rattle.padp_link.specs.declared.parts.SenderParts.{SenderParts}
 use Rattle.padp_link.specs.declared.piece.Key.{Key}
 use Rattle.talk_text.specs.Numbers.{greeted_code, mark, no_key, numbers_text, over_code}
 use Rattle.device_stream.specs.declared.talk_end.TalkEnd.{TalkEnd}
 use Rattle.device_stream.specs.declared.talk_end.TalkEnd.TheVariants.{Ended, Aborted, BadHello}
 use Rattle.device_stream.specs.declared.parts.TalkParts.{TalkParts}
+use Rattle.slp_frames.proofs.CrcLaws.{same_bytes}
 
 -- ---- one number
 
@@ -14,9 +15,6 @@ marked_is default None None marks values = refl
 marked_is default None (Some value) marks values = absurd (omega arith)
 marked_is default (Some value) None marks values = absurd (omega arith)
 marked_is default (Some value) (Some other) marks values = ap Some (sym values)
-
-two_bytes_is : (x y : ℕ) → x / 256 ≡ y / 256 → x % 256 ≡ y % 256 → x ≡ y
-two_bytes_is x y high low = omega arith
 
 key_is : (x y : Key) → x.id ≡ y.id → x.flags ≡ y.flags → x.size ≡ y.size → x ≡ y
 key_is x y id flags size = λ i. record { id = id i; flags = flags i; size = size i }
@@ -71,11 +69,11 @@ numbers_text-injective x y same =
     let sender' = y.end.sender in
     record {
       awaited = marked_is 0 receiver.awaited other.awaited (at 0) (at 1);
-      length = sym (two_bytes_is receiver.length other.length (at 2) (at 3));
+      length = sym (same_bytes receiver.length other.length (at 2) (at 3));
       taken = sym (at 4);
       last = marked_is no_key receiver.last other.last (at 5)
-          (key_is (unwrap_or receiver.last no_key) (unwrap_or other.last no_key) (at 6) (at 7) (two_bytes_is _ _ (at 8) (at 9)));
-      sender = sym (sender_is sender sender' (at 10) (two_bytes_is sender.length sender'.length (at 11) (at 12)) (at 13) (at 14));
+          (key_is (unwrap_or receiver.last no_key) (unwrap_or other.last no_key) (at 6) (at 7) (same_bytes _ _ (at 8) (at 9)));
+      sender = sym (sender_is sender sender' (at 10) (same_bytes sender.length sender'.length (at 11) (at 12)) (at 13) (at 14));
       number = sym (at 15);
       greeted = greeted_is x.greeted y.greeted (at 16);
       over = over_is x.over y.over (at 17);

@@ -1,9 +1,9 @@
 -- What is known of both ends goes on by what a frame says.
-use Rattle.line_laws.proofs.Names.{◌≡◌, ◌⊎◌, ℕ, ◌+◌, ◌≤◌, Bool, true, false, not, ◌&&◌, cond, List, [], ◌∷◌, length, Option}
+use Rattle.line_laws.proofs.Names.{◌≡◌, ◌⊎◌, ℕ, ◌+◌, Bool, true, false, not, ◌&&◌, cond, List, [], ◌∷◌, length, Option}
 use Rattle.line_laws.proofs.Names.{refl, sym, ap, subst, ◌∙◌, arith, inl, inr, cases_Bool, cond-true, cond-false, and_from, nat_eq}
 use Rattle.line_laws.proofs.Names.{End, Handheld, Desktop, PastFrame, Key, is_end, first, said, is_data_of, is_repeat}
 use Rattle.line_laws.proofs.Names.{late_of, newest, last_repeat, newest_repeat, is_late, Talk, is_ack_of}
-use Rattle.std.proofs.lemmas.Bool.{eq-eqb}
+use Rattle.std.proofs.lemmas.Bool.{eq-eqb, and_right}
 use Rattle.trace_text.specs.Past.{is_newest_key}
 use Rattle.trace_text.specs.Proper.{SaysMessages}
 use Rattle.line_laws.proofs.PastLaws.{is_end-same}
@@ -16,10 +16,7 @@ use Rattle.trace_check.specs.BothEnds.{arrival_of, hearer_after, late_after, rep
 use Rattle.std.specs.Option.{option_or}
 use Rattle.std.specs.Bool.{then_some}
 use Rattle.trace_check.proofs.SideLaws.{said-same, acks-other, side-quiet, side-repeats, side-begins}
-
-and_none : (a b : Bool) → b ≡ false → (a && b) ≡ false
-and_none true b is = is
-and_none false b is = refl
+use Rattle.line_laws.proofs.TraceLaws.{last_repeat-inside}
 
 pub key-newest : (key : Key) (keys : List Key) → is_key key (first keys) ≡ is_newest_key key keys
 key-newest key [] = refl
@@ -44,7 +41,7 @@ module _ (X Y : End) (talk : Talk) (came : ℕ → Bool) (frame : PastFrame) (pa
         ∙ (says.number_is ∙ sym (cond-true (late_of X frame) (length past + 1) (newest (late_of X) past) (and_from _ _ mine late)))
     | inr prompt ↦ cond-false notice.late notice.number side.late (says.late_is ∙ prompt)
         ∙ (was.late_is ∙ sym (cond-false (late_of X frame) (length past + 1) (newest (late_of X) past)
-        (and_none (is_end X frame.from) (is_late frame.course) prompt)))
+        (and_right (is_end X frame.from) (is_late frame.course) prompt)))
   ]
 
   arrival-of : (side : SideValue) → IsSide X Y talk came past side
@@ -53,7 +50,7 @@ module _ (X Y : End) (talk : Talk) (came : ℕ → Bool) (frame : PastFrame) (pa
       ap (λ b. then_some b (late_after notice side)) says.came_is ∙ ap (then_some (came (length past + 1))) (late-after side was)
 
   no_data_of : frame.is_data ≡ false → is_data_of X frame ≡ false
-  no_data_of other = and_none (is_end X frame.from) frame.is_data other
+  no_data_of other = and_right (is_end X frame.from) frame.is_data other
 
   data_is : frame.is_data ≡ true → is_data_of X frame ≡ true
   data_is is = and_from _ _ mine is
@@ -99,7 +96,7 @@ module _ (X Y : End) (talk : Talk) (came : ℕ → Bool) (frame : PastFrame) (pa
       → IsSide Y X talk came (frame ∷ past) (hearer_after notice speaker side)
   side-hears speaker side spoke was = elim (cases_Bool frame.is_data) [
     | inl is ↦
-        let no_ack : is_ack_of X frame ≡ false = and_none (is_end X frame.from) (not frame.is_data) (ap not is) in
+        let no_ack : is_ack_of X frame ≡ false = and_right (is_end X frame.from) (not frame.is_data) (ap not is) in
         subst (IsSide Y X talk came (frame ∷ past)) (sym (cond-true notice.is_data _ _ (says.is_data_is ∙ is)))
         (side-quiet Y X talk came frame past side side.ack side.late was other_data
         (was.ack_is ∙ sym (first-other (acks Y X (length (said Y past))) X came frame past (acks-other Y X (length (said Y past)) frame past no_ack)))
@@ -148,13 +145,6 @@ module _ (X Y : End) (talk : Talk) (came : ℕ → Bool) (frame : PastFrame) (pa
         | inr new ↦ inr (new, λ repeat. cond-false (notice.is_data && is_key notice.key side.key) notice.number repeat (test ∙ new))
       ]
 
-last_inside : (X : End) (past : List PastFrame) → last_repeat X past ≤ length past
-last_inside X [] = omega arith
-last_inside X (frame ∷ past) = elim (cases_Bool (is_repeat X frame past)) [
-  | inl again ↦ omega (arith, cond-true (is_repeat X frame past) (length past + 1) (last_repeat X past) again)
-  | inr new ↦ omega (arith, last_inside X past, cond-false (is_repeat X frame past) (length past + 1) (last_repeat X past) new)
-]
-
 -- the newest repeat of either end, behind a frame of X
 pub repeat-after : (X Y : End) (talk : Talk) (came : ℕ → Bool) (frame : PastFrame) (past : List PastFrame) (notice : Notice) (apart : is_end Y X ≡ false)
     → frame.from ≡ X → IsNotice notice frame came past → (side : SideValue) → IsSide X Y talk came past side → (repeat : ℕ) → repeat ≡ newest_repeat past
@@ -168,7 +158,7 @@ repeat-after Handheld Desktop talk came frame past notice apart from says side w
         arith,
         again.1 repeat,
         other,
-        last_inside Desktop past,
+        last_repeat-inside Desktop past,
         cond-true (is_repeat Handheld frame past) (length past + 1) (last_repeat Handheld past) again.0,
       )
       | inr new ↦ omega (arith, new.1 repeat, other, is, cond-false (is_repeat Handheld frame past) (length past + 1) (last_repeat Handheld past) new.0)
@@ -180,7 +170,7 @@ repeat-after Desktop Handheld talk came frame past notice apart from says side w
         arith,
         again.1 repeat,
         other,
-        last_inside Handheld past,
+        last_repeat-inside Handheld past,
         cond-true (is_repeat Desktop frame past) (length past + 1) (last_repeat Desktop past) again.0,
       )
       | inr new ↦ omega (arith, new.1 repeat, other, is, cond-false (is_repeat Desktop frame past) (length past + 1) (last_repeat Desktop past) new.0)

@@ -1,10 +1,8 @@
 -- The words of a fate, read as a script of one line.
-use Rattle.std.proofs.Common.{◌≡◌, ℕ, zero, suc, ◌<◌, true, false, eqb, List, [], ◌∷◌, ◌++◌, length, Ok, Err, refl, sym, ap, ◌∙◌, arith}
+use Rattle.std.proofs.Common.{◌≡◌, ℕ, zero, suc, true, eqb, List, [], ◌∷◌, ◌++◌, length, Ok, Err, refl, sym, ap, ◌∙◌, arith}
 use Rattle.std.specs.Prelude.{codes}
 use Rattle.std.specs.Fmt.{decimal}
-use Rattle.std.specs.Char.{digit_value}
 use Rattle.std.specs.Str.Parse.{AllDigits}
-use Rattle.std.proofs.lemmas.Bool.{ne_eqb}
 use Rattle.std.proofs.lemmas.Fmt.{decimal_is_IsNumeral, decimal_digit}
 use Rattle.trace_text.specs.Fates.{FateValue, fate_words}
 use Rattle.line_script.specs.Rules.{RuleValue, IsScripted, IsLine}
@@ -13,7 +11,7 @@ use Rattle.line_script.specs.Scripts.{fate_by, AreRuleLines, IsFirstBadRule, IsR
 use Rattle.line_script.specs.Words.{number_in}
 use Rattle.line_script.specs.declared.fault.ScriptFault.{ScriptFault}
 use Rattle.line_script.specs.declared.fault.ScriptFault.TheVariants.{TooLong, BadLine, NoMemory}
-use Rattle.line_script.proofs.WordLaws.{some_is, number_in-only}
+use Rattle.line_script.proofs.WordLaws.{some_is, number_in-only, digit_is_none}
 use Rattle.trace_check.specs.Words.{is_feed}
 use Rattle.trace_check.specs.Readings.{IsFateOf}
 use Rattle.trace_check.proofs.PlainLaws.{Without, parts-once}
@@ -30,12 +28,9 @@ script_line words = 49 ∷ 32 ∷ words
 lines_of-script : (words : List ℕ) → Without is_feed words → lines_of (script_line words) ≡ script_line words ∷ []
 lines_of-script words all = one_line 49 (32 ∷ words) (refl, (refl, all))
 
-space_none : (byte : ℕ) → digit_value byte < 10 → eqb byte 32 ≡ false
-space_none byte digit = grind (arith, ne_eqb)
-
 no_space : (bytes : List ℕ) → AllDigits 10 bytes → Without (λ byte. eqb byte 32) bytes
 no_space [] digits = tt
-no_space (byte ∷ bytes) digits = (space_none byte digits.0, no_space bytes digits.1)
+no_space (byte ∷ bytes) digits = (digit_is_none byte digits.0, no_space bytes digits.1)
 
 -- the line names frame 1, and the words are the fate's
 line_fate : (words : List ℕ) (rule : RuleValue) → IsLine 0 rule (script_line words) → (rule.number ≡ 1) × (words ≡ fate_words rule.fate)

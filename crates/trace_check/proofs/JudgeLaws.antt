@@ -5,7 +5,7 @@ use Rattle.line_laws.proofs.Names.{End, Handheld, Desktop, PastFrame, Key, at, i
 use Rattle.line_laws.proofs.Names.{messages_of, Talk, Turn, is_ack_of, answered_by, answer_to, IsKnown, AcksNewest, AnswersNewest, IfAnswers, AnswersReached}
 use Rattle.line_laws.proofs.Names.{Reaches, same_key}
 use Rattle.std.proofs.Common.{◌||◌, ltb, get_or}
-use Rattle.std.proofs.lemmas.Bool.{eqb-true, eq-eqb, ltb-true, lt-ltb}
+use Rattle.std.proofs.lemmas.Bool.{eqb-true, eq-eqb, ltb-true, lt-ltb, or_left, or_right}
 use Rattle.std.proofs.lemmas.List.{get_or_past}
 use Rattle.trace_text.specs.Past.{is_newest_key}
 use Rattle.trace_text.specs.Proper.{BearsNumber}
@@ -214,14 +214,6 @@ known_with repeat X side other = is_free repeat side.ack || (is_start side && is
 or_cases : (a b : Bool) → (a || b) ≡ true → (a ≡ true) ⊎ (b ≡ true)
 or_cases true b is = inl refl
 or_cases false b is = inr is
-
-or_left : (a b : Bool) → a ≡ true → (a || b) ≡ true
-or_left true b is = refl
-or_left false b is = absurd cc
-
-or_right : (a b : Bool) → b ≡ true → (a || b) ≡ true
-or_right true b is = refl
-or_right false b is = is
 
 answered_by-start : (o : Option ℕ) (repeat : ℕ) (other : SideValue) → is_answered_by o repeat other ≡ true
     → (answer : ℕ) × (o ≡ Some answer) × (is_start_free repeat answer other ≡ true)

@@ -3,7 +3,7 @@ use Rattle.line_laws.proofs.Names.{◌≡◌, ◌⊎◌, ℕ, ◌+◌, ◌-◌, 
 use Rattle.line_laws.proofs.Names.{arith, inl, inr, cases_Bool, cases_lt, cond-true, cond-false, and_parts, and_from, End, PastFrame, at}
 use Rattle.line_laws.proofs.Names.{late_of, newest, newest_repeat, IsHeldIn, Reaches}
 use Rattle.std.proofs.Common.{◌||◌, eqb, ltb}
-use Rattle.std.proofs.lemmas.Bool.{eqb-true, ltb-true, eq-eqb, lt-ltb}
+use Rattle.std.proofs.lemmas.Bool.{eqb-true, ltb-true, eq-eqb, lt-ltb, or_right}
 use Rattle.line_laws.proofs.PastLaws.{at_all, at_push, at_at, length-at}
 use Rattle.line_laws.proofs.FaultLaws.{newest_inside, newest_push, newest_from}
 use Rattle.trace_check.specs.Arrivals.{first_late, is_free}
@@ -169,10 +169,6 @@ module _ (p : List PastFrame → Bool) (Y : End) (came : ℕ → Bool) where
   ]
 
 -- ---- held or free
-
-or_right : (a b : Bool) → b ≡ true → (a || b) ≡ true
-or_right true b is = refl
-or_right false b is = is
 
 pub free-lower : (repeat late limit : ℕ) → late ≤ limit → is_free repeat (Some limit) ≡ true → is_free repeat (Some late) ≡ true
 free-lower repeat late limit below free = elim (cases_Bool (eqb limit 0)) [

@@ -12,7 +12,8 @@ use Rattle.line_laws.proofs.TraceLaws.{last_repeat-is, last_repeat-stays, last_r
 use Rattle.trace_check.specs.Acking.{newest_of, repeats_after, IsRepeats}
 use Rattle.trace_check.specs.Speaking.{is_again}
 use Rattle.trace_check.specs.declared.repeats.Repeats.{Repeats}
-use Rattle.trace_check.proofs.SpeakingLaws.{said-other, is_again-first}
+use Rattle.trace_check.proofs.SpeakingLaws.{is_again-first}
+use Rattle.trace_check.proofs.SideLaws.{said-same}
 
 pub repeats-none : IsRepeats [] (record { handheld = None; desktop = None; newest = 0; count = 0 })
 repeats-none = record { key_is = keys; newest_is = refl; count_is = refl }
@@ -30,7 +31,7 @@ said-after : (X : End) (frame : PastFrame) (past : List PastFrame) (key : Option
     → (if is_data_of X frame then Some frame.key else key) ≡ first (said X (frame ∷ past))
 said-after X frame past key is = elim (cases_Bool (is_data_of X frame)) [
   | inl mine ↦ cond-true _ (Some frame.key) key mine ∙ sym (first_said X frame past mine)
-  | inr other ↦ cond-false _ (Some frame.key) key other ∙ (is ∙ ap first (sym (said-other X frame past other)))
+  | inr other ↦ cond-false _ (Some frame.key) key other ∙ (is ∙ ap first (sym (said-same X frame past other)))
 ]
 
 -- the frame is a repeat of no other end than its own

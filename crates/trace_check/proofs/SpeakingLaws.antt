@@ -18,6 +18,9 @@ use Rattle.trace_check.specs.Standings.{start, MaySay, next, standing_behind, Ma
 use Rattle.trace_check.specs.Speaking.{silent, is_again, repeated_at, begun_with, SaysNext, IsSpeaker, SpeaksSo, HasFault}
 use Rattle.trace_check.specs.declared.speaker.Speaker.{Speaker}
 use Rattle.trace_check.proofs.StandingLaws.{standing_behind-push, MaySayAll-push, MaySayAll-front, MaySayAll-last}
+use Rattle.line_laws.proofs.TraceLaws.{other_no_repeat}
+use Rattle.line_laws.proofs.JoinLaws.{run_other}
+use Rattle.trace_check.proofs.SideLaws.{said-same}
 
 pub silent-speaker : (X : End) → IsSpeaker X [] silent
 silent-speaker X = record { newest_is = refl; run_is = refl; repeat_is = refl; standing_is = refl }
@@ -30,22 +33,12 @@ silent-so greeting X = record { says = tt; ten = tt }
 spoken-other : (X : End) (frame : PastFrame) (past : List PastFrame) → is_data_of X frame ≡ false → spoken X (frame ∷ past) ≡ spoken X past
 spoken-other X frame past other = cond-false _ _ _ other
 
-pub said-other : (X : End) (frame : PastFrame) (past : List PastFrame) → is_data_of X frame ≡ false → said X (frame ∷ past) ≡ said X past
-said-other X frame past other =
-    sym (spoken_keys X (frame ∷ past)) ∙ (ap (λ ps. map key_of_part ps) (spoken-other X frame past other) ∙ spoken_keys X past)
-
-repeat-other : (X : End) (frame : PastFrame) (past : List PastFrame) → is_data_of X frame ≡ false → is_repeat X frame past ≡ false
-repeat-other X frame past other = ap (λ b. b && is_newest_key frame.key (said X past)) other
-
-run-other : (X : End) (frame : PastFrame) (past : List PastFrame) → is_data_of X frame ≡ false → run X (frame ∷ past) ≡ run X past
-run-other X frame past other = cond-false _ _ _ (repeat-other X frame past other) ∙ cond-false _ _ _ other
-
 pub other-speaker : (X : End) (frame : PastFrame) (past : List PastFrame) (speaker : Speaker) → is_data_of X frame ≡ false → IsSpeaker X past speaker
     → IsSpeaker X (frame ∷ past) speaker
 other-speaker X frame past speaker other is = record {
-  newest_is = is.newest_is ∙ ap first (sym (said-other X frame past other));
-  run_is = is.run_is ∙ sym (run-other X frame past other);
-  repeat_is = is.repeat_is ∙ sym (cond-false _ _ _ (repeat-other X frame past other));
+  newest_is = is.newest_is ∙ ap first (sym (said-same X frame past other));
+  run_is = is.run_is ∙ sym (run_other X frame past other);
+  repeat_is = is.repeat_is ∙ sym (cond-false _ _ _ (other_no_repeat X frame past other));
   standing_is = is.standing_is ∙ ap (λ ps. standing_behind start (reverse ps)) (sym (spoken-other X frame past other));
 }
 
@@ -53,11 +46,11 @@ pub other-so : (greeting : HelloKind) (X : End) (frame : PastFrame) (past : List
     → SpeaksSo greeting X (frame ∷ past)
 other-so greeting X frame past other so = record {
   says = subst (λ ps. MaySayAll greeting start (reverse ps)) (sym (spoken-other X frame past other)) so.says;
-  ten = (omega (arith, ten-run X past so.ten, run-other X frame past other), so.ten);
+  ten = (omega (arith, ten-run X past so.ten, run_other X frame past other), so.ten);
 }
 
 pub other-fault : (X : End) (frame : PastFrame) (past : List PastFrame) → is_data_of X frame ≡ false → HasFault X frame past
-other-fault X frame past other repeats = absurd (both_ways _ (repeat-other X frame past other) repeats)
+other-fault X frame past other repeats = absurd (both_ways _ (other_no_repeat X frame past other) repeats)
 
 -- ---- the end's data
 

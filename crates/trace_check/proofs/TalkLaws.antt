@@ -99,7 +99,7 @@ said-parts X frames =
     length-reverse (spoken X (past_of frames))
     ∙ (sym (length-map (spoken X (past_of frames)) key_of_part) ∙ ap length (spoken_keys X (past_of frames)))
 
-talk_in-messages : (X : End) (frames : List FrameValue) → messages_of X (talk_in frames) ≡ messages_in (parts_in X frames)
+pub talk_in-messages : (X : End) (frames : List FrameValue) → messages_of X (talk_in frames) ≡ messages_in (parts_in X frames)
 talk_in-messages Handheld frames = refl
 talk_in-messages Desktop frames = refl
 

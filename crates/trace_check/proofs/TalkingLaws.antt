@@ -14,7 +14,6 @@ use Rattle.trace_text.specs.Frames.{BearsFragment, sent_in, add_frame, is_abort,
 use Rattle.trace_text.specs.Parts.{Part, part_of, add_part, spoken, session_parts}
 use Rattle.trace_text.specs.Past.{PastFrame, is_end, same_key, is_data_of}
 use Rattle.trace_text.specs.Proper.{SaysMessages}
-use Rattle.trace_text.specs.Talks.{messages_of}
 use Rattle.trace_text.specs.TraceLines.{FrameValue}
 use Rattle.line_laws.proofs.PastLaws.{is_end-same}
 use Rattle.trace_check.specs.Judging.{SayMessages}
@@ -28,6 +27,7 @@ use Rattle.trace_check.specs.declared.talking.Talking.{Talking}
 use Rattle.trace_check.proofs.GreetingLaws.{first-said, said-greets}
 use Rattle.trace_check.proofs.SpeakingLaws.{silent-speaker, silent-so, other-speaker, other-so, other-fault, next-says, says-next, so-before}
 use Rattle.trace_check.proofs.StandingLaws.{wholes_in-standing, said-first}
+use Rattle.trace_check.proofs.TalkLaws.{talk_in-messages}
 
 -- ---- at first
 
@@ -219,15 +219,11 @@ talks-behind past (frame ∷ later) so = add-before (is_abort (fragment_in frame
     add-before true is so = subst TalksSo (cond-true _ past (sent_in frame ∷ past) is) so
     add-before false is so = talks-before (sent_in frame) past (subst TalksSo (cond-false _ past (sent_in frame ∷ past) is) so)
 
-messages_of-talk : (X : End) (frames : List FrameValue) → messages_of X (talk_in frames) ≡ messages_in (parts_in X frames)
-messages_of-talk Handheld frames = refl
-messages_of-talk Desktop frames = refl
-
 says-all : (X : End) (frames : List FrameValue) → SpeaksSo (greeting_of X) X (past_of frames)
     → SaysMessages X (talk_in frames) (past_of frames)
 says-all X frames so =
     let found = said-first (greeting_of X) (parts_in X frames) so.says in
-    record { rest = found.0; is = found.1 ∙ ap (session_parts 0) (sym (messages_of-talk X frames)) }
+    record { rest = found.0; is = found.1 ∙ ap (session_parts 0) (sym (talk_in-messages X frames)) }
 
 -- the rule of messages is kept exactly where both keep it in all frames
 pub talks-so : (frames : List FrameValue) → TalksSo (past_of frames) ↔ SayMessages frames
@@ -264,7 +260,7 @@ pub record Talked (frames : List FrameValue) (place : ℕ) (talking : Talking) (
 pub talked-first : (frames : List FrameValue) (talking : Talking) → AllByRecursion BearsFragment frames → IsTalking [] talking → Talked frames 0 talking frames
 talked-first frames talking bear is = record { past = []; all = refl; short = omega arith; is = is; so = silent-talks; bear = bear }
 
-add-short : (frame : FrameValue) (past : List PastFrame) → length (add_frame frame past) ≤ length past + 1
+pub add-short : (frame : FrameValue) (past : List PastFrame) → length (add_frame frame past) ≤ length past + 1
 add-short frame past = elim (cases_Bool (is_abort (fragment_in frame).kind)) [
   | inl aborts ↦ omega (arith, ap length (cond-true (is_abort (fragment_in frame).kind) past (sent_in frame ∷ past) aborts))
   | inr goes ↦ omega (arith, ap length (cond-false (is_abort (fragment_in frame).kind) past (sent_in frame ∷ past) goes))

@@ -26,6 +26,7 @@ use Rattle.trace_text.specs.TraceLines.{frame_value}
 use Rattle.trace_page.specs.Pages.{counted, row, rows}
 use Rattle.trace_page.specs.Rows.{row_text}
 use Rattle.trace_page.specs.declared.bearing.Bearing.{Bearing}
+use Rattle.trace_check.proofs.TalkingLaws.{add-short}
 
 -- the newest key behind one more
 first-add : (key : Key) (keys : List Key) → first (add (Some key) keys) ≡ Some key
@@ -132,17 +133,10 @@ run-few X (frame ∷ past) = few _ _ (run-few X past)
     few false true older = omega arith
     few false false older = omega (arith, older)
 
-add-few : (frame : FrameValue) (past : List PastFrame) → length (add_frame frame past) ≤ length past + 1
-add-few frame past = few _
-  where
-    few : (b : Bool) → length (if b then past else sent_in frame ∷ past) ≤ length past + 1
-    few true = omega arith
-    few false = omega arith
-
 past-few : (past : List PastFrame) (frames : List FrameValue) → length (past_behind past frames) ≤ length past + length frames
 past-few past [] = omega arith
 past-few past (frame ∷ later) =
-    let one = add-few frame past in
+    let one = add-short frame past in
     let all = past-few (add_frame frame past) later in
     omega (arith, one, all)
 

@@ -1,10 +1,11 @@
 -- One change comes behind another.
 use Rattle.std.proofs.Common.{◌<◌, arith, length}
-use Rattle.slow_mirror.proofs.NewsLaws.{split_at, take_all}
+use Rattle.slow_mirror.proofs.NewsLaws.{split_at}
 use Rattle.desk_store.specs.Views.{shelves_in}
 use Rattle.category_mirror.specs.Changes.{changes_filed}
 use Rattle.category_mirror.proofs.ChangeLaws.{changes-step}
 use Rattle.category_mirror.proofs.changing.changes_filed.Goals as goal
+use Rattle.desktop_session.proofs.GrowLaws.{take_whole}
 
 pub loop-index-init : goal.loop-index-init
 unfolding changes_filed
@@ -21,5 +22,5 @@ loop-index-preserved g c =
 pub returns : goal.returns
 returns g c =
     let past = c.loop-index-test.false in
-    rw (take_all c.args.jobs.now c.loop-index.index past, take_all c.args.merges.now c.loop-index.index (omega (arith, c.requires, past))) at
+    rw (take_whole c.args.jobs.now c.loop-index.index past, take_whole c.args.merges.now c.loop-index.index (omega (arith, c.requires, past))) at
     c.loop-index.invariant

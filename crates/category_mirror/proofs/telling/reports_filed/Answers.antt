@@ -1,10 +1,11 @@
 -- One report comes behind another.
 use Rattle.std.proofs.Common.{◌<◌, arith, length}
-use Rattle.slow_mirror.proofs.NewsLaws.{split_at, take_all}
+use Rattle.slow_mirror.proofs.NewsLaws.{split_at}
 use Rattle.desk_store.specs.Views.{shelves_in}
 use Rattle.category_mirror.specs.Courses.{reports_filed}
 use Rattle.category_mirror.proofs.ChangeLaws.{report_is, reports-step}
 use Rattle.category_mirror.proofs.telling.reports_filed.Goals as goal
+use Rattle.desktop_session.proofs.GrowLaws.{take_whole}
 
 pub loop-index-init : goal.loop-index-init
 unfolding reports_filed
@@ -22,5 +23,5 @@ loop-index-preserved g c =
 pub returns : goal.returns
 returns g c =
     let past = c.loop-index-test.false in
-    rw (take_all c.args.jobs.now c.loop-index.index past, take_all c.args.merges.now c.loop-index.index (omega (arith, c.requires, past))) at
+    rw (take_whole c.args.jobs.now c.loop-index.index past, take_whole c.args.merges.now c.loop-index.index (omega (arith, c.requires, past))) at
     c.loop-index.invariant

@@ -2,8 +2,9 @@ use Rattle.std.proofs.Common.{◌≡◌, ◌∙◌, IfOk, ap, map, subst}
 use Rattle.std.proofs.lemmas.List.{take_all}
 use Rattle.conduit_rules.specs.Views.{slow_seen}
 use Rattle.slow_mirror.specs.Entries.{AreBounded, ordered}
-use Rattle.database_merge.proofs.SeenLaws.{bounded_more, bounded_seen, if_ok_any, ordered_map, seen_more}
+use Rattle.database_merge.proofs.SeenLaws.{bounded_more, bounded_seen, if_ok_any, seen_more}
 use Rattle.database_merge.proofs.seeing.slow_view.Goals as goal
+use Rattle.slow_mirror.proofs.ShownLaws.{ordered-slow}
 
 pub loop-item-preserved : goal.loop-item-preserved
 loop-item-preserved c =
@@ -18,7 +19,7 @@ pub returns-clause-view : goal.returns-clause-view
 returns-clause-view c =
     let records = c.args.records.now in
     let all = ap (map slow_seen) (take_all c.loop-item.item-index records c.loop-item-test.false) in
-    subst (λ xs. IfOk c.in_order.result (λ view. view.seen.items ≡ xs)) (ap ordered (c.loop-item.invariant.seen ∙ all) ∙ ordered_map records)
+    subst (λ xs. IfOk c.in_order.result (λ view. view.seen.items ≡ xs)) (ap ordered (c.loop-item.invariant.seen ∙ all) ∙ ordered-slow records)
     c.in_order.ensures.ordered
 
 pub returns-clause-bounded : goal.returns-clause-bounded

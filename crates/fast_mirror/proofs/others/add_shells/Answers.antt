@@ -6,8 +6,9 @@ use Rattle.conduit_rules.specs.ById.{id_bound}
 use Rattle.conduit_rules.specs.declared.view.Seen.{Seen}
 use Rattle.slow_mirror.specs.Entries.{AreBounded}
 use Rattle.fast_mirror.specs.Shells.{shell}
-use Rattle.fast_mirror.proofs.PlaceLaws.{get_there, take_next}
+use Rattle.fast_mirror.proofs.PlaceLaws.{get_there}
 use Rattle.fast_mirror.proofs.others.add_shells.Goals as goal
+use Rattle.desktop_session.proofs.GrowLaws.{take_next}
 
 pub loop-place-preserved : goal.loop-place-preserved
 loop-place-preserved c =

@@ -1,6 +1,7 @@
 use Rattle.std.proofs.Common.{below_more, rules}
-use Rattle.handheld_store.proofs.ListLaws.{get_some, same_lists}
+use Rattle.handheld_store.proofs.ListLaws.{same_lists}
 use Rattle.handheld_store.proofs.copies.same_resources.Goals as goal
+use Rattle.handheld_files.proofs.FreshLaws.{get_some}
 
 pub loop-place-preserved : goal.loop-place-preserved
 loop-place-preserved c = search (rules, get_some, below_more)

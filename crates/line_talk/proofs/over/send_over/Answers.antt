@@ -3,10 +3,7 @@ use Rattle.line_talk.proofs.Names.{frame_value, say, fate_by, EndsAcknowledging,
 use Rattle.line_talk.proofs.OverLaws.{both_err, either_way, expects-counted, expects-recorded, expects-next, expects-talks, expects-took, over-unsent}
 use Rattle.line_steps.proofs.RoomLaws.{room_behind}
 use Rattle.line_talk.proofs.over.send_over.Goals as goal
-
-both_ok : {T E A B C : Type 0} (r : Result T E) → (A → B → C) → OnOk r A → OnOk r B → OnOk r C
-both_ok (Ok x) f a b = f a b
-both_ok (Err y) f a b = tt
+use Rattle.line_talk.proofs.AskLaws.{two_ok}
 
 three_ok : {T E A B C D : Type 0} (r : Result T E) → (A → B → C → D) → OnOk r A → OnOk r B → OnOk r C → OnOk r D
 three_ok (Ok x) f a b c = f a b c
@@ -47,7 +44,7 @@ returns-clause-waits c = on_ok_weaker c.carry.result (λ carried. carried.waits)
 
 pub returns-clause-whole : goal.returns-clause-whole
 returns-clause-whole c =
-    both_ok c.carry.result (λ carried same. carried.message
+    two_ok c.carry.result (λ carried same. carried.message
     ∙ ap Some (same.message_is ∙ ap (λ h. h.message) c.start.ensures.says))
     c.carry.ensures.carried c.carry.ensures.x_same
 

@@ -3,17 +3,17 @@ use Rattle.std.proofs.Common.{◌≡◌, ◌∙◌, arith, ℕ, List, sym, subst
 use Rattle.std.proofs.lemmas.List.{length-map}
 use Rattle.std.specs.Global.{Vec}
 use Rattle.std.specs.List.{AllByRecursion}
-use Rattle.desk_store.proofs.OwnLaws.{each-append}
 use Rattle.desk_store.specs.Changes.{IsDbChange}
 use Rattle.desk_store.specs.Views.{shelves_in}
 use Rattle.desk_store.specs.declared.change.DbChange.{DbChange}
-use Rattle.slow_mirror.proofs.NewsLaws.{take_all}
 use Rattle.session_plan.proofs.PlanWords.{Planned, ShelvesValue}
 use Rattle.session_plan.specs.Fits.{AreTakeable}
 use Rattle.session_plan.specs.Takes.{each_of}
 use Rattle.session_plan.proofs.FitLaws.{takes-at, takes-length}
 use Rattle.session_plan.proofs.TakeLaws.{changes_none, changes_step}
 use Rattle.session_plan.proofs.committing.take_all.Goals as goal
+use Rattle.desktop_session.proofs.GrowLaws.{take_whole}
+use Rattle.desk_journal.proofs.StepLaws.{all_and}
 
 pub loop-index-init : goal.loop-index-init
 loop-index-init g c = record {
@@ -48,12 +48,12 @@ loop-index-preserved g c =
           c.loop-index-test.true c.index-planned-index.is c.index-ids-index.is c.in_ok-put_change.ensures before.changes c.in_ok-change.ensures.change
           c.deref.ensures.value;
       fit = subst (AllByRecursion IsDbChange) (sym {A = List DbChange} c.in_ok-put_change.ensures)
-          (each-append IsDbChange c.loop-index.changes.items (option_to_list c.in_ok-change.change) before.fit c.in_ok-change.ensures.fit);
+          (all_and IsDbChange c.loop-index.changes.items (option_to_list c.in_ok-change.change) before.fit c.in_ok-change.ensures.fit);
     }
 
 pub returns-clause-changes : goal.returns-clause-changes
 returns-clause-changes g c =
     let all = counts c.args.date (shelves_in c.args.desk.now) c.args.planned.now c.args.ids.now c.requires in
     let past = c.loop-index-test.false in
-    rw (take_all c.args.planned.now c.loop-index.index past, take_all c.args.ids.now c.loop-index.index (omega (arith, all, past))) at
+    rw (take_whole c.args.planned.now c.loop-index.index past, take_whole c.args.ids.now c.loop-index.index (omega (arith, all, past))) at
     c.loop-index.invariant.changes

@@ -1,12 +1,13 @@
 -- Nothing is put, or something is.
-use Rattle.std.proofs.Common.{◌≡◌, ◌+◌, length, refl, ◌∙◌, sym, ℕ, zero, suc, List, [], ◌∷◌, ◌++◌, drop, arith, Option, None, Some, IfSome}
+use Rattle.std.proofs.Common.{◌≡◌, ◌+◌, length, refl, ◌∙◌, sym, ℕ, zero, suc, List, [], ◌∷◌, ◌++◌, drop, arith, Option}
 use Rattle.session_parts.proofs.SpanLaws.{span_none}
 use Rattle.sync_session.proofs.MeetingWords.{ContentValue, Plan, opened_news}
 use Rattle.session_parts.proofs.LinkWords.{Talk, opening}
-use Rattle.slow_mirror.specs.News.{AreFreeFor, as_new, news_of, puts}
+use Rattle.slow_mirror.specs.News.{as_new, news_of, puts}
 use Rattle.sync_session.specs.Gains.{AreGained}
 use Rattle.session_parts.specs.Spans.{within}
 use Rattle.sync_session.proofs.giving.give_old.Goals as goal
+use Rattle.slow_mirror.proofs.NewsLaws.{free_none}
 
 none_put : (rows : List (ℕ × ContentValue)) (adds : List ContentValue) → length rows + length adds ≡ 0 → rows ++ as_new adds ≡ []
 none_put [] [] none = refl
@@ -30,17 +31,13 @@ no_drop : (n : ℕ) → drop {A = ℕ} n [] ≡ []
 no_drop zero = refl
 no_drop (suc n) = refl
 
-any_free : (told : Option Talk) (handle : ℕ) → IfSome told (λ talk. AreFreeFor handle [] [] talk.device)
-any_free None handle = tt
-any_free (Some talk) handle = tt
-
 -- no ids are those of no adds
 none_gained : (told : Option Talk) (plan : Plan) (handle : ℕ) (ids : List ℕ) → length plan.replace.items + length plan.adds.items ≡ 0 → ids ≡ []
     → AreGained told plan handle [] ids
 none_gained told plan handle ids none is = record {
   behind = is ∙ sym (no_drop (length plan.replace.items));
   own = rw (nothing_put plan none) tt;
-  free = rw (nothing_put plan none) (any_free told handle);
+  free = rw (nothing_put plan none) (free_none told handle);
 }
 
 pub returns-then-is_nothing : goal.returns-then-is_nothing
