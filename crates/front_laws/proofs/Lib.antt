@@ -19,13 +19,16 @@ pub mod OrderRuns
 pub mod OrderWrites
 pub mod PartActs
 pub mod PhaseActs
+pub mod PickLaws
 pub mod PutActs
 pub mod ReadActs
 pub mod ReadyLaws
 pub mod RelabelLaws
+pub mod RequestLaws
 pub mod RowCountLaws
 pub mod RunLaws
 pub mod SkippedLaws
+pub mod SlotLaws
 pub mod SortedLaws
 pub mod StopLaws
 pub mod TaskActs

@@ -8,16 +8,16 @@ use Rattle.handheld_files.specs.Openings.{HoldsAll}
 use Rattle.desk_journal.specs.Overlays.{FinishesAs, finished}
 use Rattle.desk_store.specs.Desks.{IsDesk}
 use Rattle.hotsync_run.specs.Again.{AllMeet, AllRan, AreTold, DidRun, EndsAsOne, IsRepeat, TakesUp, begun_of, if_begun, last_call}
-use Rattle.hotsync_run.specs.Causes.{ByEnd}
+use Rattle.call_parts.specs.Causes.{ByEnd}
 use Rattle.hotsync_run.specs.Ends.{StoppedBefore, StoppedBehind}
 use Rattle.hotsync_run.specs.Headline.{IsAnsweredRun, RunCall}
-use Rattle.hotsync_run.specs.LineRuns.{log_in}
+use Rattle.call_parts.specs.LineRuns.{log_in}
 use Rattle.hotsync_run.specs.Meetings.{Meets}
 use Rattle.hotsync_run.specs.Runs.{SessionRan, run_command}
 use Rattle.hotsync_run.specs.SessionCalls.{SentNothing}
-use Rattle.hotsync_run.specs.Told.{CallTold}
-use Rattle.hotsync_run.specs.declared.report.SessionEnd.{SessionEnd}
-use Rattle.hotsync_run.specs.declared.report.SessionEnd.TheVariants.{Ended, NotStarted, Stopped}
+use Rattle.call_parts.specs.Told.{CallTold}
+use Rattle.call_parts.specs.declared.report.SessionEnd.{SessionEnd}
+use Rattle.call_parts.specs.declared.report.SessionEnd.TheVariants.{Ended, NotStarted, Stopped}
 use Rattle.hotsync_run.proofs.AgainLaws.{AllPrecede, Ran, ended-behind, given_in, last_ran, laters, taken-up}
 
 pub session_in : (call : RunCall) {end : SessionEnd} → call.report.end ≡ end → IsAnsweredRun call

@@ -13,21 +13,21 @@ use Rattle.session_plan.specs.Limits.{first_over}
 use Rattle.session_plan.specs.Tasks.{Meeting}
 use Rattle.front_laws.specs.Answered.{IsAnsweredExchange}
 use Rattle.front_laws.proofs.OrderRuns.{read-answered, whole-answered}
-use Rattle.hotsync_run.specs.Causes.{ByEnd}
+use Rattle.call_parts.specs.Causes.{ByEnd}
 use Rattle.hotsync_run.specs.Ends.{SessionLeft}
-use Rattle.hotsync_run.specs.LineRuns.{LineRan, exchanges_in, log_in}
+use Rattle.call_parts.specs.LineRuns.{LineRan, exchanges_in, log_in}
 use Rattle.hotsync_run.specs.Makes.{IsMake, MadeNothing, MadeRan}
-use Rattle.hotsync_run.specs.Reports.{IsNotStarted}
+use Rattle.call_parts.specs.Reports.{IsNotStarted}
 use Rattle.hotsync_run.specs.Runs.{IsRun, SessionRan, run_command}
 use Rattle.hotsync_run.specs.SessionCalls.{SentNothing}
 use Rattle.hotsync_run.specs.Talks.{BegunSession}
 use Rattle.hotsync_looks.specs.Told.{SinkTold}
-use Rattle.hotsync_run.specs.Told.{CallTold, FolderTold, SidesTold}
-use Rattle.hotsync_run.specs.declared.report.Report.{Report}
-use Rattle.hotsync_run.specs.declared.report.SessionEnd.{SessionEnd}
-use Rattle.hotsync_run.specs.declared.report.SessionEnd.TheVariants.{NotStarted, Ended, Stopped}
+use Rattle.call_parts.specs.Told.{CallTold, FolderTold, SidesTold}
+use Rattle.call_parts.specs.declared.report.Report.{Report}
+use Rattle.call_parts.specs.declared.report.SessionEnd.{SessionEnd}
+use Rattle.call_parts.specs.declared.report.SessionEnd.TheVariants.{NotStarted, Ended, Stopped}
 use Rattle.hotsync_looks.specs.declared.status.Status.{Status}
-use Rattle.hotsync_run.proofs.FrontLaws.{performed-begins}
+use Rattle.call_parts.proofs.FrontLaws.{performed-begins}
 
 abbrev AreAnswered : Report → Type 0
 AreAnswered report = AllByRecursion IsAnsweredExchange (exchanges_in report)

@@ -20,7 +20,7 @@ use Rattle.session_parts.specs.Meets.{greeting}
 use Rattle.session_parts.specs.Quiet.{AreQuiet}
 use Rattle.install_backup.specs.BackupActs.{backup_acts, backup_of, each_read, entry_reads}
 use Rattle.install_backup.specs.BackupEnds.{backup_front, next_of}
-use Rattle.hotsync_run.proofs.EndLaws.{prefix-count}
+use Rattle.call_parts.proofs.EndLaws.{prefix-count}
 use Rattle.hotsync_run.proofs.QuietRuns.{IsKept, quiet-run}
 use Rattle.category_mirror.proofs.AlongLaws.{changes-act}
 use Rattle.sync_session.proofs.QuietLaws.{keeps as passed}

@@ -5,12 +5,12 @@ use Rattle.run_words.specs.Betweens.{Between}
 use Rattle.run_words.specs.Commands.{Backup, WordTask}
 use Rattle.hotsync_run.specs.Backups.{BackupLeft, BackupRan, IsBackup, backup_command}
 use Rattle.hotsync_run.specs.Calls.{Call, IsAnsweredCall, IsCall}
-use Rattle.hotsync_run.specs.Causes.{ByEnd, HasBegun}
+use Rattle.call_parts.specs.Causes.{ByEnd, HasBegun}
 use Rattle.hotsync_run.specs.SessionCalls.{SentNothing}
-use Rattle.hotsync_run.specs.Told.{sides_of}
+use Rattle.call_parts.specs.Told.{sides_of}
 use Rattle.hotsync_run.proofs.HeadlineLaws.{begun_by}
-use Rattle.hotsync_run.specs.declared.report.SessionEnd.{SessionEnd}
-use Rattle.hotsync_run.specs.declared.report.SessionEnd.TheVariants.{NotStarted}
+use Rattle.call_parts.specs.declared.report.SessionEnd.{SessionEnd}
+use Rattle.call_parts.specs.declared.report.SessionEnd.TheVariants.{NotStarted}
 
 module _ (call : Call) (words : Between) (is : IsAnsweredCall call) (task : call.task ≡ Some (Backup words)) where
   abbrev Silent : Type 0

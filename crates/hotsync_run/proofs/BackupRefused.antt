@@ -7,15 +7,16 @@ use Rattle.hs_folders.specs.FileMaps.{FileMap}
 use Rattle.run_words.specs.Betweens.{Between}
 use Rattle.trace_text.specs.declared.frame.End.TheVariants as line_end
 use Rattle.hotsync_looks.specs.Opening.{OpensAtMost, OpensGivenAtMost}
-use Rattle.hotsync_run.specs.Backups.{FilesRefuse, HasBackedUp, StandsApart, backup_command}
-use Rattle.hotsync_run.specs.Refusals.{HandheldRefuses, HasHandheld, TraceRefuses}
-use Rattle.hotsync_run.specs.Reports.{IsNotStarted}
-use Rattle.hotsync_run.specs.Scripts.{HasScript, ScriptRefuses}
-use Rattle.hotsync_run.specs.SessionCalls.{StaysAsItWas}
-use Rattle.hotsync_run.specs.Told.{CallTold}
+use Rattle.hotsync_run.specs.Backups.{HasBackedUp, backup_command}
+use Rattle.call_parts.specs.Files.{FilesRefuse, StandsApart}
+use Rattle.call_parts.specs.Refusals.{HandheldRefuses, HasHandheld, TraceRefuses}
+use Rattle.call_parts.specs.Reports.{IsNotStarted}
+use Rattle.call_parts.specs.Scripts.{HasScript, ScriptRefuses}
+use Rattle.call_parts.specs.Stays.{StaysAsItWas}
+use Rattle.call_parts.specs.Told.{CallTold}
 use Rattle.hotsync_run.proofs.RefusedCalls.{refused_call}
 use Rattle.hotsync_run.proofs.RefusedRuns.{IsDesktopAlone, desktop_failed, handheld_alone, script_alone, stays_same, trace_alone}
-use Rattle.hotsync_run.specs.declared.report.Report.{Report}
+use Rattle.call_parts.specs.declared.report.Report.{Report}
 use Rattle.hotsync_looks.specs.declared.status.Status.{Status}
 use Rattle.hotsync_looks.specs.declared.status.Status.TheVariants.{HandheldFolder, DesktopFolder, SourceRead, TraceWrite, InUse, NotBackupFolder}
 

@@ -33,14 +33,14 @@ use Rattle.install_backup.specs.Backups.{IsBackupCause, file_of, kept_moved}
 use Rattle.install_backup.proofs.BackedUpLaws.{copies-are}
 use Rattle.install_backup.proofs.ReadWhole.{AreHeld, held_all}
 use Rattle.hotsync_run.specs.Backups.{BackupShows, backup_file, backup_report}
-use Rattle.hotsync_run.specs.Causes.{down_status, stop_status}
-use Rattle.hotsync_run.specs.Closings.{left_status}
+use Rattle.call_parts.specs.Causes.{down_status, stop_status}
+use Rattle.call_parts.specs.Closings.{left_status}
 use Rattle.hotsync_run.specs.Moves.{TellsMoves, moved_report}
 use Rattle.hotsync_run.specs.declared.moved.Way.TheVariants.{ToFiles}
-use Rattle.hotsync_run.specs.Whole.{StopsAnswered}
+use Rattle.call_parts.specs.Whole.{StopsAnswered}
 use Rattle.hotsync_run.proofs.BackupActLaws.{some-acts}
-use Rattle.hotsync_run.proofs.EndLaws.{acts-count, exchanged-length, told_all}
-use Rattle.hotsync_run.proofs.WholeLaws.{SaidOf, SaidShort, SaidWhole}
+use Rattle.call_parts.proofs.EndLaws.{acts-count, exchanged-length, told_all}
+use Rattle.call_parts.proofs.WholeLaws.{SaidOf, SaidShort, SaidWhole}
 use Rattle.hotsync_looks.specs.declared.status.Status.{Status}
 use Rattle.hotsync_looks.specs.declared.status.Status.TheVariants.{NoMemory}
 use Rattle.install_backup.proofs.UnmarkedLaws.{all_idle}

@@ -31,32 +31,29 @@ use Rattle.install_backup.specs.BackupActs.{backup_acts, backup_of}
 use Rattle.install_backup.specs.BackupEnds.{BackupEnds, backup_front, next_of, read_of}
 use Rattle.install_backup.specs.Backups.{HasSome, file_of}
 use Rattle.hotsync_run.specs.Backups.{BackupShows, EndedBackup, HadBackup, IsBackupTalk, KeepsFiles, KeepsHandheld, backup_file}
-use Rattle.hotsync_run.specs.Closings.{Closes, left_databases, left_end, left_in}
-use Rattle.hotsync_run.specs.LineRuns.{log_in}
+use Rattle.call_parts.specs.Closings.{Closes, left_databases, left_end, left_in}
+use Rattle.call_parts.specs.LineRuns.{log_in}
 use Rattle.hotsync_run.specs.Moves.{TellsMoves}
 use Rattle.hotsync_run.specs.declared.moved.Way.TheVariants.{ToFiles}
-use Rattle.hotsync_run.specs.Sessions.{KeptSilent, Spoke, StandsAtFront}
-use Rattle.hotsync_run.specs.Told.{FolderTold, SidesTold, folder_told}
+use Rattle.call_parts.specs.Sessions.{KeptSilent, Spoke, StandsAtFront}
+use Rattle.call_parts.specs.Told.{FolderTold, SidesTold, folder_told}
 use Rattle.hotsync_run.proofs.BackupActLaws.{front-kept, front-writes, next-begins, next-shorter}
 use Rattle.hotsync_run.proofs.BackupSaid.{AreRead, ToldBackedUp, ToldBackup, all_read, backup_said, backup_shows, cause_told, ended_told, files-are, read_first, replied-many, take-past, told_fault}
-use Rattle.hotsync_run.proofs.EndLaws.{logged_all}
-use Rattle.hotsync_run.proofs.FrontLaws.{issued_begins, performed-begins}
-use Rattle.hotsync_run.proofs.RetoldLaws.{StaysShown, had_retold}
-use Rattle.hotsync_run.proofs.SpokeLaws.{by_left, left_desk, palm_blamed, spoke}
-use Rattle.hotsync_run.proofs.WholeLaws.{SaidShort}
-use Rattle.hotsync_run.specs.declared.report.Report.{Report}
-use Rattle.hotsync_run.specs.declared.report.SessionEnd.TheVariants.{Ended}
+use Rattle.call_parts.proofs.EndLaws.{logged_all, prefix-on}
+use Rattle.call_parts.proofs.FrontLaws.{issued_begins, performed-begins}
+use Rattle.call_parts.proofs.RetoldLaws.{StaysShown, had_retold}
+use Rattle.call_parts.proofs.SpokeLaws.{by_left, left_desk, palm_blamed, spoke}
+use Rattle.call_parts.proofs.WholeLaws.{SaidShort}
+use Rattle.call_parts.specs.declared.report.Report.{Report}
+use Rattle.call_parts.specs.declared.report.SessionEnd.TheVariants.{Ended}
 use Rattle.hotsync_looks.specs.declared.status.Status.{Status}
 use Rattle.install_backup.proofs.BackupOrder.{backup-order, backup_session_plain}
 use Rattle.front_laws.specs.Answered.{IsAnsweredExchange}
-use Rattle.hotsync_run.proofs.LineLaws.{line_ran}
-use Rattle.hotsync_run.proofs.NeverLaws.{IsUnrefusedEnd, all-answered, all-talked, backup_never, run-says}
+use Rattle.call_parts.proofs.LineLaws.{line_ran}
+use Rattle.hotsync_run.proofs.NeverLaws.{all-answered, all-talked, backup_never, run-says}
+use Rattle.call_parts.proofs.SpokeLaws.{IsUnrefusedEnd}
 
-pub prefix-on : {xs ys zs : List (List ℕ)} → IsPrefix xs ys → IsPrefix ys zs → IsPrefix xs zs
-prefix-on {xs} first second = record {
-  rest = first.rest ++ second.rest;
-  is = sym (append_assoc xs first.rest second.rest) ∙ ap (λ (l : List (List ℕ)). l ++ second.rest) first.is ∙ second.is;
-}
+
 
 -- what is told is what the answer says
 told_by : {F : Type 0} {device : Device} {later : List DatabaseValue} {old new : WorldValue F} (answer : Result (Vec DbReport) Stop) (report : Report)

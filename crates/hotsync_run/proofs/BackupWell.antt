@@ -9,14 +9,15 @@ use Rattle.line_world.specs.Causes.{BearsOut}
 use Rattle.line_world.specs.Stops.{EndsBy}
 use Rattle.hotsync_looks.specs.Printed.{IsPrinted}
 use Rattle.hotsync_looks.specs.Told.{SinkTold}
-use Rattle.hotsync_run.specs.Backups.{BackupRan, BackupRefuses, BackupShows, HasBackedUp, IsCalmBackup, backup_command, is_synced}
-use Rattle.hotsync_run.specs.Causes.{EndsAs, IsLineDown, cause_in}
-use Rattle.hotsync_run.specs.LineRuns.{frames_in}
+use Rattle.hotsync_run.specs.Backups.{BackupRan, BackupRefuses, BackupShows, HasBackedUp, IsCalmBackup, backup_command}
+use Rattle.call_parts.specs.Files.{is_synced}
+use Rattle.call_parts.specs.Causes.{EndsAs, IsLineDown, cause_in}
+use Rattle.call_parts.specs.LineRuns.{frames_in}
 use Rattle.hotsync_run.specs.SessionCalls.{SentNothing}
-use Rattle.hotsync_run.specs.Told.{CallTold}
+use Rattle.call_parts.specs.Told.{CallTold}
 use Rattle.hotsync_run.specs.Undisturbed.{EndsWell}
 use Rattle.hotsync_run.proofs.UndisturbedLaws.{BlamesNone, by_end_well, failed_desktop, failed_handheld, judged_handheld, judged_script, never_aborted, never_unplugged}
-use Rattle.hotsync_run.specs.declared.report.Report.{Report}
+use Rattle.call_parts.specs.declared.report.Report.{Report}
 use Rattle.hotsync_looks.specs.declared.status.Status.{Status}
 use Rattle.hotsync_looks.specs.declared.status.Status.TheVariants.{HandheldFolder, DesktopFolder}
 use Rattle.hotsync_looks.specs.declared.status.Status.TheVariants.{Done, TraceWrite, OutWrite, NoMemory, LineDown, Unplugged, Aborted, Undetected}

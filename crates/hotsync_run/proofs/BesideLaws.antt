@@ -11,7 +11,7 @@ use Rattle.install_backup.specs.InstallActs.{install_acts}
 use Rattle.install_backup.proofs.StayLaws.{others_stay, user_stays}
 use Rattle.install_backup.proofs.TurnLaws.{fronts_stand}
 use Rattle.hotsync_run.specs.Besides.{StandsBeside}
-use Rattle.hotsync_run.specs.Sessions.{StandsAtFront}
+use Rattle.call_parts.specs.Sessions.{StandsAtFront}
 
 pub stands_beside : {device : Device} {databases : List DatabaseValue} → IsAtRest device → AllByRecursion IsBoundedDatabase databases → (told : Option FileMap)
     → StandsAtFront device (map text (install_acts databases)) told → StandsBeside device databases told

@@ -4,14 +4,14 @@ use Rattle.std.proofs.Common.{arith, ◌≡◌, ◌⊎◌, inl, inr, refl, subst
 use Rattle.std.specs.Prelude.{None, Option, Some, length}
 use Rattle.run_words.specs.Commands.{Backup, DryRun, Emulate, Categories, Help, Install, LookAt, Make, Restore, Scan, Sync, WordTask}
 use Rattle.hotsync_run.specs.Calls.{IsCall}
-use Rattle.hotsync_run.specs.Causes.{ByEnd, HasBegun}
+use Rattle.call_parts.specs.Causes.{ByEnd, HasBegun}
 use Rattle.hotsync_looks.proofs.PrintedLaws.{printed_weaken}
 use Rattle.hotsync_looks.specs.HelpTexts.{help_text}
 use Rattle.hotsync_looks.specs.Lines.{done_lines}
 use Rattle.hotsync_looks.specs.Printed.{IsPrinted}
 use Rattle.hotsync_looks.specs.Told.{SinkTold}
-use Rattle.hotsync_run.specs.Told.{CallTold}
-use Rattle.hotsync_run.specs.Reports.{IsNotStarted}
+use Rattle.call_parts.specs.Told.{CallTold}
+use Rattle.call_parts.specs.Reports.{IsNotStarted}
 use Rattle.hotsync_run.specs.Backups.{backup_command}
 use Rattle.hotsync_looks.specs.Served.{served_lines}
 use Rattle.hotsync_run.specs.Filings.{categories_command}
@@ -22,8 +22,8 @@ use Rattle.hotsync_run.specs.SessionCalls.{IsSessionCall, SentNothing, SessionCo
 use Rattle.hotsync_run.proofs.DryLaws.{dry_untouched}
 use Rattle.hotsync_run.proofs.EmulationLaws.{unread_emulation}
 use Rattle.hotsync_run.proofs.RefusedRuns.{stands_same, stays_same}
-use Rattle.hotsync_run.specs.declared.report.Report.{Report}
-use Rattle.hotsync_run.specs.declared.report.SessionEnd.{SessionEnd}
+use Rattle.call_parts.specs.declared.report.Report.{Report}
+use Rattle.call_parts.specs.declared.report.SessionEnd.{SessionEnd}
 use Rattle.hotsync_looks.specs.declared.status.Status.{Status}
 use Rattle.hotsync_looks.specs.declared.status.Status.TheVariants.{NoMemory}
 

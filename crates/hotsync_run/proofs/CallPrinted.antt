@@ -2,9 +2,9 @@
 use Rattle.std.proofs.Common.{◌≡◌, ◌∙◌, inl, inr, refl, subst, sym}
 use Rattle.hotsync_looks.specs.Printed.{IsPrintedStatus}
 use Rattle.hotsync_run.specs.SessionCalls.{MayHaveSession, SentNothing, SessionCommand}
-use Rattle.hotsync_run.specs.Told.{CallTold}
-use Rattle.hotsync_run.proofs.RetoldLaws.{StaysShown, by_end_then}
-use Rattle.hotsync_run.specs.declared.report.Report.{Report}
+use Rattle.call_parts.specs.Told.{CallTold}
+use Rattle.call_parts.proofs.RetoldLaws.{StaysShown, by_end_then}
+use Rattle.call_parts.specs.declared.report.Report.{Report}
 use Rattle.hotsync_looks.specs.declared.status.Status.{Status}
 use Rattle.hotsync_looks.specs.declared.status.Status.TheVariants.{Done, OutWrite, NoMemory}
 

@@ -18,20 +18,20 @@ use Rattle.line_world.specs.Causes.{BearsOut}
 use Rattle.line_world.specs.Stops.{EndsBy}
 use Rattle.palm_device.specs.Devices.{Device}
 use Rattle.run_words.specs.Runs.{Run}
-use Rattle.hotsync_run.specs.Causes.{IsLineDown, cause_in}
+use Rattle.call_parts.specs.Causes.{IsLineDown, cause_in}
 use Rattle.hotsync_run.specs.Clean.{AreSaidOnce, GoesThrough, HasNoLines, IsLineStop}
-use Rattle.hotsync_run.specs.LineRuns.{frames_in}
+use Rattle.call_parts.specs.LineRuns.{frames_in}
 use Rattle.hotsync_run.specs.Runs.{HasRun, SessionRan, run_command}
 use Rattle.hotsync_run.specs.SessionCalls.{SentNothing}
-use Rattle.hotsync_run.specs.Scripts.{IsScripted}
-use Rattle.hotsync_run.specs.Sessions.{Spoke}
-use Rattle.hotsync_run.specs.Told.{CallTold, FolderTold}
-use Rattle.hotsync_run.specs.declared.report.Report.{Report}
+use Rattle.call_parts.specs.Scripts.{IsScripted}
+use Rattle.call_parts.specs.Sessions.{Spoke}
+use Rattle.call_parts.specs.Told.{CallTold, FolderTold}
+use Rattle.call_parts.specs.declared.report.Report.{Report}
 use Rattle.hotsync_looks.specs.declared.status.Status.{Status}
 use Rattle.hotsync_looks.specs.declared.status.Status.TheVariants.{LineDown, Unplugged, Aborted, Undetected}
 use Rattle.hotsync_run.proofs.MakeLines.{no_stop}
 use Rattle.hotsync_run.proofs.RunLaws.{refused_not_stopped}
-use Rattle.hotsync_run.proofs.RetoldLaws.{by_end_both}
+use Rattle.call_parts.proofs.RetoldLaws.{by_end_both}
 use Rattle.hotsync_run.proofs.UndisturbedLaws.{last_fate}
 
 -- ---- nothing is said twice

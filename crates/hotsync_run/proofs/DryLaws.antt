@@ -19,13 +19,15 @@ use Rattle.hotsync_looks.specs.Told.{SinkTold}
 use Rattle.run_words.specs.Commands.{DryRun, WordTask}
 use Rattle.run_words.specs.Runs.{Run}
 use Rattle.hotsync_run.specs.Calls.{Call, IsAnsweredCall, IsCall}
-use Rattle.hotsync_run.specs.Causes.{HasBegun}
+use Rattle.call_parts.specs.Causes.{HasBegun}
 use Rattle.hotsync_run.specs.DryRuns.{HasDryRun, HoldTheSame, IsCopiedAs, IsDryRun, RanOverCopies, over}
-use Rattle.hotsync_run.specs.Reports.{IsNotStarted}
-use Rattle.hotsync_run.specs.Runs.{HasRun, IsRun, StandsAsItDid}
-use Rattle.hotsync_run.specs.SessionCalls.{BlamesByCount, StaysAsItWas}
-use Rattle.hotsync_run.specs.Told.{CallTold, FolderTold, SidesTold, folder_told, sides_of}
-use Rattle.hotsync_run.specs.declared.report.Report.{Report}
+use Rattle.call_parts.specs.Reports.{IsNotStarted}
+use Rattle.hotsync_run.specs.Runs.{HasRun, IsRun}
+use Rattle.call_parts.specs.Stays.{StandsAsItDid}
+use Rattle.hotsync_run.specs.SessionCalls.{BlamesByCount}
+use Rattle.call_parts.specs.Stays.{StaysAsItWas}
+use Rattle.call_parts.specs.Told.{CallTold, FolderTold, SidesTold, folder_told, sides_of}
+use Rattle.call_parts.specs.declared.report.Report.{Report}
 use Rattle.hotsync_looks.specs.declared.status.Status.{Status}
 
 -- what a folder told is a copy of that

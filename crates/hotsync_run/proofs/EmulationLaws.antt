@@ -28,12 +28,14 @@ use Rattle.hotsync_looks.specs.Told.{SinkTold}
 use Rattle.hotsync_looks.specs.declared.status.Status.{Status}
 use Rattle.hotsync_looks.specs.declared.status.Status.TheVariants.{Done, HandheldFolder, DesktopFolder, InUse, SourceRead, TraceWrite, OutWrite, NoMemory}
 use Rattle.hotsync_run.specs.Emulations.{CaptureRan, HadTalk, IsCalmEmulation, IsHeardOut, IsSourceFailure, MayEmulate}
-use Rattle.hotsync_run.specs.Emulations.{SaidNothing, SaysAll, TellsHand, WentWith, talk_status}
-use Rattle.hotsync_run.specs.Refusals.{HandheldRefuses, HasHandheld, IsTraceRefusal}
-use Rattle.hotsync_run.specs.Reports.{IsNotStarted}
-use Rattle.hotsync_run.specs.SessionCalls.{BlamesByCount, StaysAsItWas}
-use Rattle.hotsync_run.specs.Told.{CallTold, FolderTold, folder_told}
-use Rattle.hotsync_run.specs.declared.report.Report.{Report}
+use Rattle.hotsync_run.specs.Emulations.{SaidNothing, SaysAll, TellsHand, talk_status}
+use Rattle.call_parts.specs.Stays.{WentWith}
+use Rattle.call_parts.specs.Refusals.{HandheldRefuses, HasHandheld, IsTraceRefusal}
+use Rattle.call_parts.specs.Reports.{IsNotStarted}
+use Rattle.hotsync_run.specs.SessionCalls.{BlamesByCount}
+use Rattle.call_parts.specs.Stays.{StaysAsItWas}
+use Rattle.call_parts.specs.Told.{CallTold, FolderTold, folder_told}
+use Rattle.call_parts.specs.declared.report.Report.{Report}
 use Rattle.hotsync_run.proofs.RefusedRuns.{handheld_alone, trace_alone}
 use Rattle.hotsync_run.proofs.UndisturbedLaws.{BlamesNone, failed_handheld, judged_handheld}
 use Rattle.folder_copies.proofs.CopyLaws.{rose_before}

@@ -7,10 +7,10 @@ use Rattle.front_laws.specs.Equal.{HasEqualSides}
 use Rattle.front_laws.proofs.EqualLaws.{holds-equal}
 use Rattle.hotsync_run.specs.Equal.{EndsEqual}
 use Rattle.hotsync_run.specs.Headline.{IsAnsweredRun, RunCall}
-use Rattle.hotsync_run.specs.declared.report.SessionEnd.TheVariants.{Ended}
+use Rattle.call_parts.specs.declared.report.SessionEnd.TheVariants.{Ended}
 use Rattle.hotsync_run.proofs.AgainCalls.{ran-of, session_in}
 use Rattle.hotsync_run.proofs.AgainLaws.{given_in, got-of}
-use Rattle.hotsync_run.proofs.SlotLaws.{merged-picked, picked-near}
+use Rattle.front_laws.proofs.SlotLaws.{merged-picked, picked-near}
 
 pub ends-equal : (call : RunCall) → IsAnsweredRun call → call.report.end ≡ Ended → EndsEqual call
 ends-equal call is end =

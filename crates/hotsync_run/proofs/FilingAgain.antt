@@ -25,20 +25,20 @@ use Rattle.category_mirror.proofs.RepeatLaws.{second_changes, second_device, sec
 use Rattle.run_words.specs.Betweens.{Between}
 use Rattle.hotsync_looks.specs.declared.status.Status.{Status}
 use Rattle.hotsync_run.specs.Calls.{Call}
-use Rattle.hotsync_run.specs.Causes.{HasBegun}
+use Rattle.call_parts.specs.Causes.{HasBegun}
 use Rattle.hotsync_run.specs.FilingCalls.{IsSecondCall, StandsTogether}
 use Rattle.hotsync_run.specs.Filings.{CategoriesRan, EndedFiling, StoppedFiling}
-use Rattle.hotsync_run.specs.LineRuns.{log_in}
-use Rattle.hotsync_run.specs.Told.{CallTold}
-use Rattle.hotsync_run.specs.declared.report.Report.{Report}
-use Rattle.hotsync_run.specs.declared.report.SessionEnd.{SessionEnd}
+use Rattle.call_parts.specs.LineRuns.{log_in}
+use Rattle.call_parts.specs.Told.{CallTold}
+use Rattle.call_parts.specs.declared.report.Report.{Report}
+use Rattle.call_parts.specs.declared.report.SessionEnd.{SessionEnd}
 use Rattle.hotsync_run.proofs.FilingPromises.{filing_ran}
 use Rattle.hotsync_run.proofs.FilingSaid.{one-more, two-first}
 use Rattle.hotsync_run.proofs.FilingUnseated.{unseated_changes}
 use Rattle.hotsync_run.proofs.FilingWritten.{written_all}
-use Rattle.hotsync_run.proofs.LeftLaws.{prefix-length}
+use Rattle.front_laws.proofs.RequestLaws.{prefix-length}
 use Rattle.hotsync_run.proofs.OneLaws.{IsOne, same_handheld, same_slots, told_slots}
-use Rattle.hotsync_run.specs.declared.report.SessionEnd.TheVariants.{Ended, NotStarted, Stopped}
+use Rattle.call_parts.specs.declared.report.SessionEnd.TheVariants.{Ended, NotStarted, Stopped}
 
 same_device : (one other : Device) → one.databases ≡ other.databases → one.user ≡ other.user → one.handles ≡ other.handles → one ≡ other
 same_device one other databases user handles = grind arith

@@ -17,24 +17,27 @@ use Rattle.trace_text.specs.declared.frame.End.TheVariants as line_end
 use Rattle.hotsync_looks.specs.Opening.{OpensGiven, OpensGivenAtMost}
 use Rattle.hotsync_looks.specs.Printed.{IsPrintedStatus}
 use Rattle.hotsync_looks.specs.Told.{SinkTold}
-use Rattle.hotsync_run.specs.Causes.{ByEnd}
+use Rattle.call_parts.specs.Causes.{ByEnd}
 use Rattle.hotsync_run.specs.Filings.{CategoriesRan, FilingLeft, HadFiling, HasFiled, IsFilingTalk, StandsInSomeTurn, categories_command}
-use Rattle.hotsync_run.specs.Refusals.{BlamesSource, LeavesDesktopUnread}
-use Rattle.hotsync_run.specs.Reports.{IsNotStarted}
-use Rattle.hotsync_run.specs.Runs.{HasRun, SessionRan, StandsAsItDid, run_command}
-use Rattle.hotsync_run.specs.SessionCalls.{SentNothing, StaysAsItWas}
-use Rattle.hotsync_run.specs.Sessions.{KeptSilent}
-use Rattle.hotsync_run.specs.Told.{CallTold, FolderTold, SidesTold, sides_of}
-use Rattle.hotsync_run.specs.Traces.{TracesReport}
+use Rattle.call_parts.specs.Refusals.{BlamesSource, LeavesDesktopUnread}
+use Rattle.call_parts.specs.Reports.{IsNotStarted}
+use Rattle.hotsync_run.specs.Runs.{HasRun, SessionRan, run_command}
+use Rattle.call_parts.specs.Stays.{StandsAsItDid}
+use Rattle.hotsync_run.specs.SessionCalls.{SentNothing}
+use Rattle.call_parts.specs.Stays.{StaysAsItWas}
+use Rattle.call_parts.specs.Sessions.{KeptSilent}
+use Rattle.call_parts.specs.Told.{CallTold, FolderTold, SidesTold, sides_of}
+use Rattle.call_parts.specs.Traces.{TracesReport}
 use Rattle.hotsync_run.proofs.CallPrinted.{IsPrintable, call_printed}
 use Rattle.hotsync_run.proofs.FilingSpoke.{filing_retold}
 use Rattle.hotsync_run.proofs.RefusedCalls.{refused_call}
-use Rattle.hotsync_run.proofs.RetoldLaws.{StaysShown, by_end_then}
+use Rattle.call_parts.proofs.RetoldLaws.{StaysShown, by_end_then}
 use Rattle.hotsync_run.proofs.RunLaws.{refused_not_done, retold_done, retold_served, traced_as}
-use Rattle.hotsync_run.proofs.SessionRuns.{AreOpened, spoke_from, traced_from}
-use Rattle.hotsync_run.proofs.TraceLaws.{talk_not_in_use, talk_not_source}
-use Rattle.hotsync_run.specs.declared.report.Report.{Report}
-use Rattle.hotsync_run.specs.declared.report.SessionEnd.{SessionEnd}
+use Rattle.hotsync_run.proofs.SessionRuns.{AreOpened, spoke_from}
+use Rattle.call_parts.proofs.TraceLaws.{traced_from}
+use Rattle.call_parts.proofs.TraceLaws.{talk_not_in_use, talk_not_source}
+use Rattle.call_parts.specs.declared.report.Report.{Report}
+use Rattle.call_parts.specs.declared.report.SessionEnd.{SessionEnd}
 use Rattle.hotsync_looks.specs.declared.status.Status.{Status}
 use Rattle.folder_copies.proofs.CopyLaws.{rose_before}
 

@@ -20,16 +20,16 @@ use Rattle.session_parts.specs.declared.stop.Stop.{Stop}
 use Rattle.session_parts.specs.declared.stop.Stop.TheVariants as stop
 use Rattle.category_mirror.specs.FilingEnds.{IsEnded, IsFilingStop, StopsFor, seat_of, users_in}
 use Rattle.category_mirror.specs.Sides.{Filing, before_end, filing_acts}
-use Rattle.hotsync_run.specs.Causes.{IsCutShort, down_status, fault_status, stop_status}
-use Rattle.hotsync_run.specs.Closings.{left_status}
+use Rattle.call_parts.specs.Causes.{IsCutShort, down_status, fault_status, stop_status}
+use Rattle.call_parts.specs.Closings.{left_status}
 use Rattle.hotsync_run.specs.Filings.{FilingShows, ShowsFiling}
-use Rattle.hotsync_run.specs.Told.{FolderTold}
-use Rattle.hotsync_run.specs.Whole.{StopsAnswered}
+use Rattle.call_parts.specs.Told.{FolderTold}
+use Rattle.call_parts.specs.Whole.{StopsAnswered}
 use Rattle.hotsync_run.proofs.LeftLaws.{Tells}
-use Rattle.hotsync_run.proofs.RetoldLaws.{StaysShown}
+use Rattle.call_parts.proofs.RetoldLaws.{StaysShown}
 use Rattle.hotsync_run.proofs.StatusLaws.{said_all, unseated_status}
-use Rattle.hotsync_run.proofs.WholeLaws.{SaidOf, SaidShort, SaidWhole}
-use Rattle.hotsync_run.specs.declared.report.Report.{Report}
+use Rattle.call_parts.proofs.WholeLaws.{SaidOf, SaidShort, SaidWhole}
+use Rattle.call_parts.specs.declared.report.Report.{Report}
 use Rattle.hotsync_looks.specs.declared.status.Status.{Status}
 use Rattle.hotsync_looks.specs.declared.status.Status.TheVariants.{Done, NoMemory, OutWrite, TraceWrite}
 use Rattle.hotsync_run.proofs.InstallSaid.{never_down, down_cut}

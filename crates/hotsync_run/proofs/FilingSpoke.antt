@@ -31,25 +31,26 @@ use Rattle.category_mirror.specs.Sides.{Filing, before_end, block_writes, filing
 use Rattle.category_mirror.proofs.AlongLaws.{count-is}
 use Rattle.category_mirror.proofs.DoneLaws.{session_goes}
 use Rattle.category_mirror.proofs.TurnLaws.{front_stands}
-use Rattle.hotsync_run.specs.Closings.{Closes, left_databases, left_end, left_in}
+use Rattle.call_parts.specs.Closings.{Closes, left_databases, left_end, left_in}
 use Rattle.hotsync_run.specs.Filings.{EndedFiling, FilingLeft, HadFiling, IsFilingTalk, StandsInSomeTurn, StoppedFiling}
-use Rattle.hotsync_run.specs.LineRuns.{log_in, write_count}
-use Rattle.hotsync_run.specs.Sessions.{KeptSilent, Spoke, StandsAtFront}
-use Rattle.hotsync_run.specs.Told.{FolderTold, SidesTold, folder_told}
-use Rattle.hotsync_run.proofs.EndLaws.{BeganWith, began_with, count-append, logged_all, prefix-count}
+use Rattle.call_parts.specs.LineRuns.{log_in, write_count}
+use Rattle.call_parts.specs.Sessions.{KeptSilent, Spoke, StandsAtFront}
+use Rattle.call_parts.specs.Told.{FolderTold, SidesTold, folder_told}
+use Rattle.call_parts.proofs.EndLaws.{BeganWith, began_with, count-append, logged_all, prefix-count}
 use Rattle.hotsync_run.proofs.FilingSaid.{filing_requests, filing_said, filing_shows, first_requests, requests-are, shows_retold}
-use Rattle.hotsync_run.proofs.FrontLaws.{issued_begins}
+use Rattle.call_parts.proofs.FrontLaws.{issued_begins}
 use Rattle.hotsync_run.proofs.LeftLaws.{Tells}
-use Rattle.hotsync_run.proofs.LineLaws.{line_ran}
-use Rattle.hotsync_run.proofs.RetoldLaws.{StaysShown, had_retold}
-use Rattle.hotsync_run.proofs.SpokeLaws.{by_left, left_desk, palm_blamed, spoke}
-use Rattle.hotsync_run.specs.declared.report.Report.{Report}
-use Rattle.hotsync_run.specs.declared.report.SessionEnd.TheVariants.{Ended, Stopped}
+use Rattle.call_parts.proofs.LineLaws.{line_ran}
+use Rattle.call_parts.proofs.RetoldLaws.{StaysShown, had_retold}
+use Rattle.call_parts.proofs.SpokeLaws.{by_left, left_desk, palm_blamed, spoke}
+use Rattle.call_parts.specs.declared.report.Report.{Report}
+use Rattle.call_parts.specs.declared.report.SessionEnd.TheVariants.{Ended, Stopped}
 use Rattle.hotsync_looks.specs.declared.status.Status.{Status}
 use Rattle.category_mirror.specs.Sides.{filing_acts}
 use Rattle.install_backup.proofs.BackupOrder.{order-take}
 use Rattle.front_laws.specs.Answered.{IsAnsweredExchange}
-use Rattle.hotsync_run.proofs.NeverLaws.{IsUnrefusedEnd, all-answered, all-talked, filing_never, plain_said, run-says}
+use Rattle.hotsync_run.proofs.NeverLaws.{all-answered, all-talked, filing_never, plain_said, run-says}
+use Rattle.call_parts.proofs.SpokeLaws.{IsUnrefusedEnd}
 
 -- ---- the end writes nothing
 

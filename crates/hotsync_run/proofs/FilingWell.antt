@@ -10,14 +10,14 @@ use Rattle.category_mirror.specs.FilingEnds.{seat_of}
 use Rattle.category_mirror.specs.Sides.{Filing, filing_of}
 use Rattle.hotsync_looks.specs.Printed.{IsPrinted}
 use Rattle.hotsync_looks.specs.Told.{SinkTold}
-use Rattle.hotsync_run.specs.Causes.{EndsAs, IsLineDown, cause_in}
+use Rattle.call_parts.specs.Causes.{EndsAs, IsLineDown, cause_in}
 use Rattle.hotsync_run.specs.Filings.{CategoriesRan, FilingRefuses, FilingShows, HasFiled, IsCalmFiling, categories_command}
-use Rattle.hotsync_run.specs.LineRuns.{frames_in}
+use Rattle.call_parts.specs.LineRuns.{frames_in}
 use Rattle.hotsync_run.specs.SessionCalls.{SentNothing}
-use Rattle.hotsync_run.specs.Told.{CallTold}
+use Rattle.call_parts.specs.Told.{CallTold}
 use Rattle.hotsync_run.specs.Undisturbed.{EndsWell}
 use Rattle.hotsync_run.proofs.UndisturbedLaws.{BlamesNone, by_end_well, failed_desktop, failed_handheld, judged_desktop, judged_handheld, judged_script, never_aborted, never_unplugged}
-use Rattle.hotsync_run.specs.declared.report.Report.{Report}
+use Rattle.call_parts.specs.declared.report.Report.{Report}
 use Rattle.hotsync_looks.specs.declared.status.Status.{Status}
 use Rattle.hotsync_looks.specs.declared.status.Status.TheVariants.{HandheldFolder, DesktopFolder}
 use Rattle.hotsync_looks.specs.declared.status.Status.TheVariants.{Done, TraceWrite, OutWrite, NoMemory, LineDown, Unplugged, Aborted, Undetected}

@@ -2,14 +2,14 @@
 use Rattle.std.proofs.Common.{◌≡◌, List}
 use Rattle.line_script.specs.Rules.{RuleValue}
 use Rattle.session_plan.specs.Tasks.{Meeting}
-use Rattle.hotsync_run.specs.Causes.{ByEnd, HasBegun}
+use Rattle.call_parts.specs.Causes.{ByEnd, HasBegun}
 use Rattle.hotsync_run.specs.Headline.{ActsOnce, FairStaysUp, Headline, IsAnsweredRun, IsWhatItSays, LeavesTheMerge, RunCall, TellsCause}
 use Rattle.hotsync_run.specs.Meetings.{Meets}
 use Rattle.hotsync_run.specs.Runs.{SessionRan, run_command}
 use Rattle.hotsync_run.specs.SessionCalls.{SentNothing}
-use Rattle.hotsync_run.specs.Scripts.{IsScripted}
-use Rattle.hotsync_run.specs.declared.report.SessionEnd.{SessionEnd}
-use Rattle.hotsync_run.specs.declared.report.SessionEnd.TheVariants.{NotStarted, Ended, Stopped}
+use Rattle.call_parts.specs.Scripts.{IsScripted}
+use Rattle.call_parts.specs.declared.report.SessionEnd.{SessionEnd}
+use Rattle.call_parts.specs.declared.report.SessionEnd.TheVariants.{NotStarted, Ended, Stopped}
 use Rattle.hotsync_run.proofs.SkippedLaws.{keeps-bytes}
 
 pub begun_by : (end : SessionEnd) (Not Began : Type 0) → ByEnd end Not Began → HasBegun end → Began

@@ -6,14 +6,14 @@ use Rattle.run_words.specs.Betweens.{Between}
 use Rattle.run_words.specs.Commands.{Install, WordTask}
 use Rattle.hotsync_run.specs.Besides.{StandsBeside}
 use Rattle.hotsync_run.specs.Calls.{Call, IsAnsweredCall, IsCall}
-use Rattle.hotsync_run.specs.Causes.{ByEnd, HasBegun}
+use Rattle.call_parts.specs.Causes.{ByEnd, HasBegun}
 use Rattle.hotsync_run.specs.Clean.{GoesThrough}
 use Rattle.hotsync_run.specs.Installs.{EndedInstall, InstallRan, IsInstall, install_command}
 use Rattle.hotsync_run.specs.SessionCalls.{SentNothing}
 use Rattle.hotsync_run.proofs.CleanLaws.{spoke_through}
 use Rattle.hotsync_run.proofs.HeadlineLaws.{begun_by}
-use Rattle.hotsync_run.specs.declared.report.SessionEnd.{SessionEnd}
-use Rattle.hotsync_run.specs.declared.report.SessionEnd.TheVariants.{Ended, NotStarted}
+use Rattle.call_parts.specs.declared.report.SessionEnd.{SessionEnd}
+use Rattle.call_parts.specs.declared.report.SessionEnd.TheVariants.{Ended, NotStarted}
 
 module _ (call : Call) (words : Between) (is : IsAnsweredCall call) (task : call.task ≡ Some (Install words)) where
   abbrev Silent : Type 0

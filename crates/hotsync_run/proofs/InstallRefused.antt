@@ -7,13 +7,13 @@ use Rattle.trace_text.specs.declared.frame.End.TheVariants as line_end
 use Rattle.hotsync_looks.specs.InstallFiles.{FileRefuses, IsFileRefusal}
 use Rattle.hotsync_looks.specs.Opening.{OpensAtMost, OpensGivenAtMost}
 use Rattle.hotsync_run.specs.Installs.{HasInstallFile, HasInstalled, install_command}
-use Rattle.hotsync_run.specs.Refusals.{HandheldRefuses, HasHandheld, TraceRefuses}
-use Rattle.hotsync_run.specs.Reports.{IsNotStarted}
-use Rattle.hotsync_run.specs.SessionCalls.{StaysAsItWas}
-use Rattle.hotsync_run.specs.Told.{CallTold}
+use Rattle.call_parts.specs.Refusals.{HandheldRefuses, HasHandheld, TraceRefuses}
+use Rattle.call_parts.specs.Reports.{IsNotStarted}
+use Rattle.call_parts.specs.Stays.{StaysAsItWas}
+use Rattle.call_parts.specs.Told.{CallTold}
 use Rattle.hotsync_run.proofs.RefusedCalls.{refused_call}
 use Rattle.hotsync_run.proofs.RefusedRuns.{handheld_alone, stays_same, trace_alone}
-use Rattle.hotsync_run.specs.declared.report.Report.{Report}
+use Rattle.call_parts.specs.declared.report.Report.{Report}
 use Rattle.hotsync_looks.specs.declared.status.Status.{Status}
 use Rattle.hotsync_looks.specs.declared.status.Status.TheVariants.{Done, HandheldFolder, DesktopFolder, SourceRead, TraceWrite, OutWrite, InUse}
 

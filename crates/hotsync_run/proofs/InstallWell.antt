@@ -15,15 +15,15 @@ use Rattle.hotsync_looks.proofs.LookLaws.{file_not_broken}
 use Rattle.hotsync_looks.specs.InstallFiles.{FileRefuses, FileShows, IsInstallFile}
 use Rattle.hotsync_looks.specs.Printed.{IsPrinted}
 use Rattle.hotsync_looks.specs.Told.{SinkTold}
-use Rattle.hotsync_run.specs.Causes.{EndsAs, IsLineDown, cause_in}
+use Rattle.call_parts.specs.Causes.{EndsAs, IsLineDown, cause_in}
 use Rattle.hotsync_run.specs.Installs.{HasInstalled, InstallRan, InstallRefuses, InstallShows, IsCalmInstall, install_command}
-use Rattle.hotsync_run.specs.LineRuns.{frames_in}
+use Rattle.call_parts.specs.LineRuns.{frames_in}
 use Rattle.hotsync_run.specs.SessionCalls.{SentNothing}
-use Rattle.hotsync_run.specs.Told.{CallTold}
+use Rattle.call_parts.specs.Told.{CallTold}
 use Rattle.hotsync_run.specs.Undisturbed.{EndsWell}
 use Rattle.hotsync_run.proofs.CleanLaws.{always_fair}
 use Rattle.hotsync_run.proofs.UndisturbedLaws.{BlamesNone, by_end_well, failed_handheld, judged_handheld, never_aborted, never_unplugged}
-use Rattle.hotsync_run.specs.declared.report.Report.{Report}
+use Rattle.call_parts.specs.declared.report.Report.{Report}
 use Rattle.hotsync_looks.specs.declared.status.Status.{Status}
 use Rattle.hotsync_looks.specs.declared.status.Status.TheVariants.{BadFile, CannotInstall, TooLong, HandheldFolder, DesktopFolder, SourceRead}
 use Rattle.hotsync_looks.specs.declared.status.Status.TheVariants.{Done, TraceWrite, OutWrite, NoMemory, LineDown, Unplugged, Aborted, Undetected}

@@ -29,22 +29,22 @@ use Rattle.sync_session.specs.Outcomes.{IsCommitFile, StandsForSlots}
 use Rattle.session_plan.specs.Tasks.{Meeting}
 use Rattle.front_laws.proofs.RowCountLaws.{merged-few}
 use Rattle.hotsync_run.specs.Again.{IsRepeat}
-use Rattle.hotsync_run.specs.Causes.{ByEnd}
+use Rattle.call_parts.specs.Causes.{ByEnd}
 use Rattle.hotsync_run.specs.Ends.{StoppedBefore, StoppedBehind}
 use Rattle.hotsync_run.specs.Headline.{IsAnsweredRun, RunCall}
-use Rattle.hotsync_run.specs.LineRuns.{exchanges_in}
+use Rattle.call_parts.specs.LineRuns.{exchanges_in}
 use Rattle.hotsync_run.specs.Meetings.{Meets}
 use Rattle.hotsync_run.specs.Runs.{SessionRan, run_command}
 use Rattle.hotsync_run.specs.SessionCalls.{SentNothing}
 use Rattle.hotsync_run.specs.Undisturbed.{AreGood, EndsWell, IsCalm, IsGoodDesktop, IsGoodHandheld}
-use Rattle.hotsync_run.specs.declared.report.SessionEnd.{SessionEnd}
-use Rattle.hotsync_run.specs.declared.report.SessionEnd.TheVariants.{Ended, NotStarted, Stopped}
+use Rattle.call_parts.specs.declared.report.SessionEnd.{SessionEnd}
+use Rattle.call_parts.specs.declared.report.SessionEnd.TheVariants.{Ended, NotStarted, Stopped}
 use Rattle.hotsync_run.proofs.AgainCalls.{ran-of, session_in}
 use Rattle.hotsync_run.proofs.AgainLaws.{Ran, ended-behind, first-within}
-use Rattle.hotsync_run.proofs.EndLaws.{same_some}
+use Rattle.call_parts.proofs.EndLaws.{same_some}
 use Rattle.hotsync_run.proofs.FinishedFiles.{finished-get}
 use Rattle.hotsync_run.proofs.GoodHandheldLaws.{few-files, none-bad}
-use Rattle.hotsync_run.proofs.SlotLaws.{picked-near}
+use Rattle.front_laws.proofs.SlotLaws.{picked-near}
 use Rattle.dlp_replies.proofs.ReplyLaws.{no_truth}
 
 -- ---- a handheld

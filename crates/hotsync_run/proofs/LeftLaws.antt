@@ -47,13 +47,14 @@ use Rattle.session_parts.specs.declared.stop.Stop.{Stop}
 use Rattle.front_laws.specs.Sound.{IsSoundMeeting}
 use Rattle.front_laws.proofs.FrontLaws.{after-none, commit-ids, commit-told, session-ids, session-told}
 use Rattle.front_laws.proofs.MergeActs.{merged}
+use Rattle.front_laws.proofs.RequestLaws.{before-longer, no-limit, parts-are, prefix-length, prefix-more, stood_or_merged, writes-before}
 use Rattle.hotsync_run.specs.Ends.{EndedSession, SessionLeft, StoppedBefore, StoppedBehind}
-use Rattle.hotsync_run.specs.LineRuns.{exchanges_in, log_in, write_count}
-use Rattle.hotsync_run.specs.Closings.{left_databases, left_end}
-use Rattle.hotsync_run.specs.Told.{FolderTold}
-use Rattle.hotsync_run.specs.declared.report.Report.{Report}
-use Rattle.hotsync_run.proofs.EndLaws.{BeganWith, LoggedAll, began_with, count-append, logged_all, none-front, none-given, performed-prefix, prefix-count}
-use Rattle.hotsync_run.proofs.FrontLaws.{issued_begins}
+use Rattle.call_parts.specs.LineRuns.{exchanges_in, log_in, write_count}
+use Rattle.call_parts.specs.Closings.{left_databases, left_end}
+use Rattle.call_parts.specs.Told.{FolderTold}
+use Rattle.call_parts.specs.declared.report.Report.{Report}
+use Rattle.call_parts.proofs.EndLaws.{BeganWith, LoggedAll, began_with, count-append, logged_all, none-front, none-given, performed-prefix, prefix-count}
+use Rattle.call_parts.proofs.FrontLaws.{issued_begins}
 
 abbrev ids_by : List Exchange → List ℕ
 ids_by exchanges = flat_map (λ (exchange : Exchange). given_in exchange.request exchange.reply) exchanges
@@ -67,42 +68,8 @@ pub record Tells {F : Type 0} (old new : WorldValue F) (palm_after : FolderTold)
   pub writes : report.writes ≡ write_count (log_in report).performed
   pub stands : Stands palm_after.contents new.server.device.databases new.server.device.user
 
--- ---- the session's requests
-
-pub parts-are : (meeting : Meeting) (given : List ℕ) → map text (before_commit meeting given) ++ map text (after_commit meeting) ≡ requests meeting
-unfolding session
-parts-are meeting given = sym (map-append text (before_commit meeting given) (after_commit meeting)) ∙ text-session meeting given
-
-pub before-longer : (meeting : Meeting) (given : List ℕ) → length (map text (before_writes meeting)) < length (map text (before_commit meeting given))
-unfolding before_commit
-before-longer meeting given =
-    grind (
-      arith,
-      map-append text (before_writes meeting) (begin_mark meeting ∷ all_news meeting (active meeting) given),
-      length-append (map text (before_writes meeting)) (map text (begin_mark meeting ∷ all_news meeting (active meeting) given)),
-    )
-
-prefix-more : {xs ys : List (List ℕ)} (zs : List (List ℕ)) → IsPrefix xs ys → IsPrefix xs (ys ++ zs)
-prefix-more {xs} zs prefix = grind (arith, append_assoc xs prefix.rest zs)
-
-pub prefix-length : {xs ys : List (List ℕ)} → IsPrefix xs ys → length xs ≤ length ys
-prefix-length {xs} prefix = let sum = sym (length-append xs prefix.rest) ∙ ap length prefix.is in omega (arith, sum)
-
 whole-prefix : (xs ys : List (List ℕ)) → xs ≡ ys → IsPrefix xs ys
 whole-prefix xs ys same = record { rest = []; is = append-nil xs ∙ same }
-
-pub writes-before : (meeting : Meeting) (given : List ℕ)
-    → length (filter changes (map text (before_commit meeting given))) ≡ writes_before_commit meeting
-unfolding writes_before_commit
-writes-before meeting given = grind (arith, text-before_commit meeting given (replicate (adds_of meeting) 0))
-
--- ---- a limit stops a session before it writes
-
--- what went out is more than what writes nothing
-pub no-limit : (meeting : Meeting) (given : List ℕ) (sent_out : List (List ℕ)) (o : Option (List ℕ))
-    → length (map text (before_commit meeting given)) ≤ length sent_out → (IsSome o → IsPrefix sent_out (map text (before_writes meeting))) → o ≡ None
-no-limit meeting given sent_out None many over = refl
-no-limit meeting given sent_out (Some name) many over = grind (arith, prefix-length (over refl), before-longer meeting given)
 
 -- ---- it ended
 
@@ -202,10 +169,6 @@ unseated-prefix contents moments paths faults fault downs meeting old new desk d
     the_error (Ok user) unseated = absurd (let never : ⊥ = cc in never)
     the_error (Err why) unseated = (why, refl)
 
-pub stood_or_merged : (meeting : Meeting) (given : List ℕ) (desk desk_after : FolderTold) → MergedSince meeting given desk.moments desk_after.moments
-    → EachMomentSince (λ told. FinishesAs desk.contents told ⊎ StandsForSlots (merged_slots meeting given) told) desk.moments desk_after.moments
-stood_or_merged meeting given desk desk_after since = grind (arith, moments_weaken (StandsForSlots (merged_slots meeting given)))
-
 pub session_left : {F : Type 0} (contents : F → Option FileMap) (moments : F → Moments) (paths : F → Option (List (List ℕ))) (faults : F → ℕ)
     (fault : WorldValue F → Option LinkFault) (downs : WorldValue F → ℕ) {meeting : Meeting} (old new : WorldValue F) {palm_after : FolderTold}
     (desk desk_after : FolderTold) (report : Report) (answer : Result (Vec DbReport) Stop)
@@ -225,7 +188,7 @@ session_left contents moments paths faults fault downs {meeting} old new desk de
       whole-prefix (log_in report).issued (requests meeting),
       unseated-prefix contents moments paths faults fault downs meeting old new desk desk_after report (Ok made) tells.silent tells.is_log,
       ended_left (ends.ended).given desk_after sound device tells,
-      stood_or_merged meeting (ends.ended).given desk desk_after (ends.ended).moments,
+      stood_or_merged meeting (ends.ended).given desk.contents desk.moments desk_after.moments (ends.ended).moments,
     )
 session_left contents moments paths faults fault downs {meeting} old new desk desk_after report (Err why) sound device tells end databases ends =
     let over = limit-prefix contents moments paths faults fault downs meeting old new desk desk_after (Err why) tells.silent tells.is_log ends in
@@ -246,7 +209,7 @@ session_left contents moments paths faults fault downs {meeting} old new desk de
             ended = λ is. cc;
             stopped = λ is. inl (before_left meeting new desk desk_after tells prefix b.stands);
             given = b.given;
-            moments = stood_or_merged meeting b.given desk desk_after b.moments;
+            moments = stood_or_merged meeting b.given desk.contents desk.moments desk_after.moments b.moments;
           }
       | inr b ↦
           let began = began_with (map text (after_commit meeting)) old new tells.silent tells.is_log b.does b.rest.later b.rest.only b.rest.kept in
@@ -264,7 +227,7 @@ session_left contents moments paths faults fault downs {meeting} old new desk de
             ended = λ is. cc;
             stopped = λ is. inr (behind_left b.given old new desk_after sound device tells none b.count b.free began b.stands);
             given = b.given;
-            moments = stood_or_merged meeting b.given desk desk_after b.moments;
+            moments = stood_or_merged meeting b.given desk.contents desk.moments desk_after.moments b.moments;
           }
     ]
 
@@ -273,8 +236,3 @@ session_left contents moments paths faults fault downs {meeting} old new desk de
 -- an opened handheld, on which nothing is open
 pub opened_rests : {device : Device} → AreKept device.databases → IsBounded device → device.handles ≡ no_handles → IsAtRest device
 opened_rests {device} kept bounded closed = grind (arith, opened-device device.databases device.user kept)
-
--- with an opened desktop it can have a session
-pub sound_meeting : {device : Device} (slots : List SlotValue) (wishes : Wishes) → IsAtRest device → AreBounded slots → wishes.date < 2 ^ 32
-    → IsSoundMeeting (meeting_of device slots wishes)
-sound_meeting {device} slots wishes rests bounded date = grind (arith, bounded_at slots (place_for device slots wishes.add_user) bounded)

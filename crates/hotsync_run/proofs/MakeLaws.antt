@@ -27,15 +27,15 @@ use Rattle.made_folders.specs.declared.item.Item.{Item}
 use Rattle.made_folders.proofs.ItemLaws.{length-items_from}
 use Rattle.made_folders.specs.MadeMerges.{IsMadeMerge}
 use Rattle.made_folders.proofs.NumberLaws.{drawn_are_made}
-use Rattle.hotsync_run.specs.Causes.{EndsAs, IsLineDown, IsUnsaid, cause_in}
+use Rattle.call_parts.specs.Causes.{EndsAs, IsLineDown, IsUnsaid, cause_in}
 use Rattle.hotsync_run.specs.Ends.{StatusShows}
-use Rattle.hotsync_run.specs.LineRuns.{frames_in}
+use Rattle.call_parts.specs.LineRuns.{frames_in}
 use Rattle.hotsync_run.specs.Makes.{HasMade, MadeNothing, MadeRan, files_told, made_run, made_script, made_told}
 use Rattle.hotsync_looks.specs.Printed.{IsPrintedStatus}
-use Rattle.hotsync_run.specs.Sessions.{KeptSilent}
+use Rattle.call_parts.specs.Sessions.{KeptSilent}
 use Rattle.hotsync_run.specs.Talks.{IsRunTalk, BegunSession, TalkedFor}
-use Rattle.hotsync_run.specs.Told.{FolderTold, SidesTold}
-use Rattle.hotsync_run.specs.declared.report.Report.{Report}
+use Rattle.call_parts.specs.Told.{FolderTold, SidesTold}
+use Rattle.call_parts.specs.declared.report.Report.{Report}
 use Rattle.hotsync_looks.specs.declared.status.Status.{Status}
 use Rattle.hotsync_looks.specs.declared.status.Status.TheVariants.{Done, Usage, BadWord, BadScript, TooLong, BadFile, TooMany, HandheldFolder, DesktopFolder, SourceRead}
 use Rattle.hotsync_looks.specs.declared.status.Status.TheVariants.{TraceWrite, OutWrite, NoMemory, LineDown, Unplugged, Aborted, Undetected, OtherUser}
@@ -47,8 +47,8 @@ use Rattle.hotsync_run.proofs.MadeLimits.{none_lost, none_over}
 use Rattle.hotsync_run.proofs.MadeReports.{AsksNothing, made_device, made_meeting, made_meets, made_slot, reports_are}
 use Rattle.hotsync_run.proofs.MadeSides.{AreItems, made_desktop, made_finished, made_handheld, made_user_is}
 use Rattle.hotsync_run.proofs.MakeLines.{made_fair, never_stops}
-use Rattle.hotsync_run.proofs.RetoldLaws.{by_end_both, by_end_then, retold_printed}
-use Rattle.hotsync_run.proofs.TraceLaws.{talked_retold}
+use Rattle.call_parts.proofs.RetoldLaws.{by_end_both, by_end_then, retold_printed}
+use Rattle.hotsync_run.proofs.RetoldTalks.{talked_retold}
 
 -- ---- the made folders
 

@@ -20,11 +20,11 @@ use Rattle.sync_session.proofs.IdsLaws.{text-session}
 use Rattle.sync_session.specs.News.{purge_acts}
 use Rattle.sync_session.specs.Outcomes.{IsEnded, IsStopOf, Tellings}
 use Rattle.sync_session.specs.Sessions.{after_commit, before_commit, before_writes, end_mark, requests, session}
-use Rattle.hotsync_run.specs.Causes.{stop_status}
-use Rattle.hotsync_run.specs.Closings.{left_status}
-use Rattle.hotsync_run.specs.Whole.{StopsAnswered}
-use Rattle.hotsync_run.proofs.LeftLaws.{before-longer, parts-are}
-use Rattle.hotsync_run.proofs.WholeLaws.{SaidOf, SaidShort, SaidWhole}
+use Rattle.call_parts.specs.Causes.{stop_status}
+use Rattle.call_parts.specs.Closings.{left_status}
+use Rattle.call_parts.specs.Whole.{StopsAnswered}
+use Rattle.front_laws.proofs.RequestLaws.{before-longer, parts-are}
+use Rattle.call_parts.proofs.WholeLaws.{SaidOf, SaidShort, SaidWhole}
 use Rattle.hotsync_looks.specs.declared.status.Status.{Status}
 use Rattle.hotsync_looks.specs.declared.status.Status.TheVariants.{NoMemory}
 use Rattle.hotsync_run.proofs.InstallSaid.{never_down}

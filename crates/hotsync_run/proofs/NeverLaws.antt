@@ -54,10 +54,11 @@ use Rattle.front_laws.proofs.FitLaws.{Fit, FitsOne}
 use Rattle.front_laws.proofs.FrontLaws.{take-map}
 use Rattle.front_laws.proofs.OrderRuns.{plain-answered, plain-said}
 use Rattle.front_laws.proofs.RelabelLaws.{NoAsk}
-use Rattle.hotsync_run.specs.LineRuns.{LineRan, TellsWorld, exchanges_in, log_in}
-use Rattle.hotsync_run.specs.Told.{FolderTold}
-use Rattle.hotsync_run.specs.declared.report.Report.{Report}
-use Rattle.hotsync_run.proofs.FrontLaws.{performed-begins}
+use Rattle.call_parts.specs.LineRuns.{LineRan, TellsWorld, exchanges_in, log_in}
+use Rattle.call_parts.specs.Told.{FolderTold}
+use Rattle.call_parts.specs.declared.report.Report.{Report}
+use Rattle.call_parts.proofs.FrontLaws.{performed-begins}
+use Rattle.call_parts.proofs.SpokeLaws.{IsUnrefusedEnd, IsUnrefusedStop}
 use Rattle.palm_device.proofs.BoundLaws.{AllByRecursion-take}
 
 -- ---- the exchanges of a world's talk
@@ -83,15 +84,6 @@ all-talked P world {report} tells all =
     (AllByRecursion-take P world.answered (exchanged (take (length replies) world.log.issued) replies) (subst (AllByRecursion P) said all))
 
 -- ---- why a session stopped
-
--- not for a refusal, and not for a reply that can't be read
-abbrev pub IsUnrefusedStop : Stop → Type 0
-IsUnrefusedStop (stop.Session (session_fault.Refused function code)) = ⊥
-IsUnrefusedStop (stop.Session (session_fault.BadReply function broken)) = ⊥
-IsUnrefusedStop other = Unit {0}
-
-abbrev pub IsUnrefusedEnd : Result (Vec DbReport) Stop → Type 0
-IsUnrefusedEnd answer = IfErr answer IsUnrefusedStop
 
 later_never : (talk : Talk) (fault : Option LinkFault) (cause : SessionFault) → AllByRecursion IsAnsweredExchange talk.exchanges
     → IsLater (Some talk) fault cause → IsUnrefusedStop (stop.Session cause)

@@ -19,8 +19,8 @@ use Rattle.run_words.specs.Runs.{Run}
 use Rattle.session_plan.specs.Tasks.{Meeting}
 use Rattle.hotsync_run.specs.Again.{AreOfOneKind, AreTold}
 use Rattle.hotsync_run.specs.Meetings.{Meets}
-use Rattle.hotsync_run.specs.Told.{CallTold}
-use Rattle.hotsync_run.proofs.EndLaws.{same_some}
+use Rattle.call_parts.specs.Told.{CallTold}
+use Rattle.call_parts.proofs.EndLaws.{same_some}
 
 -- ---- a desktop
 

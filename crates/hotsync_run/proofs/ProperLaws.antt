@@ -14,14 +14,14 @@ use Rattle.made_folders.specs.Items.{made}
 use Rattle.made_folders.specs.declared.item.Item.{Item}
 use Rattle.hotsync_looks.specs.Told.{SinkTold}
 use Rattle.hotsync_looks.specs.declared.status.Status.{Status}
-use Rattle.hotsync_run.specs.Causes.{ByEnd, HasBegun}
+use Rattle.call_parts.specs.Causes.{ByEnd, HasBegun}
 use Rattle.hotsync_run.specs.Headline.{IsAnsweredRun, RunCall}
-use Rattle.hotsync_run.specs.LineRuns.{LineRan, frames_in, log_in}
+use Rattle.call_parts.specs.LineRuns.{LineRan, frames_in, log_in}
 use Rattle.hotsync_run.specs.Makes.{IsMake, MadeNothing, MadeRan}
-use Rattle.hotsync_run.specs.Told.{FolderTold}
-use Rattle.hotsync_run.specs.declared.report.Report.{Report}
-use Rattle.hotsync_run.specs.declared.report.SessionEnd.{SessionEnd}
-use Rattle.hotsync_run.specs.declared.report.SessionEnd.TheVariants.{NotStarted, Ended, Stopped}
+use Rattle.call_parts.specs.Told.{FolderTold}
+use Rattle.call_parts.specs.declared.report.Report.{Report}
+use Rattle.call_parts.specs.declared.report.SessionEnd.{SessionEnd}
+use Rattle.call_parts.specs.declared.report.SessionEnd.TheVariants.{NotStarted, Ended, Stopped}
 use Rattle.hotsync_run.proofs.HeadlineLaws.{line-is}
 
 wake_text : HelloText wake (bytes_of wake)

@@ -1,12 +1,12 @@
 -- What is known of a call that sent nothing, whatever its command is.
 use Rattle.std.proofs.Common.{subst, sym}
 use Rattle.hotsync_looks.specs.Opening.{OpensGivenAtMost}
-use Rattle.hotsync_run.specs.Causes.{ByEnd, HasBegun}
-use Rattle.hotsync_run.specs.Reports.{IsNotStarted}
+use Rattle.call_parts.specs.Causes.{ByEnd, HasBegun}
+use Rattle.call_parts.specs.Reports.{IsNotStarted}
 use Rattle.hotsync_run.specs.SessionCalls.{BlamesByCount, MayHaveSession, SentNothing, SessionCommand}
-use Rattle.hotsync_run.specs.Told.{CallTold}
-use Rattle.hotsync_run.specs.declared.report.Report.{Report}
-use Rattle.hotsync_run.specs.declared.report.SessionEnd.{SessionEnd}
+use Rattle.call_parts.specs.Told.{CallTold}
+use Rattle.call_parts.specs.declared.report.Report.{Report}
+use Rattle.call_parts.specs.declared.report.SessionEnd.{SessionEnd}
 use Rattle.hotsync_looks.specs.declared.status.Status.{Status}
 
 -- the paths at which it opened its objects, if it did

@@ -11,19 +11,21 @@ use Rattle.desk_store.specs.declared.fault.DeskOpenFault.{DeskOpenFault}
 use Rattle.run_words.specs.Runs.{Run}
 use Rattle.trace_text.specs.declared.frame.End.{End}
 use Rattle.trace_text.specs.declared.frame.End.TheVariants as line_end
-use Rattle.hotsync_run.specs.Causes.{ByEnd, HasBegun}
+use Rattle.call_parts.specs.Causes.{ByEnd, HasBegun}
 use Rattle.hotsync_looks.specs.Opening.{OpensAtMost, OpensGivenAtMost}
-use Rattle.hotsync_run.specs.Refusals.{BlamesHandheld, BlamesSource, DesktopRefuses, HandheldRefuses, HasDesktop, HasHandheld, IsDesktopFailure, IsHandheldFailure}
-use Rattle.hotsync_run.specs.Refusals.{IsTraceRefusal, LeavesDesktopUnread}
+use Rattle.call_parts.specs.Refusals.{BlamesHandheld, BlamesSource, DesktopRefuses, HandheldRefuses, HasDesktop, HasHandheld, IsDesktopFailure, IsHandheldFailure}
+use Rattle.call_parts.specs.Refusals.{IsTraceRefusal, LeavesDesktopUnread}
 use Rattle.hotsync_looks.specs.FolderFaults.{desktop_status, handheld_status}
-use Rattle.hotsync_run.specs.Refusals.{TraceRefuses}
-use Rattle.hotsync_run.specs.Reports.{IsNotStarted}
-use Rattle.hotsync_run.specs.Runs.{HasRun, SessionRan, StandsAsItDid, run_command, run_paths}
-use Rattle.hotsync_run.specs.SessionCalls.{OpensNamed, SentNothing, StaysAsItWas}
-use Rattle.hotsync_run.specs.Scripts.{HasScript, IsScriptRefusal, ScriptRefuses}
-use Rattle.hotsync_run.specs.Told.{CallTold, FolderTold}
-use Rattle.hotsync_run.specs.declared.report.Report.{Report}
-use Rattle.hotsync_run.specs.declared.report.SessionEnd.{SessionEnd}
+use Rattle.call_parts.specs.Refusals.{TraceRefuses}
+use Rattle.call_parts.specs.Reports.{IsNotStarted}
+use Rattle.hotsync_run.specs.Runs.{HasRun, SessionRan, run_command, run_paths}
+use Rattle.call_parts.specs.Stays.{StandsAsItDid}
+use Rattle.hotsync_run.specs.SessionCalls.{OpensNamed, SentNothing}
+use Rattle.call_parts.specs.Stays.{StaysAsItWas}
+use Rattle.call_parts.specs.Scripts.{HasScript, IsScriptRefusal, ScriptRefuses}
+use Rattle.call_parts.specs.Told.{CallTold, FolderTold}
+use Rattle.call_parts.specs.declared.report.Report.{Report}
+use Rattle.call_parts.specs.declared.report.SessionEnd.{SessionEnd}
 use Rattle.hotsync_looks.specs.declared.status.Status.{Status}
 use Rattle.hotsync_looks.specs.declared.status.Status.TheVariants.{Done, HandheldFolder, DesktopFolder, SourceRead, TraceWrite, OutWrite}
 use Rattle.hotsync_looks.specs.declared.status.Status.TheVariants.{WrongSide, InUse}

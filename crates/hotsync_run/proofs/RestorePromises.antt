@@ -6,12 +6,13 @@ use Rattle.run_words.specs.Betweens.{Between}
 use Rattle.run_words.specs.Commands.{Restore, WordTask}
 use Rattle.hotsync_run.specs.Besides.{StandsBeside}
 use Rattle.hotsync_run.specs.Calls.{Call, IsAnsweredCall, IsCall}
-use Rattle.hotsync_run.specs.Causes.{ByEnd, HasBegun}
+use Rattle.call_parts.specs.Causes.{ByEnd, HasBegun}
 use Rattle.hotsync_run.specs.Restores.{EndedRestore, IsRestore, RestoreRan, restore_command}
-use Rattle.hotsync_run.specs.SessionCalls.{SentNothing, StaysAsItWas}
+use Rattle.hotsync_run.specs.SessionCalls.{SentNothing}
+use Rattle.call_parts.specs.Stays.{StaysAsItWas}
 use Rattle.hotsync_run.proofs.HeadlineLaws.{begun_by}
-use Rattle.hotsync_run.specs.declared.report.SessionEnd.{SessionEnd}
-use Rattle.hotsync_run.specs.declared.report.SessionEnd.TheVariants.{Ended, NotStarted, Stopped}
+use Rattle.call_parts.specs.declared.report.SessionEnd.{SessionEnd}
+use Rattle.call_parts.specs.declared.report.SessionEnd.TheVariants.{Ended, NotStarted, Stopped}
 
 module _ (call : Call) (words : Between) (is : IsAnsweredCall call) (task : call.task ≡ Some (Restore words)) where
   abbrev Silent : Type 0

@@ -10,14 +10,14 @@ use Rattle.hotsync_looks.specs.Opening.{OpensAtMost, OpensGivenAtMost}
 use Rattle.backup_files.specs.declared.fault.BackupFault.{BackupFault}
 use Rattle.hotsync_looks.specs.FolderFaults.{backup_status}
 use Rattle.hotsync_run.specs.Restores.{BackupsRefuse, HasBackups, HasRestored, restore_command}
-use Rattle.hotsync_run.specs.Refusals.{HandheldRefuses, HasHandheld, TraceRefuses}
-use Rattle.hotsync_run.specs.Reports.{IsNotStarted}
-use Rattle.hotsync_run.specs.Scripts.{HasScript, ScriptRefuses}
-use Rattle.hotsync_run.specs.SessionCalls.{StaysAsItWas}
-use Rattle.hotsync_run.specs.Told.{CallTold}
+use Rattle.call_parts.specs.Refusals.{HandheldRefuses, HasHandheld, TraceRefuses}
+use Rattle.call_parts.specs.Reports.{IsNotStarted}
+use Rattle.call_parts.specs.Scripts.{HasScript, ScriptRefuses}
+use Rattle.call_parts.specs.Stays.{StaysAsItWas}
+use Rattle.call_parts.specs.Told.{CallTold}
 use Rattle.hotsync_run.proofs.RefusedCalls.{refused_call}
 use Rattle.hotsync_run.proofs.RefusedRuns.{IsDesktopAlone, desktop_failed, handheld_alone, script_alone, stays_same, trace_alone}
-use Rattle.hotsync_run.specs.declared.report.Report.{Report}
+use Rattle.call_parts.specs.declared.report.Report.{Report}
 use Rattle.hotsync_looks.specs.declared.status.Status.{Status}
 use Rattle.hotsync_looks.specs.declared.status.Status.TheVariants.{HandheldFolder, DesktopFolder, SourceRead, TraceWrite, InUse}
 

@@ -15,21 +15,23 @@ use Rattle.hotsync_looks.specs.Printed.{IsPrintedStatus}
 use Rattle.hotsync_looks.specs.Told.{SinkTold, SourceTold}
 use Rattle.hotsync_run.specs.Besides.{StandsBeside}
 use Rattle.hotsync_run.specs.Restores.{HadRestore, HasRestored, IsRestoreTalk, RestoreRan, RestoreRefuses, restore_command}
-use Rattle.hotsync_run.specs.Refusals.{BlamesSource}
-use Rattle.hotsync_run.specs.Scripts.{IsScripted}
-use Rattle.hotsync_run.specs.SessionCalls.{SentNothing, StaysAsItWas}
-use Rattle.hotsync_run.specs.Sessions.{KeptSilent}
-use Rattle.hotsync_run.specs.Told.{CallTold, FolderTold, SidesTold, sides_of}
-use Rattle.hotsync_run.specs.Traces.{TracesReport}
+use Rattle.call_parts.specs.Refusals.{BlamesSource}
+use Rattle.call_parts.specs.Scripts.{IsScripted}
+use Rattle.hotsync_run.specs.SessionCalls.{SentNothing}
+use Rattle.call_parts.specs.Stays.{StaysAsItWas}
+use Rattle.call_parts.specs.Sessions.{KeptSilent}
+use Rattle.call_parts.specs.Told.{CallTold, FolderTold, SidesTold, sides_of}
+use Rattle.call_parts.specs.Traces.{TracesReport}
 use Rattle.hotsync_run.proofs.RestoreRefused.{backups_alone}
 use Rattle.hotsync_run.proofs.RestoreSpoke.{restore_retold}
 use Rattle.hotsync_run.proofs.CallPrinted.{IsPrintable, call_printed}
 use Rattle.hotsync_run.proofs.RefusedRuns.{handheld_alone, script_alone, trace_alone}
-use Rattle.hotsync_run.proofs.RetoldLaws.{StaysShown, by_end_then}
+use Rattle.call_parts.proofs.RetoldLaws.{StaysShown, by_end_then}
 use Rattle.hotsync_run.proofs.RunLaws.{retold_done, retold_served, traced_as}
-use Rattle.hotsync_run.proofs.SessionRuns.{spoke_from, traced_from}
-use Rattle.hotsync_run.proofs.TraceLaws.{talk_not_in_use, talk_not_source}
-use Rattle.hotsync_run.specs.declared.report.Report.{Report}
+use Rattle.hotsync_run.proofs.SessionRuns.{spoke_from}
+use Rattle.call_parts.proofs.TraceLaws.{traced_from}
+use Rattle.call_parts.proofs.TraceLaws.{talk_not_in_use, talk_not_source}
+use Rattle.call_parts.specs.declared.report.Report.{Report}
 use Rattle.hotsync_looks.specs.declared.status.Status.{Status}
 use Rattle.hotsync_looks.specs.declared.status.Status.TheVariants.{Done}
 use Rattle.folder_copies.proofs.CopyLaws.{rose_before}

@@ -25,21 +25,21 @@ use Rattle.session_parts.specs.declared.stop.Stop.TheVariants as stop
 use Rattle.install_backup.specs.declared.moved.Moved.{Moved}
 use Rattle.install_backup.specs.InstallActs.{install_acts, is_installable, moved_of, written_count}
 use Rattle.install_backup.specs.InstallEnds.{InstallEnds, IsFull, IsInstallStop, IsInstalled, StopsAtLimit, first_full}
-use Rattle.hotsync_run.specs.Causes.{IsCutShort, down_status, stop_status}
-use Rattle.hotsync_run.specs.Closings.{left_status}
-use Rattle.hotsync_run.specs.LineRuns.{SaidAll}
+use Rattle.call_parts.specs.Causes.{IsCutShort, down_status, stop_status}
+use Rattle.call_parts.specs.Closings.{left_status}
+use Rattle.call_parts.specs.LineRuns.{SaidAll}
 use Rattle.hotsync_run.specs.Moves.{TellsMoves, moved_did, moved_report}
 use Rattle.hotsync_run.specs.Restores.{RestoreShows, ShowsRestore, acts_until_one, restore_report}
 use Rattle.hotsync_run.specs.declared.moved.Way.TheVariants.{ToHandheld}
-use Rattle.hotsync_run.specs.Told.{FolderTold}
-use Rattle.hotsync_run.specs.Whole.{StopsAnswered}
-use Rattle.hotsync_run.proofs.EndLaws.{logged_all}
+use Rattle.call_parts.specs.Told.{FolderTold}
+use Rattle.call_parts.specs.Whole.{StopsAnswered}
+use Rattle.call_parts.proofs.EndLaws.{logged_all}
 use Rattle.hotsync_run.proofs.InstallSaid.{StopsAtFull, down_cut, never_down}
 use Rattle.hotsync_run.proofs.LeftLaws.{Tells}
 use Rattle.hotsync_run.proofs.RestoreActLaws.{some-acts, stands_first, stopped-after, until-shorter}
-use Rattle.hotsync_run.proofs.WholeLaws.{SaidOf, SaidShort, SaidWhole}
-use Rattle.hotsync_run.proofs.NeverLaws.{IsUnrefusedEnd, IsUnrefusedStop}
-use Rattle.hotsync_run.specs.declared.report.Report.{Report}
+use Rattle.call_parts.proofs.WholeLaws.{SaidOf, SaidShort, SaidWhole}
+use Rattle.call_parts.proofs.SpokeLaws.{IsUnrefusedEnd, IsUnrefusedStop}
+use Rattle.call_parts.specs.declared.report.Report.{Report}
 use Rattle.hotsync_looks.specs.declared.status.Status.{Status}
 use Rattle.hotsync_looks.specs.declared.status.Status.TheVariants.{Limit, NoMemory}
 

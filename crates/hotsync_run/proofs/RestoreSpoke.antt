@@ -26,29 +26,29 @@ use Rattle.install_backup.specs.declared.moved.Moved.{Moved}
 use Rattle.install_backup.specs.InstallActs.{install_acts}
 use Rattle.install_backup.specs.InstallEnds.{InstallEnds}
 use Rattle.hotsync_run.specs.Besides.{StandsBeside}
-use Rattle.hotsync_run.specs.Closings.{Closes, left_databases, left_end, left_in}
+use Rattle.call_parts.specs.Closings.{Closes, left_databases, left_end, left_in}
 use Rattle.hotsync_run.specs.Moves.{TellsMoves}
 use Rattle.hotsync_run.specs.Restores.{EndedRestore, HadRestore, IsRestoreTalk, RestoreLeft, ShowsRestore}
 use Rattle.hotsync_run.specs.declared.moved.Way.TheVariants.{ToHandheld}
-use Rattle.hotsync_run.specs.Sessions.{KeptSilent, StandsAtFront}
-use Rattle.hotsync_run.specs.Told.{FolderTold, SidesTold, folder_told}
+use Rattle.call_parts.specs.Sessions.{KeptSilent, StandsAtFront}
+use Rattle.call_parts.specs.Told.{FolderTold, SidesTold, folder_told}
 use Rattle.hotsync_run.proofs.BesideLaws.{stands_beside}
-use Rattle.hotsync_run.proofs.EndLaws.{logged_all}
-use Rattle.hotsync_run.proofs.FrontLaws.{issued_begins}
+use Rattle.call_parts.proofs.EndLaws.{logged_all}
+use Rattle.call_parts.proofs.FrontLaws.{issued_begins}
 use Rattle.hotsync_run.proofs.InstallSpoke.{no_desk}
 use Rattle.hotsync_run.proofs.LeftLaws.{Tells}
-use Rattle.hotsync_run.proofs.LineLaws.{line_ran}
+use Rattle.call_parts.proofs.LineLaws.{line_ran}
 use Rattle.hotsync_run.proofs.RestoreActLaws.{restored-after}
 use Rattle.hotsync_run.proofs.RestoreSaid.{ToldRestored, ToldRestores, restore_said, restore_shows, told_restores}
-use Rattle.hotsync_run.proofs.RetoldLaws.{StaysShown, had_retold}
-use Rattle.hotsync_run.proofs.SpokeLaws.{by_left, left_desk, palm_blamed, spoke}
-use Rattle.hotsync_run.specs.declared.report.Report.{Report}
-use Rattle.hotsync_run.specs.declared.report.SessionEnd.TheVariants.{Ended}
+use Rattle.call_parts.proofs.RetoldLaws.{StaysShown, had_retold}
+use Rattle.call_parts.proofs.SpokeLaws.{by_left, left_desk, palm_blamed, spoke}
+use Rattle.call_parts.specs.declared.report.Report.{Report}
+use Rattle.call_parts.specs.declared.report.SessionEnd.TheVariants.{Ended}
 use Rattle.hotsync_looks.specs.declared.status.Status.{Status}
 use Rattle.hotsync_looks.specs.declared.status.Status.TheVariants.{Done, Limit}
 use Rattle.session_parts.specs.Meets.{greeting}
 use Rattle.install_backup.specs.InstallEnds.{until_full}
-use Rattle.hotsync_run.specs.LineRuns.{log_in}
+use Rattle.call_parts.specs.LineRuns.{log_in}
 use Rattle.hotsync_run.proofs.NeverLaws.{IsAnsweredOrFull, all-talked, install-said, install_never}
 
 -- ---- what it left

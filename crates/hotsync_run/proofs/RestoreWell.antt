@@ -19,13 +19,13 @@ use Rattle.hotsync_looks.specs.FolderFaults.{backup_status}
 use Rattle.hotsync_looks.specs.Printed.{IsPrinted}
 use Rattle.hotsync_looks.specs.Told.{SinkTold}
 use Rattle.hotsync_run.specs.Restores.{BackupsShow, HasRestored, IsCalmRestore, IsGoodBackups, RestoreRan, RestoreRefuses, RestoreShows, restore_command}
-use Rattle.hotsync_run.specs.Causes.{EndsAs, IsLineDown, cause_in}
-use Rattle.hotsync_run.specs.LineRuns.{frames_in}
+use Rattle.call_parts.specs.Causes.{EndsAs, IsLineDown, cause_in}
+use Rattle.call_parts.specs.LineRuns.{frames_in}
 use Rattle.hotsync_run.specs.SessionCalls.{SentNothing}
-use Rattle.hotsync_run.specs.Told.{CallTold, FolderTold}
+use Rattle.call_parts.specs.Told.{CallTold, FolderTold}
 use Rattle.hotsync_run.specs.Undisturbed.{EndsWell}
 use Rattle.hotsync_run.proofs.UndisturbedLaws.{BlamesNone, by_end_well, failed_desktop, failed_handheld, judged_handheld, judged_script, never_aborted, never_unplugged}
-use Rattle.hotsync_run.specs.declared.report.Report.{Report}
+use Rattle.call_parts.specs.declared.report.Report.{Report}
 use Rattle.hotsync_looks.specs.declared.status.Status.{Status}
 use Rattle.hotsync_looks.specs.declared.status.Status.TheVariants.{HandheldFolder, DesktopFolder}
 use Rattle.hotsync_looks.specs.declared.status.Status.TheVariants.{Done, TraceWrite, OutWrite, NoMemory, LineDown, Unplugged, Aborted, Undetected}

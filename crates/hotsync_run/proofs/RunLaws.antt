@@ -7,18 +7,18 @@ use Rattle.desk_store.specs.declared.fault.DeskOpenFault.{DeskOpenFault}
 use Rattle.run_words.specs.Runs.{Run}
 use Rattle.hotsync_run.specs.Clean.{IsLineStop}
 use Rattle.hotsync_looks.specs.Printed.{IsPrintedStatus}
-use Rattle.hotsync_run.specs.Refusals.{IsDesktopFailure, IsHandheldFailure}
-use Rattle.hotsync_run.specs.Refusals.{IsRefused}
+use Rattle.call_parts.specs.Refusals.{IsDesktopFailure, IsHandheldFailure}
+use Rattle.call_parts.specs.Refusals.{IsRefused}
 use Rattle.hotsync_looks.specs.FolderFaults.{desktop_status, handheld_status}
 use Rattle.hotsync_run.specs.Runs.{HasRun, SessionRan, run_command}
-use Rattle.hotsync_run.specs.Scripts.{IsScriptRefusal}
+use Rattle.call_parts.specs.Scripts.{IsScriptRefusal}
 use Rattle.hotsync_looks.specs.Told.{SinkTold}
-use Rattle.hotsync_run.specs.Told.{CallTold}
-use Rattle.hotsync_run.specs.Traces.{TakesTrace}
+use Rattle.call_parts.specs.Told.{CallTold}
+use Rattle.call_parts.specs.Traces.{TakesTrace}
 use Rattle.hotsync_run.proofs.CallPrinted.{IsPrintable, call_printed}
-use Rattle.hotsync_run.proofs.RetoldLaws.{IsRetold, StaysShown}
-use Rattle.hotsync_run.proofs.TraceLaws.{talked_retold}
-use Rattle.hotsync_run.specs.declared.report.Report.{Report}
+use Rattle.call_parts.proofs.RetoldLaws.{IsRetold, StaysShown}
+use Rattle.hotsync_run.proofs.RetoldTalks.{talked_retold}
+use Rattle.call_parts.specs.declared.report.Report.{Report}
 use Rattle.hotsync_looks.specs.declared.status.Status.{Status}
 use Rattle.hotsync_looks.specs.declared.status.Status.TheVariants.{Done, NoMemory}
 

@@ -20,22 +20,24 @@ use Rattle.sync_session.specs.Outcomes.{StandsForSlots}
 use Rattle.session_plan.specs.Tasks.{Meeting, meeting_of}
 use Rattle.trace_text.specs.declared.frame.End.TheVariants as line_end
 use Rattle.hotsync_run.specs.Ends.{SessionLeft}
-use Rattle.hotsync_run.specs.LineRuns.{LineRan, exchanges_in}
+use Rattle.call_parts.specs.LineRuns.{LineRan, exchanges_in}
 use Rattle.hotsync_looks.specs.Opening.{Opens, OpensGiven, OpensGivenAtMost}
-use Rattle.hotsync_run.specs.Refusals.{BlamesSource}
-use Rattle.hotsync_run.specs.Refusals.{LeavesDesktopUnread}
-use Rattle.hotsync_run.specs.Runs.{HasRun, SessionRan, StandsAsItDid, run_command}
-use Rattle.hotsync_run.specs.SessionCalls.{SentNothing, StaysAsItWas}
-use Rattle.hotsync_run.specs.Sessions.{Agenda, KeptSilent, Spoke, StandsAtFront}
-use Rattle.hotsync_run.specs.Scripts.{IsScripted}
+use Rattle.call_parts.specs.Refusals.{BlamesSource}
+use Rattle.call_parts.specs.Refusals.{LeavesDesktopUnread}
+use Rattle.hotsync_run.specs.Runs.{HasRun, SessionRan, run_command}
+use Rattle.call_parts.specs.Stays.{StandsAsItDid}
+use Rattle.hotsync_run.specs.SessionCalls.{SentNothing}
+use Rattle.call_parts.specs.Stays.{StaysAsItWas}
+use Rattle.call_parts.specs.Sessions.{Agenda, KeptSilent, Spoke, StandsAtFront}
+use Rattle.call_parts.specs.Scripts.{IsScripted}
 use Rattle.hotsync_run.specs.Talks.{DesktopRan, IsRunTalk, BegunSession, TalkedFor}
 use Rattle.hotsync_looks.specs.Told.{SinkTold, SourceTold}
-use Rattle.hotsync_run.specs.Told.{CallTold, FolderTold, SidesTold, sides_of}
-use Rattle.hotsync_run.specs.Traces.{TakesTrace, TracesReport}
-use Rattle.hotsync_run.proofs.RetoldLaws.{by_end_then}
-use Rattle.hotsync_run.proofs.TraceLaws.{talk_not_in_use, talk_not_source}
-use Rattle.hotsync_run.specs.declared.report.Report.{Report}
-use Rattle.hotsync_run.specs.declared.report.SessionEnd.{SessionEnd}
+use Rattle.call_parts.specs.Told.{CallTold, FolderTold, SidesTold, sides_of}
+use Rattle.call_parts.specs.Traces.{TakesTrace, TracesReport}
+use Rattle.call_parts.proofs.RetoldLaws.{by_end_then}
+use Rattle.call_parts.proofs.TraceLaws.{talk_not_in_use, talk_not_source, traced_from}
+use Rattle.call_parts.specs.declared.report.Report.{Report}
+use Rattle.call_parts.specs.declared.report.SessionEnd.{SessionEnd}
 use Rattle.hotsync_looks.specs.declared.status.Status.{Status}
 use Rattle.folder_copies.proofs.CopyLaws.{rose_before}
 
@@ -105,18 +107,6 @@ talked_from {rules} {meeting} {first} before {after} {report} stays stood talked
   left = left_from stood talked.left;
   shows = talked.shows;
 }
-
-pub traced_from : {path : Option (List ℕ)} {text : List ℕ} (first : SinkTold) {before after : SinkTold} {status : Status} → before.taken ≡ first.taken
-    → first.faults ≤ before.faults → TakesTrace path text before after status → TakesTrace path text first after status
-traced_from {text} first {before} {after} same later traced =
-    let whole : option_map (λ taken. taken ++ text) before.taken ≡ option_map (λ taken. taken ++ text) first.taken =
-    ap (λ (told : Option (List ℕ)). option_map (λ taken. taken ++ text) told) same in
-    record {
-      part = subst (λ (told : Option (List ℕ)). AppendsPrefix told after.taken text) same traced.part;
-      done = λ named done. traced.done named done ∙ whole;
-      whole = λ named calm is.
-          traced.whole named (λ rose. calm (rose_before (2 ^ 64 - 1) first.faults before.faults after.faults later rose)) is ∙ whole;
-    }
 
 -- the desktop's folder, from before its journal was finished on
 desktop_ran : {meeting : Meeting} {first : FolderTold} (before : FolderTold) {after : FolderTold} {end : SessionEnd} → before.contents ≡ option_map finished first.contents

@@ -21,14 +21,14 @@ use Rattle.front_laws.specs.Sound.{IsSoundMeeting}
 use Rattle.front_laws.proofs.FrontLaws.{front-among, front-behind}
 use Rattle.hotsync_run.specs.Ends.{SessionLeft}
 use Rattle.hotsync_run.specs.Kept.{KeepsBytes}
-use Rattle.hotsync_run.specs.LineRuns.{LineRan, exchanges_in, log_in}
-use Rattle.hotsync_run.specs.Told.{FolderTold}
-use Rattle.hotsync_run.specs.declared.report.Report.{Report}
-use Rattle.hotsync_run.proofs.EndLaws.{performed-prefix, prefix-count}
-use Rattle.hotsync_run.proofs.FrontLaws.{exchanged-requests}
-use Rattle.hotsync_run.proofs.FrontMoments.{front-some, replies_of, requests_of}
+use Rattle.call_parts.specs.LineRuns.{LineRan, exchanges_in, log_in}
+use Rattle.call_parts.specs.Told.{FolderTold}
+use Rattle.call_parts.specs.declared.report.Report.{Report}
+use Rattle.call_parts.proofs.EndLaws.{performed-prefix, prefix-count}
+use Rattle.call_parts.proofs.FrontLaws.{exchanged-requests}
+use Rattle.call_parts.proofs.FrontMoments.{front-some, replies_of, requests_of}
 use Rattle.hotsync_run.proofs.KeptLaws.{HasSkipped, KeepsSkipped, kept-ran}
-use Rattle.hotsync_run.proofs.LineLaws.{exchanged-parts}
+use Rattle.call_parts.proofs.LineLaws.{exchanged-parts}
 use Rattle.hotsync_run.proofs.QuietRuns.{quiet-run}
 use Rattle.hotsync_run.proofs.BackupActLaws.{none-of}
 

@@ -27,17 +27,17 @@ use Rattle.session_plan.specs.Tasks.{Meeting}
 use Rattle.session_parts.specs.declared.report.DbReport.{DbReport}
 use Rattle.session_parts.specs.declared.stop.Stop.{Stop}
 use Rattle.session_parts.specs.declared.stop.Stop.TheVariants as stop
-use Rattle.hotsync_run.specs.Causes.{IsCutShort, down_status, fault_status, stop_status}
+use Rattle.call_parts.specs.Causes.{IsCutShort, down_status, fault_status, stop_status}
 use Rattle.hotsync_run.specs.Ends.{IsToldRefusal, StatusShows, status_refused}
-use Rattle.hotsync_run.specs.LineRuns.{SaidAll}
-use Rattle.hotsync_run.specs.Closings.{left_status}
-use Rattle.hotsync_run.specs.Told.{FolderTold}
-use Rattle.hotsync_run.specs.declared.report.Report.{Report}
+use Rattle.call_parts.specs.LineRuns.{SaidAll}
+use Rattle.call_parts.specs.Closings.{left_status}
+use Rattle.call_parts.specs.Told.{FolderTold}
+use Rattle.call_parts.specs.declared.report.Report.{Report}
 use Rattle.hotsync_looks.specs.declared.status.Status.{Status}
 use Rattle.hotsync_looks.specs.declared.status.Status.TheVariants.{Limit, NewHandheld, NoMemory}
-use Rattle.hotsync_run.proofs.EndLaws.{logged_all}
+use Rattle.call_parts.proofs.EndLaws.{logged_all}
 use Rattle.hotsync_run.proofs.LeftLaws.{EndsOver, Tells}
-use Rattle.hotsync_run.proofs.NeverLaws.{IsUnrefusedEnd, IsUnrefusedStop}
+use Rattle.call_parts.proofs.SpokeLaws.{IsUnrefusedEnd, IsUnrefusedStop}
 use Rattle.hotsync_run.proofs.InstallSaid.{down_cut}
 
 -- ---- the cause of a stop

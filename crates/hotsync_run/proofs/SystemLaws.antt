@@ -8,7 +8,7 @@ use Rattle.run_words.specs.Helps.{help_of}
 use Rattle.hotsync_run.specs.Calls.{task_in}
 use Rattle.hotsync_looks.specs.Codes.{code_of}
 use Rattle.hotsync_run.specs.Systems.{EndsProgram, IsSystemCall}
-use Rattle.hotsync_run.specs.declared.report.Report.{Report}
+use Rattle.call_parts.specs.declared.report.Report.{Report}
 use Rattle.hotsync_looks.specs.declared.status.Status.{Status}
 
 -- a call for the words that were handed over, or for none

@@ -22,19 +22,19 @@ use Rattle.session_parts.specs.declared.stop.Stop.{Stop}
 use Rattle.session_plan.specs.Tasks.{Meeting, meeting_of}
 use Rattle.session_plan.specs.declared.wishes.Wishes.{Wishes}
 use Rattle.front_laws.specs.Sound.{IsSoundMeeting}
-use Rattle.hotsync_run.specs.Closings.{Closes, left_end, left_in}
+use Rattle.call_parts.specs.Closings.{Closes, left_end, left_in}
 use Rattle.hotsync_run.specs.Ends.{SessionLeft}
-use Rattle.hotsync_run.specs.Sessions.{KeptSilent}
+use Rattle.call_parts.specs.Sessions.{KeptSilent}
 use Rattle.hotsync_run.specs.Talks.{DesktopRan, IsRunTalk, BegunSession, TalkedFor}
-use Rattle.hotsync_run.specs.Told.{FolderTold, SidesTold, folder_told}
+use Rattle.call_parts.specs.Told.{FolderTold, SidesTold, folder_told}
 use Rattle.hotsync_run.specs.Wishes.{AsksFor}
 use Rattle.hotsync_run.proofs.LeftLaws.{EndsOver, Tells, session_left}
-use Rattle.hotsync_run.proofs.LineLaws.{line_ran}
+use Rattle.call_parts.proofs.LineLaws.{line_ran}
 use Rattle.hotsync_run.proofs.MeetingSaid.{meeting_said}
-use Rattle.hotsync_run.proofs.SpokeLaws.{by_left, ended_ok, left_desk, palm_blamed, spoke}
+use Rattle.call_parts.proofs.SpokeLaws.{by_left, ended_ok, left_desk, palm_blamed, spoke}
 use Rattle.hotsync_run.proofs.StatusLaws.{refusal_told, status_shows}
-use Rattle.hotsync_run.specs.declared.report.Report.{Report}
-use Rattle.hotsync_run.specs.declared.report.SessionEnd.{SessionEnd}
+use Rattle.call_parts.specs.declared.report.Report.{Report}
+use Rattle.call_parts.specs.declared.report.SessionEnd.{SessionEnd}
 use Rattle.hotsync_looks.specs.declared.status.Status.{Status}
 use Rattle.front_laws.specs.Answered.{IsAnsweredExchange}
 use Rattle.hotsync_run.proofs.AnsweredRuns.{session_answered}

@@ -23,21 +23,21 @@ use Rattle.desk_store.specs.declared.fault.DeskOpenFault.{DeskOpenFault}
 use Rattle.run_words.specs.Runs.{Run}
 use Rattle.session_plan.specs.Tasks.{Meeting}
 use Rattle.trace_text.specs.declared.frame.End.TheVariants as line_end
-use Rattle.hotsync_run.specs.Causes.{ByEnd, EndsAs, IsLineDown, cause_in}
+use Rattle.call_parts.specs.Causes.{ByEnd, EndsAs, IsLineDown, cause_in}
 use Rattle.hotsync_run.specs.Ends.{StatusShows}
-use Rattle.hotsync_run.specs.LineRuns.{frames_in}
+use Rattle.call_parts.specs.LineRuns.{frames_in}
 use Rattle.hotsync_looks.specs.Printed.{IsPrinted}
 use Rattle.hotsync_looks.specs.FolderFaults.{desktop_status, handheld_status}
-use Rattle.hotsync_run.specs.Refusals.{DesktopRefuses, HandheldRefuses, IsDesktopFailure, IsHandheldFailure, IsRefused}
-use Rattle.hotsync_run.specs.Refusals.{is_desktop, is_handheld}
+use Rattle.call_parts.specs.Refusals.{DesktopRefuses, HandheldRefuses, IsDesktopFailure, IsHandheldFailure, IsRefused}
+use Rattle.call_parts.specs.Refusals.{is_desktop, is_handheld}
 use Rattle.hotsync_run.specs.Runs.{HasRun, SessionRan, run_command}
 use Rattle.hotsync_run.specs.SessionCalls.{SentNothing}
-use Rattle.hotsync_run.specs.Scripts.{IsScript, IsScriptRefusal, ScriptRefuses, ScriptShows}
+use Rattle.call_parts.specs.Scripts.{IsScript, IsScriptRefusal, ScriptRefuses, ScriptShows}
 use Rattle.hotsync_looks.specs.Told.{SinkTold}
-use Rattle.hotsync_run.specs.Told.{CallTold}
+use Rattle.call_parts.specs.Told.{CallTold}
 use Rattle.hotsync_run.specs.Undisturbed.{EndsWell, IsGoodDesktop, IsGoodHandheld, IsGoodScript, IsUndisturbed, MayMeet}
-use Rattle.hotsync_run.specs.declared.report.Report.{Report}
-use Rattle.hotsync_run.specs.declared.report.SessionEnd.{SessionEnd}
+use Rattle.call_parts.specs.declared.report.Report.{Report}
+use Rattle.call_parts.specs.declared.report.SessionEnd.{SessionEnd}
 use Rattle.hotsync_looks.specs.declared.status.Status.{Status}
 use Rattle.hotsync_looks.specs.declared.status.Status.TheVariants.{BadScript, TooLong, HandheldFolder, DesktopFolder, SourceRead}
 use Rattle.hotsync_looks.specs.declared.status.Status.TheVariants.{Done, TraceWrite, OutWrite, NoMemory, LineDown, Unplugged, Aborted, Undetected}

@@ -11,11 +11,11 @@ use Rattle.repeat_laws.specs.Renaming.{AreUnknown, SameEnds}
 use Rattle.repeat_laws.specs.Repeats.{GotAllIds}
 use Rattle.front_laws.specs.Again.{AllSkip, EndsAtMerge, HoldsTheSame, IsFreshBehind, Later, last_run}
 use Rattle.hotsync_run.specs.Headline.{IsAnsweredRun, RunCall}
-use Rattle.hotsync_run.specs.LineRuns.{log_in}
+use Rattle.call_parts.specs.LineRuns.{log_in}
 use Rattle.hotsync_run.specs.Meetings.{Meets}
-use Rattle.hotsync_run.specs.Told.{CallTold}
-use Rattle.hotsync_run.specs.declared.report.SessionEnd.{SessionEnd}
-use Rattle.hotsync_run.specs.declared.report.SessionEnd.TheVariants.{Ended, NotStarted}
+use Rattle.call_parts.specs.Told.{CallTold}
+use Rattle.call_parts.specs.declared.report.SessionEnd.{SessionEnd}
+use Rattle.call_parts.specs.declared.report.SessionEnd.TheVariants.{Ended, NotStarted}
 
 -- ---- both sides before a run
 

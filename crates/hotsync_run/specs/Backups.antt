@@ -28,42 +28,20 @@ use Rattle.run_words.specs.Betweens.{Between}
 use Rattle.hotsync_looks.specs.Told.{SinkTold}
 use Rattle.hotsync_looks.specs.declared.status.Status.{Status}
 use Rattle.hotsync_looks.specs.declared.status.Status.TheVariants.{Limit, NewHandheld, NotBackupFolder, OtherUser, TooManyUsers}
-use Rattle.hotsync_run.specs.LineRuns.{SaidAll, frames_in, log_in}
-use Rattle.hotsync_run.specs.Refusals.{HandheldRefuses, HasHandheld, IsDesktopFailure, TraceRefuses, is_desktop, is_handheld}
-use Rattle.hotsync_run.specs.Scripts.{HasScript, IsScripted, ScriptRefuses}
-use Rattle.hotsync_run.specs.SessionCalls.{IsSessionCall, MayHaveSession, Paths, SessionCommand, StaysAsItWas}
-use Rattle.hotsync_run.specs.Sessions.{Agenda, HadSession, IsTalk}
-use Rattle.hotsync_run.specs.Told.{CallTold, FolderTold, SidesTold, sides_of}
-use Rattle.hotsync_run.specs.Traces.{TakesTrace}
+use Rattle.call_parts.specs.LineRuns.{SaidAll, frames_in, log_in}
+use Rattle.call_parts.specs.Refusals.{HandheldRefuses, HasHandheld, IsDesktopFailure, TraceRefuses, is_desktop, is_handheld}
+use Rattle.call_parts.specs.Scripts.{HasScript, IsScripted, ScriptRefuses}
+use Rattle.call_parts.specs.Files.{FilesRefuse, StandsApart, is_synced}
+use Rattle.hotsync_run.specs.SessionCalls.{IsSessionCall, MayHaveSession, Paths, SessionCommand}
+use Rattle.call_parts.specs.Stays.{StaysAsItWas}
+use Rattle.call_parts.specs.Sessions.{Agenda, HadSession, IsTalk}
+use Rattle.call_parts.specs.Told.{CallTold, FolderTold, SidesTold, sides_of}
+use Rattle.call_parts.specs.Traces.{TakesTrace}
 use Rattle.hotsync_run.specs.Undisturbed.{IsGoodHandheld, IsGoodScript, IsKindScript, NoneFailed}
-use Rattle.hotsync_run.specs.declared.report.Report.{Report}
-use Rattle.hotsync_run.specs.declared.report.SessionEnd.TheVariants.{Ended}
+use Rattle.call_parts.specs.declared.report.Report.{Report}
+use Rattle.call_parts.specs.declared.report.SessionEnd.TheVariants.{Ended}
 
 -- ---- a backup that sent nothing
-
--- files of a folder that is synchronised: the information file of a side, or a desktop's journal
-abbrev pub is_synced : FileMap → Bool
-is_synced files = is_desktop files || (is_handheld files || finmap.contains_key files journal_file)
-
--- names that list such a file
-abbrev pub lists_synced : List (String Global) → Bool
-lists_synced names =
-    list_any (λ other. bytes_eq desktop_info_file (string_bytes other)) names
-    || (list_any (λ other. bytes_eq device_info_file (string_bytes other)) names
-    || list_any (λ other. bytes_eq journal_file (string_bytes other)) names)
-
--- the folder for the files is one that is synchronised
-pub record IsSyncedFolder (kept : Option FileMap) (refusal : Status) : Type 0 where
-  pub is : refusal ≡ NotBackupFolder
-  pub synced : IfSome kept (λ files. is_synced files ≡ true)
-
--- the folder for the files was not taken
-abbrev pub FilesRefuse : Option FileMap → Status → Type 0
-FilesRefuse kept refusal = IsDesktopFailure refusal ⊎ IsSyncedFolder kept refusal
-
--- it tells no files of a folder that is synchronised
-abbrev pub StandsApart : Option FileMap → Type 0
-StandsApart kept = IfSome kept (λ files. is_synced files ≡ false)
 
 -- The script is judged first, then the handheld's folder, then that for the files, and last the
 -- trace is opened. Each is judged where all that comes before it is good.

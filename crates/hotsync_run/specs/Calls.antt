@@ -21,9 +21,9 @@ use Rattle.hotsync_run.specs.Runs.{IsRun, run_paths}
 use Rattle.hotsync_run.specs.SessionCalls.{Paths}
 use Rattle.hotsync_looks.specs.Scans.{IsScanned}
 use Rattle.hotsync_looks.specs.Told.{SinkTold, sink_told}
-use Rattle.hotsync_run.specs.Told.{CallTold, SidesTold, call_told, sides_told}
-use Rattle.hotsync_run.specs.declared.answer.Answer.{Answer}
-use Rattle.hotsync_run.specs.declared.report.Report.{Report}
+use Rattle.call_parts.specs.Told.{CallTold, SidesTold, call_told, sides_told}
+use Rattle.call_parts.specs.declared.answer.Answer.{Answer}
+use Rattle.call_parts.specs.declared.report.Report.{Report}
 use Rattle.hotsync_looks.specs.declared.status.Status.{Status}
 use Rattle.hotsync_looks.specs.declared.status.Status.TheVariants.{NoMemory}
 

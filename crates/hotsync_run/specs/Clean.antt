@@ -3,9 +3,9 @@ use Rattle.std.specs.Prelude.{◌≡◌, ⊤, ℕ, false, List, [], ◌∷◌, O
 use Rattle.trace_text.specs.declared.frame.End.{End}
 use Rattle.trace_text.specs.Frames.{past_of}
 use Rattle.trace_text.specs.Past.{PastFrame, is_repeat}
-use Rattle.hotsync_run.specs.LineRuns.{frames_in}
-use Rattle.hotsync_run.specs.Scripts.{IsScript}
-use Rattle.hotsync_run.specs.declared.report.Report.{Report}
+use Rattle.call_parts.specs.LineRuns.{frames_in}
+use Rattle.call_parts.specs.Scripts.{IsScript}
+use Rattle.call_parts.specs.declared.report.Report.{Report}
 use Rattle.hotsync_looks.specs.declared.status.Status.{Status}
 use Rattle.hotsync_looks.specs.declared.status.Status.TheVariants.{LineDown, Unplugged, Aborted, Undetected}
 

@@ -4,10 +4,11 @@ use Rattle.hs_folders.specs.Causes.{Rose}
 use Rattle.folder_copies.specs.Copies.{IsCopy}
 use Rattle.run_words.specs.Runs.{Run}
 use Rattle.hotsync_run.specs.Runs.{HasRun, IsRun, run_paths}
-use Rattle.hotsync_run.specs.SessionCalls.{BlamesByCount, OpensNamed, StaysAsItWas}
+use Rattle.hotsync_run.specs.SessionCalls.{BlamesByCount, OpensNamed}
+use Rattle.call_parts.specs.Stays.{StaysAsItWas}
 use Rattle.hotsync_looks.specs.Told.{SinkTold}
-use Rattle.hotsync_run.specs.Told.{CallTold, FolderTold, SidesTold}
-use Rattle.hotsync_run.specs.declared.report.Report.{Report}
+use Rattle.call_parts.specs.Told.{CallTold, FolderTold, SidesTold}
+use Rattle.call_parts.specs.declared.report.Report.{Report}
 use Rattle.hotsync_looks.specs.declared.status.Status.{Status}
 
 -- A folder was only read. At first its copy held all that it held; or the copy tells nothing, and

@@ -25,13 +25,15 @@ use Rattle.hotsync_looks.specs.Served.{served_lines}
 use Rattle.hotsync_looks.specs.Told.{SinkTold}
 use Rattle.hotsync_looks.specs.declared.status.Status.{Status}
 use Rattle.hotsync_looks.specs.declared.status.Status.TheVariants.{Done, SourceRead, TraceWrite, HandheldFolder, StreamEnded, StreamAborted, BadHello, TooLong, NoMemory}
-use Rattle.hotsync_run.specs.Refusals.{HandheldRefuses, HasHandheld, IsTraceRefusal}
-use Rattle.hotsync_run.specs.Reports.{IsNotStarted}
-use Rattle.hotsync_run.specs.SessionCalls.{BlamesByCount, Paths, StaysAsItWas}
-use Rattle.hotsync_run.specs.Told.{CallTold, FolderTold}
+use Rattle.call_parts.specs.Refusals.{HandheldRefuses, HasHandheld, IsTraceRefusal}
+use Rattle.call_parts.specs.Reports.{IsNotStarted}
+use Rattle.hotsync_run.specs.SessionCalls.{BlamesByCount, Paths}
+use Rattle.call_parts.specs.Stays.{StaysAsItWas}
+use Rattle.call_parts.specs.Stays.{WentWith}
+use Rattle.call_parts.specs.Told.{CallTold, FolderTold}
 use Rattle.hotsync_run.specs.Undisturbed.{IsGoodHandheld, NoneFailed}
-use Rattle.hotsync_run.specs.declared.report.Report.{Report}
-use Rattle.hotsync_run.specs.declared.report.SessionEnd.TheVariants.{NotStarted}
+use Rattle.call_parts.specs.declared.report.Report.{Report}
+use Rattle.call_parts.specs.declared.report.SessionEnd.TheVariants.{NotStarted}
 
 -- ---- no talk was begun
 
@@ -98,18 +100,6 @@ pub record TellsHand (hand : Hand) (report : Report) : Type 0 where
   pub faulted : report.faulted.items ≡ []
   pub to_handheld : report.to_handheld ≡ None
   pub to_desktop : report.to_desktop ≡ None
-
--- Each request that a hand performed was one step of the handheld, with its reply. The folder
--- stands for the handheld after the last step, and at each moment it stood for the handheld after
--- some of them; its files went with the steps, each of which touched one file at most.
-pub record WentWith (device : Device) (hand : Hand) (before after : FolderTold) : Type 0 where
-  pub ran : DeviceRun device hand.performed hand.replies hand.device
-  pub stands : Stands after.contents hand.device.databases hand.device.user
-  pub moments : EachMomentSince
-      (StoodAfterSome device (exchanged hand.performed hand.replies)) before.moments after.moments
-  pub files : FilesRan before.contents device (exchanged hand.performed hand.replies)
-      after.contents hand.device
-  pub others : OthersStay before.contents after.contents
 
 -- A talk of this handheld: how it ended, what was heard and said until then, what is told of it,
 -- and what became of the folder. The sink took what the handheld says to these bytes.

@@ -18,11 +18,11 @@ use Rattle.session_plan.specs.Reports.{reports}
 use Rattle.sync_session.specs.Sessions.{before_writes, requests, writes_before_commit}
 use Rattle.session_plan.specs.Tasks.{Meeting}
 use Rattle.front_laws.specs.Sound.{IsSoundMeeting}
-use Rattle.hotsync_run.specs.Causes.{IsCutShort, fault_status}
-use Rattle.hotsync_run.specs.LineRuns.{SaidAll, log_in}
-use Rattle.hotsync_run.specs.Told.{FolderTold}
-use Rattle.hotsync_run.specs.declared.report.Report.{Report}
-use Rattle.hotsync_run.specs.declared.report.SessionEnd.TheVariants.{Ended, Stopped}
+use Rattle.call_parts.specs.Causes.{IsCutShort, fault_status}
+use Rattle.call_parts.specs.LineRuns.{SaidAll, log_in}
+use Rattle.call_parts.specs.Told.{FolderTold}
+use Rattle.call_parts.specs.declared.report.Report.{Report}
+use Rattle.call_parts.specs.declared.report.SessionEnd.TheVariants.{Ended, Stopped}
 use Rattle.hotsync_looks.specs.declared.status.Status.{Status}
 use Rattle.hotsync_looks.specs.declared.status.Status.TheVariants.{DesktopFolder, OtherUser}
 use Rattle.hotsync_looks.specs.declared.status.Status.TheVariants.{TooManyUsers, Limit, NewHandheld}

@@ -8,7 +8,7 @@ use Rattle.session_plan.specs.Tasks.{Meeting}
 use Rattle.repeat_laws.specs.Meetings.{IsActive, holding}
 use Rattle.front_laws.specs.Equal.{HasEqualSides, IsShownWhole}
 use Rattle.hotsync_run.specs.Headline.{RunCall}
-use Rattle.hotsync_run.specs.LineRuns.{log_in}
+use Rattle.call_parts.specs.LineRuns.{log_in}
 use Rattle.hotsync_run.specs.Meetings.{Meets}
 
 -- Both folders stand for the merge under the ids that new records got. Of each database that wasn't

@@ -7,7 +7,7 @@ use Rattle.run_words.specs.Betweens.{Between}
 use Rattle.run_words.specs.Commands.{Categories}
 use Rattle.hotsync_run.specs.Again.{AreTold}
 use Rattle.hotsync_run.specs.Calls.{Call, IsAnsweredCall}
-use Rattle.hotsync_run.specs.Told.{CallTold}
+use Rattle.call_parts.specs.Told.{CallTold}
 
 -- both calls are for categories, and their folders are told; nothing is edited between them
 pub record IsSecondCall (first second : Call) : Type 0 where

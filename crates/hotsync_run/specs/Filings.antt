@@ -24,18 +24,18 @@ use Rattle.run_words.specs.Betweens.{Between}
 use Rattle.hotsync_looks.specs.Told.{SinkTold}
 use Rattle.hotsync_looks.specs.declared.status.Status.{Status}
 use Rattle.hotsync_looks.specs.declared.status.Status.TheVariants.{DesktopFolder, Limit, NewHandheld, OtherUser, TooManyUsers}
-use Rattle.hotsync_run.specs.Causes.{IsCutShort, fault_status}
-use Rattle.hotsync_run.specs.LineRuns.{SaidAll, frames_in, log_in}
-use Rattle.hotsync_run.specs.Refusals.{DesktopRefuses, HandheldRefuses, HasDesktop, HasHandheld, TraceRefuses}
+use Rattle.call_parts.specs.Causes.{IsCutShort, fault_status}
+use Rattle.call_parts.specs.LineRuns.{SaidAll, frames_in, log_in}
+use Rattle.call_parts.specs.Refusals.{DesktopRefuses, HandheldRefuses, HasDesktop, HasHandheld, TraceRefuses}
 use Rattle.hotsync_run.specs.Runs.{KeepsDesktop}
-use Rattle.hotsync_run.specs.Scripts.{HasScript, IsScripted, ScriptRefuses}
+use Rattle.call_parts.specs.Scripts.{HasScript, IsScripted, ScriptRefuses}
 use Rattle.hotsync_run.specs.SessionCalls.{IsSessionCall, MayHaveSession, Paths, SessionCommand}
-use Rattle.hotsync_run.specs.Sessions.{Agenda, HadSession, IsTalk}
-use Rattle.hotsync_run.specs.Told.{CallTold, FolderTold, SidesTold, sides_of}
-use Rattle.hotsync_run.specs.Traces.{TakesTrace}
+use Rattle.call_parts.specs.Sessions.{Agenda, HadSession, IsTalk}
+use Rattle.call_parts.specs.Told.{CallTold, FolderTold, SidesTold, sides_of}
+use Rattle.call_parts.specs.Traces.{TakesTrace}
 use Rattle.hotsync_run.specs.Undisturbed.{AreGood, IsGoodScript, IsKindScript, NoneFailed}
-use Rattle.hotsync_run.specs.declared.report.Report.{Report}
-use Rattle.hotsync_run.specs.declared.report.SessionEnd.TheVariants.{Ended, Stopped}
+use Rattle.call_parts.specs.declared.report.Report.{Report}
+use Rattle.call_parts.specs.declared.report.SessionEnd.TheVariants.{Ended, Stopped}
 
 -- ---- a call that sent nothing
 

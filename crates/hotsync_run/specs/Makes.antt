@@ -18,15 +18,15 @@ use Rattle.made_folders.specs.Items.{made}
 use Rattle.made_folders.specs.Sides.{desktop_files, handheld_files}
 use Rattle.made_folders.specs.declared.item.Item.{Item}
 use Rattle.made_folders.specs.Numbers.{kinds}
-use Rattle.hotsync_run.specs.Causes.{ByEnd}
+use Rattle.call_parts.specs.Causes.{ByEnd}
 use Rattle.hotsync_looks.specs.Lines.{done_lines}
 use Rattle.hotsync_looks.specs.Printed.{IsPrinted}
-use Rattle.hotsync_run.specs.Reports.{IsNotStarted}
+use Rattle.call_parts.specs.Reports.{IsNotStarted}
 use Rattle.hotsync_run.specs.Talks.{TalkedFor}
 use Rattle.hotsync_looks.specs.Told.{SinkTold}
-use Rattle.hotsync_run.specs.Told.{FolderTold, SidesTold}
-use Rattle.hotsync_run.specs.declared.report.Report.{Report}
-use Rattle.hotsync_run.specs.declared.report.SessionEnd.TheVariants.{Ended}
+use Rattle.call_parts.specs.Told.{FolderTold, SidesTold}
+use Rattle.call_parts.specs.declared.report.Report.{Report}
+use Rattle.call_parts.specs.declared.report.SessionEnd.TheVariants.{Ended}
 use Rattle.hotsync_looks.specs.declared.status.Status.{Status}
 use Rattle.hotsync_looks.specs.declared.status.Status.TheVariants.{Done, OutWrite, NoMemory}
 

@@ -7,7 +7,7 @@ use Rattle.desk_journal.specs.Overlays.{finished}
 use Rattle.desk_store.specs.Desks.{IsDesk}
 use Rattle.run_words.specs.Runs.{Run}
 use Rattle.session_plan.specs.Tasks.{Meeting, place_for}
-use Rattle.hotsync_run.specs.Told.{CallTold}
+use Rattle.call_parts.specs.Told.{CallTold}
 use Rattle.hotsync_run.specs.Wishes.{AsksFor}
 
 -- The meeting of what the folders of a run hold, by what its words ask: the handheld, without an

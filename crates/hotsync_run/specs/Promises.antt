@@ -22,9 +22,9 @@ use Rattle.hotsync_run.specs.Installs.{InstallRan}
 use Rattle.hotsync_run.specs.Meetings.{Meets}
 use Rattle.hotsync_run.specs.Restores.{RestoreRan}
 use Rattle.hotsync_run.specs.Runs.{IsRun}
-use Rattle.hotsync_run.specs.Told.{CallTold}
+use Rattle.call_parts.specs.Told.{CallTold}
 use Rattle.hotsync_run.specs.Undisturbed.{IsCalm}
-use Rattle.hotsync_run.specs.declared.report.Report.{Report}
+use Rattle.call_parts.specs.declared.report.Report.{Report}
 
 -- a fact holds of each answered call for words of this command
 abbrev pub EachCall : {W : Type 0} → (W → WordTask) → (Call → W → Type 0) → Type 0

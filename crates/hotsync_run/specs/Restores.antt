@@ -26,17 +26,18 @@ use Rattle.hotsync_looks.specs.Told.{SinkTold}
 use Rattle.hotsync_looks.specs.declared.status.Status.{Status}
 use Rattle.hotsync_looks.specs.declared.status.Status.TheVariants.{DesktopFolder, Limit, NewHandheld, OtherUser, TooManyUsers}
 use Rattle.hotsync_run.specs.Besides.{StandsBeside}
-use Rattle.hotsync_run.specs.Causes.{IsCutShort}
-use Rattle.hotsync_run.specs.LineRuns.{SaidAll, frames_in}
-use Rattle.hotsync_run.specs.Refusals.{HandheldRefuses, HasHandheld, IsDesktopFailure, TraceRefuses}
-use Rattle.hotsync_run.specs.Scripts.{HasScript, IsScripted, ScriptRefuses}
-use Rattle.hotsync_run.specs.SessionCalls.{IsSessionCall, MayHaveSession, Paths, SessionCommand, StaysAsItWas}
-use Rattle.hotsync_run.specs.Sessions.{Agenda, HadSession, IsTalk}
-use Rattle.hotsync_run.specs.Told.{CallTold, FolderTold, SidesTold}
-use Rattle.hotsync_run.specs.Traces.{TakesTrace}
+use Rattle.call_parts.specs.Causes.{IsCutShort}
+use Rattle.call_parts.specs.LineRuns.{SaidAll, frames_in}
+use Rattle.call_parts.specs.Refusals.{HandheldRefuses, HasHandheld, IsDesktopFailure, TraceRefuses}
+use Rattle.call_parts.specs.Scripts.{HasScript, IsScripted, ScriptRefuses}
+use Rattle.hotsync_run.specs.SessionCalls.{IsSessionCall, MayHaveSession, Paths, SessionCommand}
+use Rattle.call_parts.specs.Stays.{StaysAsItWas}
+use Rattle.call_parts.specs.Sessions.{Agenda, HadSession, IsTalk}
+use Rattle.call_parts.specs.Told.{CallTold, FolderTold, SidesTold}
+use Rattle.call_parts.specs.Traces.{TakesTrace}
 use Rattle.hotsync_run.specs.Undisturbed.{IsGoodHandheld, IsGoodScript, IsKindScript, NoneFailed}
-use Rattle.hotsync_run.specs.declared.report.Report.{Report}
-use Rattle.hotsync_run.specs.declared.report.SessionEnd.TheVariants.{Ended}
+use Rattle.call_parts.specs.declared.report.Report.{Report}
+use Rattle.call_parts.specs.declared.report.SessionEnd.TheVariants.{Ended}
 
 -- ---- a restore that sent nothing
 

@@ -7,26 +7,22 @@ use Rattle.line_script.specs.Rules.{RuleValue}
 use Rattle.desk_journal.specs.Overlays.{FinishesAs, finished}
 use Rattle.run_words.specs.Runs.{Run}
 use Rattle.session_plan.specs.Tasks.{Meeting}
-use Rattle.hotsync_run.specs.LineRuns.{frames_in}
+use Rattle.call_parts.specs.LineRuns.{frames_in}
 use Rattle.hotsync_run.specs.Meetings.{Meets}
-use Rattle.hotsync_run.specs.Refusals.{IsRefused, LeavesDesktopUnread}
-use Rattle.hotsync_run.specs.Scripts.{IsScripted}
-use Rattle.hotsync_run.specs.SessionCalls.{IsSessionCall, MayHaveSession, Paths, SessionCommand, StaysAsItWas}
+use Rattle.call_parts.specs.Refusals.{IsRefused, LeavesDesktopUnread}
+use Rattle.call_parts.specs.Scripts.{IsScripted}
+use Rattle.hotsync_run.specs.SessionCalls.{IsSessionCall, MayHaveSession, Paths, SessionCommand}
+use Rattle.call_parts.specs.Stays.{StaysAsItWas}
 use Rattle.hotsync_run.specs.Talks.{DesktopRan, BegunSession}
 use Rattle.hotsync_looks.specs.Told.{SinkTold}
-use Rattle.hotsync_run.specs.Told.{CallTold, FolderTold, sides_of}
-use Rattle.hotsync_run.specs.Traces.{TakesTrace}
+use Rattle.call_parts.specs.Stays.{StandsAsItDid}
+use Rattle.call_parts.specs.Told.{CallTold, FolderTold, sides_of}
+use Rattle.call_parts.specs.Traces.{TakesTrace}
 use Rattle.hotsync_run.specs.Undisturbed.{IsUndisturbed}
-use Rattle.hotsync_run.specs.declared.report.Report.{Report}
+use Rattle.call_parts.specs.declared.report.Report.{Report}
 use Rattle.hotsync_looks.specs.declared.status.Status.{Status}
 
 -- ---- a run that sent nothing
-
--- the desktop's folder stands for what it stood for, at each moment, once its journal is finished;
--- one that was left may have been
-pub record StandsAsItDid (before after : FolderTold) : Type 0 where
-  pub stands : FinishesAs before.contents after.contents
-  pub each_moment : EachMomentSince (FinishesAs before.contents) before.moments after.moments
 
 -- what a run that sent nothing keeps of the desktop's folder: what it stood for, and all of it
 -- where it was not read

@@ -2,17 +2,18 @@
 use Rattle.std.specs.Prelude.{◌≡◌, ◌⊎◌, List, Option, ℕ}
 use Rattle.hs_folders.specs.Causes.{Rose}
 use Rattle.trace_text.specs.declared.frame.End.TheVariants as end
-use Rattle.hotsync_run.specs.Causes.{ByEnd, HasBegun}
+use Rattle.call_parts.specs.Causes.{ByEnd, HasBegun}
 use Rattle.hotsync_looks.specs.Lines.{done_lines}
 use Rattle.hotsync_looks.specs.Opening.{OpensGiven, OpensGivenAtMost}
 use Rattle.hotsync_looks.specs.Printed.{IsPrinted}
-use Rattle.hotsync_run.specs.Reports.{IsNotStarted}
-use Rattle.hotsync_run.specs.Sessions.{BlamesFolders}
+use Rattle.call_parts.specs.Reports.{IsNotStarted}
+use Rattle.call_parts.specs.Sessions.{BlamesFolders}
 use Rattle.hotsync_looks.specs.Told.{SinkTold}
-use Rattle.hotsync_run.specs.Told.{CallTold, FolderTold, sides_of}
+use Rattle.call_parts.specs.Stays.{StaysAsItWas}
+use Rattle.call_parts.specs.Told.{CallTold, FolderTold, sides_of}
 use Rattle.hotsync_run.specs.Undisturbed.{EndsWell}
-use Rattle.hotsync_run.specs.declared.report.Report.{Report}
-use Rattle.hotsync_run.specs.declared.report.SessionEnd.{SessionEnd}
+use Rattle.call_parts.specs.declared.report.Report.{Report}
+use Rattle.call_parts.specs.declared.report.SessionEnd.{SessionEnd}
 use Rattle.hotsync_looks.specs.declared.status.Status.{Status}
 use Rattle.hotsync_looks.specs.declared.status.Status.TheVariants.{SourceRead, TraceWrite, NoMemory, InUse}
 
@@ -36,11 +37,6 @@ pub record SessionCommand : Type 1 where
   pub Undisturbed : CallTold → CallTold → SinkTold → SinkTold → Report → Type 0
 
 -- ---- nothing was sent
-
--- a folder was only read
-pub record StaysAsItWas (before after : FolderTold) : Type 0 where
-  pub contents : after.contents ≡ before.contents
-  pub moments : after.moments ≡ before.moments
 
 -- Memory ran out, or what is judged before a session refuses the call. The handheld's folder was
 -- only read, what is kept of the desktop's is, and the trace took nothing.

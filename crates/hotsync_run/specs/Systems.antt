@@ -4,8 +4,8 @@ use Rattle.run_words.specs.Commands.{WordTask, task_of}
 use Rattle.hotsync_run.specs.Calls.{IsCall}
 use Rattle.hotsync_looks.specs.Codes.{code_of}
 use Rattle.hotsync_looks.specs.Told.{SinkTold}
-use Rattle.hotsync_run.specs.Told.{CallTold}
-use Rattle.hotsync_run.specs.declared.report.Report.{Report}
+use Rattle.call_parts.specs.Told.{CallTold}
+use Rattle.call_parts.specs.declared.report.Report.{Report}
 use Rattle.hotsync_looks.specs.declared.status.Status.{Status}
 
 -- objects that tell nothing of what they hold, as those of the system

@@ -15,12 +15,12 @@ use Rattle.desk_journal.specs.Entries.{EntryValue}
 use Rattle.desk_journal.specs.Overlays.{FinishesAs, put_all}
 use Rattle.desk_store.specs.Shelves.{SlotValue}
 use Rattle.hotsync_run.specs.Ends.{SessionLeft, ShowsMeeting}
-use Rattle.hotsync_run.specs.Sessions.{Agenda, HadSession, IsTalk}
-use Rattle.hotsync_run.specs.Told.{FolderTold, SidesTold}
+use Rattle.call_parts.specs.Sessions.{Agenda, HadSession, IsTalk}
+use Rattle.call_parts.specs.Told.{FolderTold, SidesTold}
 use Rattle.hotsync_run.specs.Wishes.{AsksFor}
-use Rattle.hotsync_run.specs.declared.report.Report.{Report}
-use Rattle.hotsync_run.specs.declared.report.SessionEnd.{SessionEnd}
-use Rattle.hotsync_run.specs.declared.report.SessionEnd.TheVariants.{Ended}
+use Rattle.call_parts.specs.declared.report.Report.{Report}
+use Rattle.call_parts.specs.declared.report.SessionEnd.{SessionEnd}
+use Rattle.call_parts.specs.declared.report.SessionEnd.TheVariants.{Ended}
 use Rattle.hotsync_looks.specs.declared.status.Status.{Status}
 
 -- ---- what is known of it

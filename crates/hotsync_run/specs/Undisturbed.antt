@@ -21,14 +21,14 @@ use Rattle.session_plan.specs.Limits.{first_over}
 use Rattle.session_plan.specs.Losses.{first_loss}
 use Rattle.sync_session.specs.Outcomes.{slot_in}
 use Rattle.session_plan.specs.Tasks.{Meeting}
-use Rattle.hotsync_run.specs.LineRuns.{frames_in}
+use Rattle.call_parts.specs.LineRuns.{frames_in}
 use Rattle.hotsync_run.specs.Meetings.{Meets}
-use Rattle.hotsync_run.specs.Refusals.{is_desktop, is_handheld}
-use Rattle.hotsync_run.specs.Scripts.{IsScripted}
+use Rattle.call_parts.specs.Refusals.{is_desktop, is_handheld}
+use Rattle.call_parts.specs.Scripts.{IsScripted}
 use Rattle.hotsync_looks.specs.Told.{SinkTold}
-use Rattle.hotsync_run.specs.Told.{CallTold}
-use Rattle.hotsync_run.specs.declared.report.Report.{Report}
-use Rattle.hotsync_run.specs.declared.report.SessionEnd.TheVariants.{Ended}
+use Rattle.call_parts.specs.Told.{CallTold}
+use Rattle.call_parts.specs.declared.report.Report.{Report}
+use Rattle.call_parts.specs.declared.report.SessionEnd.TheVariants.{Ended}
 use Rattle.hotsync_looks.specs.declared.status.Status.{Status}
 use Rattle.hotsync_looks.specs.declared.status.Status.TheVariants.{Done, NoMemory, Undetected}
 

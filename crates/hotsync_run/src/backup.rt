@@ -6,15 +6,11 @@ ghost use Rattle.run_words.specs.Views.{between_view};
 ghost use Rattle.hotsync_looks.specs.Told.{sink_told};
 ghost use Rattle.hotsync_run.specs.Backups.{HasBackedUp, IsBackup, IsBackupTalk};
 ghost use Rattle.hotsync_run.specs.Calls.{OfCall, OfRun, OfSides};
-ghost use Rattle.hotsync_run.specs.Refusals.{BlamesHandheld, BlamesSource};
-ghost use Rattle.hotsync_run.specs.Traces.{TracesReport};
+ghost use Rattle.call_parts.specs.Refusals.{BlamesHandheld, BlamesSource};
+ghost use Rattle.call_parts.specs.Traces.{TracesReport};
 
-use crate::answer::Answer;
 use crate::backup_talk::backup_talk;
-use crate::report::SessionEnd;
-use crate::script::script_of;
-use crate::sides::{open_files, open_handheld};
-use crate::tracing::open_trace;
+use call_parts::{Answer, SessionEnd, open_files, open_handheld, open_trace, script_of};
 use handheld_store::Store;
 use hotsync_looks::Status;
 use hs_folders::{Folder, Sink, Source};

@@ -6,11 +6,10 @@ ghost use Rattle.palm_device.specs.Bounds.{IsBounded};
 ghost use Rattle.palm_device.specs.Handles.{no_handles};
 ghost use Rattle.hotsync_run.specs.Backups.{IsBackupTalk};
 ghost use Rattle.hotsync_run.specs.Calls.{OfSides};
-ghost use Rattle.hotsync_run.specs.Causes.{IsUnsaid};
+ghost use Rattle.call_parts.specs.Causes.{IsUnsaid};
 
-use crate::answer::Answer;
-use crate::closing::{Closed, close_session};
 use crate::moved::{Way, moves_told};
+use call_parts::{Answer, Closed, close_session};
 use handheld_server::Server;
 use handheld_store::Store;
 use hotsync_looks::Status;

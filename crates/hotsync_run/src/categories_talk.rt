@@ -8,11 +8,10 @@ ghost use Rattle.line_world.specs.Logs.{no_log};
 ghost use Rattle.palm_device.specs.Bounds.{IsBounded};
 ghost use Rattle.palm_device.specs.Handles.{no_handles};
 ghost use Rattle.hotsync_run.specs.Calls.{OfSides};
-ghost use Rattle.hotsync_run.specs.Causes.{IsUnsaid};
+ghost use Rattle.call_parts.specs.Causes.{IsUnsaid};
 ghost use Rattle.hotsync_run.specs.Filings.{IsFilingTalk};
 
-use crate::answer::Answer;
-use crate::closing::{Closed, close_session};
+use call_parts::{Answer, Closed, close_session};
 use category_mirror::file_session;
 use desk_store::Desk;
 use handheld_server::Server;

@@ -2,19 +2,18 @@
 ghost use Rattle.std.specs.Prelude.{◌≡◌, None};
 ghost use Rattle.hotsync_looks.specs.Misuses.{TellsFault};
 ghost use Rattle.hotsync_run.specs.Calls.{HasSession, IsCall, OfCall, ReadsFirst, fault_in, paths_of, task_in};
-ghost use Rattle.hotsync_run.specs.Refusals.{BlamesHandheld, BlamesSource};
-ghost use Rattle.hotsync_run.specs.Reports.{IsNotStarted};
+ghost use Rattle.call_parts.specs.Refusals.{BlamesHandheld, BlamesSource};
+ghost use Rattle.call_parts.specs.Reports.{IsNotStarted};
 
-use crate::answer::Answer;
 use crate::backup::backup_folder;
 use crate::categories::file_categories;
 use crate::dry_run::dry_run_folders;
 use crate::emulation::emulate;
 use crate::install::install_file;
 use crate::make::make;
-use crate::report::SessionEnd;
 use crate::restore::restore_folder;
 use crate::run::run_folders;
+use call_parts::{Answer, SessionEnd};
 use hotsync_looks::{Status, look_at, print_help, print_misuse, print_packets, print_refusal};
 use hs_folders::{Folder, Sink, Source};
 use run_clap::{Command, WordsFault, read_command};

@@ -7,15 +7,11 @@ ghost use Rattle.hotsync_looks.specs.Opening.{Opens, OpensAtMost};
 ghost use Rattle.hotsync_looks.specs.Told.{sink_told};
 ghost use Rattle.hotsync_run.specs.Calls.{OfCall, OfRun};
 ghost use Rattle.hotsync_run.specs.DryRuns.{HasDryRun, IsDryRun};
-ghost use Rattle.hotsync_run.specs.Refusals.{BlamesHandheld, BlamesSource, IsDesktopFailure, IsHandheldFailure};
+ghost use Rattle.call_parts.specs.Refusals.{BlamesHandheld, BlamesSource, IsDesktopFailure, IsHandheldFailure};
 ghost use Rattle.run_words.specs.Views.{run_view};
 
-use crate::answer::Answer;
-use crate::report::SessionEnd;
 use crate::run::traced_talk;
-use crate::script::script_of;
-use crate::sides::{open_desktop, open_handheld};
-use crate::tracing::open_trace;
+use call_parts::{Answer, SessionEnd, open_desktop, open_handheld, open_trace, script_of};
 use folder_copies::{CopiedFolder, copy_folder};
 use hotsync_looks::Status;
 use hs_folders::{Folder, FolderOpenFault, Sink, Source};

@@ -12,10 +12,7 @@ ghost use Rattle.hotsync_looks.specs.Told.{sink_told};
 ghost use Rattle.hotsync_run.specs.Calls.{OfCall, OfRun};
 ghost use Rattle.hotsync_run.specs.Emulations.{HadTalk, IsEmulation, IsSourceFailure, MayEmulate, TellsHand, talk_status};
 
-use crate::answer::Answer;
-use crate::report::{Report, SessionEnd};
-use crate::sides::open_handheld;
-use crate::tracing::open_named;
+use call_parts::{Answer, Report, SessionEnd, open_handheld, open_named};
 use device_stream::{DeviceEnd, DeviceReport, run_device};
 use dlp_args::MessageText;
 use handheld_server::Server;

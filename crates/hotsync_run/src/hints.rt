@@ -1,6 +1,5 @@
 // Hints for whoever called, on standard error. Nothing is promised of them: what can't be said is left out.
-use crate::answer::Answer;
-use crate::report::Report;
+use call_parts::{Answer, Report};
 use dlp_args::MessageText;
 use dlp_replies::{Reply, read_reply};
 use folder_files::JOURNAL;

@@ -7,13 +7,11 @@ ghost use Rattle.run_words.specs.Views.{between_view};
 ghost use Rattle.hotsync_looks.specs.Told.{sink_told};
 ghost use Rattle.hotsync_run.specs.Calls.{OfCall, OfRun, OfSides};
 ghost use Rattle.hotsync_run.specs.Installs.{HasInstalled, IsInstall, IsInstallTalk};
-ghost use Rattle.hotsync_run.specs.Refusals.{BlamesSource};
-ghost use Rattle.hotsync_run.specs.Traces.{TracesReport};
+ghost use Rattle.call_parts.specs.Refusals.{BlamesSource};
+ghost use Rattle.call_parts.specs.Traces.{TracesReport};
 
-use crate::answer::Answer;
 use crate::install_talk::install_talk;
-use crate::sides::open_handheld;
-use crate::tracing::open_trace;
+use call_parts::{Answer, open_handheld, open_trace};
 use handheld_store::Store;
 use hotsync_looks::{Status, read_install_file};
 use hs_folders::{Folder, Sink, Source};

@@ -6,12 +6,11 @@ ghost use Rattle.palm_device.specs.Bounds.{IsBounded, IsBoundedDatabase};
 ghost use Rattle.palm_device.specs.Handles.{no_handles};
 ghost use Rattle.pdb_values.specs.Heads.{is_read_only};
 ghost use Rattle.hotsync_run.specs.Calls.{OfSides};
-ghost use Rattle.hotsync_run.specs.Causes.{IsUnsaid};
+ghost use Rattle.call_parts.specs.Causes.{IsUnsaid};
 ghost use Rattle.hotsync_run.specs.Installs.{IsInstallTalk};
 
-use crate::answer::Answer;
-use crate::closing::{Closed, close_session};
 use crate::moved::{Way, moves_told};
+use call_parts::{Answer, Closed, close_session};
 use handheld_server::Server;
 use handheld_store::Store;
 use hotsync_looks::Status;

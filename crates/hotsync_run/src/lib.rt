@@ -9,14 +9,11 @@
 //! brought together, and a handheld's end alone answers captured bytes.
 #![tactic(auto)]
 
-mod answer;
 mod backup;
 mod backup_talk;
 mod backups;
 mod categories;
 mod categories_talk;
-mod clock;
-mod closing;
 mod command;
 mod counted_folder;
 mod dry_run;
@@ -24,29 +21,19 @@ mod emulation;
 mod hints;
 mod install;
 mod install_talk;
-mod left;
 mod make;
 mod moved;
 mod program;
 pub mod promises;
-mod report;
-mod reporting;
 mod restore;
 mod restore_talk;
 mod run;
-mod script;
-mod sides;
 mod steady;
 mod talk;
-mod tracing;
 mod wishes;
 
-pub use answer::Answer;
-pub use clock::seconds_now;
+pub use call_parts::{Answer, Report, SessionEnd};
 pub use command::hotsync;
 pub use hotsync_looks::{FileSide, Status};
 pub use program::{Ended, arguments, run_on_system, run_program};
-pub use report::{Report, SessionEnd};
 pub use session_parts::{Counts, DbReport, Did, FiledCounts, Skip};
-pub use sides::{open_desktop, open_handheld};
-pub use tracing::{open_trace, write_text};

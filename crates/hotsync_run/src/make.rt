@@ -10,10 +10,9 @@ ghost use Rattle.run_words.specs.Views.{choice_view, run_view};
 ghost use Rattle.hotsync_run.specs.Makes.{HasMade, IsMake, every_database, made_run, made_script, script_text};
 ghost use Rattle.hotsync_looks.specs.Told.{sink_told};
 
-use crate::answer::Answer;
-use crate::report::Report;
 use crate::steady::SteadyFolder;
 use crate::talk::talk;
+use call_parts::{Answer, Report};
 use desk_store::Desk;
 use handheld_store::Store;
 use hotsync_looks::{Status, print_status};

@@ -14,7 +14,7 @@ ghost use Rattle.hotsync_run.specs.Again.{AllRan, AreOfOneKind, AreTold, EndsAsO
 ghost use Rattle.hotsync_run.specs.Backups.{BackupLeft, backup_command};
 ghost use Rattle.hotsync_run.specs.Besides.{StandsBeside};
 ghost use Rattle.hotsync_run.specs.Calls.{Call, IsAnsweredCall, IsNothing};
-ghost use Rattle.hotsync_run.specs.Causes.{HasBegun};
+ghost use Rattle.call_parts.specs.Causes.{HasBegun};
 ghost use Rattle.hotsync_run.specs.Clean.{GoesThrough, HasNoLines};
 ghost use Rattle.hotsync_run.specs.Emulations.{SaysAll};
 ghost use Rattle.hotsync_run.specs.Equal.{EndsEqual};
@@ -22,7 +22,7 @@ ghost use Rattle.hotsync_run.specs.FilingCalls.{IsSecondCall, StandsTogether};
 ghost use Rattle.hotsync_run.specs.Filings.{EndedFiling, StoppedFiling, categories_command};
 ghost use Rattle.hotsync_run.specs.Headline.{ActsOnce, FairStaysUp, Headline, IsAnsweredRun, IsWhatItSays, LeavesTheMerge, RunCall, TellsCause};
 ghost use Rattle.hotsync_run.specs.Installs.{EndedInstall, install_command};
-ghost use Rattle.hotsync_run.specs.LineRuns.{exchanges_in, frames_in};
+ghost use Rattle.call_parts.specs.LineRuns.{exchanges_in, frames_in};
 ghost use Rattle.hotsync_looks.specs.Looks.{IsLook};
 ghost use Rattle.hotsync_run.specs.Meetings.{Meets};
 ghost use Rattle.hotsync_looks.specs.PrintedNames.{is_printable, printed_name};
@@ -30,11 +30,12 @@ ghost use Rattle.hotsync_run.specs.Promises.{BackupSession, EachCall, FilingSess
 ghost use Rattle.hotsync_run.specs.Restores.{EndedRestore, restore_command};
 ghost use Rattle.hotsync_looks.specs.declared.status.Status.TheVariants.{Done};
 ghost use Rattle.hotsync_run.specs.Runs.{run_command};
-ghost use Rattle.hotsync_run.specs.Scripts.{IsScripted};
-ghost use Rattle.hotsync_run.specs.SessionCalls.{SentNothing, StaysAsItWas};
-ghost use Rattle.hotsync_run.specs.Told.{CallTold, sides_of};
+ghost use Rattle.call_parts.specs.Scripts.{IsScripted};
+ghost use Rattle.hotsync_run.specs.SessionCalls.{SentNothing};
+ghost use Rattle.call_parts.specs.Stays.{StaysAsItWas};
+ghost use Rattle.call_parts.specs.Told.{CallTold, sides_of};
 ghost use Rattle.hotsync_run.specs.Undisturbed.{AreGood, EndsWell, IsUndisturbed};
-ghost use Rattle.hotsync_run.specs.declared.report.SessionEnd.TheVariants.{Ended, NotStarted, Stopped};
+ghost use Rattle.call_parts.specs.declared.report.SessionEnd.TheVariants.{Ended, NotStarted, Stopped};
 
 /// What is promised of each run whose session began, on one page.
 pub fn a_run_keeps_what_it_promises()

@@ -8,13 +8,12 @@ ghost use Rattle.palm_device.specs.Bounds.{IsBounded};
 ghost use Rattle.palm_device.specs.Handles.{no_handles};
 ghost use Rattle.run_words.specs.Views.{run_view};
 ghost use Rattle.hotsync_run.specs.Calls.{OfSides};
-ghost use Rattle.hotsync_run.specs.Causes.{IsUnsaid};
+ghost use Rattle.call_parts.specs.Causes.{IsUnsaid};
 ghost use Rattle.hotsync_run.specs.Talks.{IsRunTalk};
 ghost use Rattle.hotsync_run.specs.Wishes.{AsksFor};
 
-use crate::answer::Answer;
-use crate::closing::{Closed, close_session};
 use crate::wishes::wishes_of;
+use call_parts::{Answer, Closed, close_session};
 use desk_store::Desk;
 use handheld_server::Server;
 use handheld_store::Store;

@@ -26,9 +26,9 @@ use Rattle.session_parts.specs.declared.report.DbReport.{DbReport}
 use Rattle.session_parts.specs.declared.stop.Stop.{Stop}
 use Rattle.session_plan.specs.Tasks.{meeting_of}
 use Rattle.session_plan.specs.declared.wishes.Wishes.{Wishes}
-use Rattle.hotsync_run.specs.Closings.{left_databases, left_end}
-use Rattle.hotsync_run.specs.Told.{FolderTold}
-use Rattle.hotsync_run.proofs.LeftLaws.{sound_meeting}
+use Rattle.call_parts.specs.Closings.{left_databases, left_end}
+use Rattle.call_parts.specs.Told.{FolderTold}
+use Rattle.front_laws.proofs.RequestLaws.{sound_meeting}
 use Rattle.port_run.specs.Ends.{LeftFor}
 use Rattle.port_run.specs.Links.{LinkRan, link_over}
 use Rattle.port_run.specs.Told.{PortTold}
@@ -37,7 +37,7 @@ use Rattle.port_run.specs.declared.synced.CableReport.{CableReport}
 use Rattle.port_run.proofs.LeftLaws.{BeganWith, EndsOver, session_left}
 use Rattle.port_link.proofs.RanLaws.{HandSince, RanAt, calls-ran, first-ran, last-palm, later-ran, since-once}
 use Rattle.port_run.proofs.TalkedLaws.{ToldAll, all-exchanged, all-performed}
-use Rattle.hotsync_run.proofs.EndLaws.{exchanged-append}
+use Rattle.call_parts.proofs.EndLaws.{exchanged-append}
 use Rattle.cable_laws.proofs.TakeLaws.{some_of}
 
 -- ---- from a handheld that was never asked

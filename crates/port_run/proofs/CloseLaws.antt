@@ -3,8 +3,8 @@ use Rattle.std.proofs.lemmas.Grind.{common_steps}
 use Rattle.std.proofs.Common.{◌≡◌, Option, Some, Result, Ok, Err, sym, subst, ap, arith}
 use Rattle.std.specs.Global.{Vec}
 use Rattle.std.specs.Prelude.{IsErrOf}
-use Rattle.hotsync_run.specs.Causes.{IsUnsaid}
-use Rattle.hotsync_run.specs.Closings.{left_databases, left_end}
+use Rattle.call_parts.specs.Causes.{IsUnsaid}
+use Rattle.call_parts.specs.Closings.{left_databases, left_end}
 use Rattle.hotsync_looks.specs.declared.status.Status.{Status}
 use Rattle.hotsync_looks.specs.declared.status.Status.TheVariants.{PortFailed, DesktopFolder}
 use Rattle.port_link.specs.declared.port_cause.PortCause.{PortCause}

@@ -23,12 +23,12 @@ use Rattle.trace_text.specs.declared.frame.End.TheVariants as end
 use Rattle.hotsync_looks.specs.Opening.{Opens, OpensAtMost, OpensGivenAtMost}
 use Rattle.hotsync_looks.specs.declared.status.Status.{Status}
 use Rattle.hotsync_looks.specs.declared.status.Status.TheVariants.{HandheldFolder, InUse, PortFailed, TraceWrite}
-use Rattle.hotsync_run.specs.Causes.{IsTracedStatus, IsUnsaid}
-use Rattle.hotsync_run.specs.Emulations.{WentWith}
-use Rattle.hotsync_run.specs.Refusals.{HasHandheld, TraceRefuses}
-use Rattle.hotsync_run.specs.SessionCalls.{StaysAsItWas}
-use Rattle.hotsync_run.specs.Told.{FolderTold, folder_told}
-use Rattle.hotsync_run.proofs.SessionRuns.{traced_from}
+use Rattle.call_parts.specs.Causes.{IsTracedStatus, IsUnsaid}
+use Rattle.call_parts.specs.Stays.{WentWith}
+use Rattle.call_parts.specs.Refusals.{HasHandheld, TraceRefuses}
+use Rattle.call_parts.specs.Stays.{StaysAsItWas}
+use Rattle.call_parts.specs.Told.{FolderTold, folder_told}
+use Rattle.call_parts.proofs.TraceLaws.{traced_from}
 use Rattle.port_link.specs.Logs.{log_entries}
 use Rattle.port_run.specs.DockTalks.{HasDockTalk}
 use Rattle.port_run.specs.Docks.{HadDock, HasDocked, IsIdle, IsUndocked, TellsDock, dock_status}

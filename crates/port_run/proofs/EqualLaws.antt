@@ -19,19 +19,19 @@ use Rattle.port_laws.specs.Palms.{Palm}
 use Rattle.port_link.specs.Calls.{LinkValue}
 use Rattle.run_words.specs.Cables.{Cable}
 use Rattle.hotsync_looks.specs.declared.status.Status.{Status}
-use Rattle.hotsync_run.specs.LineRuns.{write_count}
-use Rattle.hotsync_run.specs.Told.{FolderTold}
-use Rattle.hotsync_run.specs.declared.report.SessionEnd.TheVariants.{Ended}
-use Rattle.hotsync_run.proofs.EndLaws.{count-append}
-use Rattle.hotsync_run.proofs.LeftLaws.{no-limit, parts-are, prefix-length, writes-before}
-use Rattle.hotsync_run.proofs.SlotLaws.{merged-picked, picked-near}
+use Rattle.call_parts.specs.LineRuns.{write_count}
+use Rattle.call_parts.specs.Told.{FolderTold}
+use Rattle.call_parts.specs.declared.report.SessionEnd.TheVariants.{Ended}
+use Rattle.call_parts.proofs.EndLaws.{count-append}
+use Rattle.front_laws.proofs.RequestLaws.{no-limit, parts-are, prefix-length, writes-before}
+use Rattle.front_laws.proofs.SlotLaws.{merged-picked, picked-near}
 use Rattle.port_run.specs.Ends.{BothLeft, EndedSession, given_by}
 use Rattle.port_run.specs.Equal.{EndsEqual}
 use Rattle.port_run.specs.Syncs.{SessionRan}
 use Rattle.port_run.specs.Told.{SyncTold}
 use Rattle.port_run.specs.declared.synced.CableReport.{CableReport}
 use Rattle.port_run.proofs.TalkedLaws.{performed-begins}
-use Rattle.hotsync_run.proofs.BackupSpoke.{prefix-on}
+use Rattle.call_parts.proofs.EndLaws.{prefix-on}
 
 -- all writes were made
 all-written : {meeting : Meeting} {hand : Hand} {desk_after : FolderTold} {report : CableReport} → EndedSession meeting hand desk_after report

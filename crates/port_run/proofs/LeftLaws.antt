@@ -31,19 +31,19 @@ use Rattle.sync_session.specs.Sessions.{adds_of, after_commit, before_commit, be
 use Rattle.front_laws.specs.Sound.{IsSoundMeeting}
 use Rattle.front_laws.proofs.FrontLaws.{after-none, commit-ids, commit-told, session-ids, session-told}
 use Rattle.front_laws.proofs.MergeActs.{merged}
-use Rattle.hotsync_run.specs.Closings.{left_databases, left_end}
-use Rattle.hotsync_run.specs.LineRuns.{write_count}
-use Rattle.hotsync_run.specs.Told.{FolderTold}
-use Rattle.hotsync_run.specs.declared.report.SessionEnd.TheVariants.{Ended, Stopped}
-use Rattle.hotsync_run.proofs.EndLaws.{count-append, none-front, none-given, prefix-count}
-use Rattle.hotsync_run.proofs.LeftLaws.{no-limit, parts-are, prefix-length, writes-before, stood_or_merged}
+use Rattle.call_parts.specs.Closings.{left_databases, left_end}
+use Rattle.call_parts.specs.LineRuns.{write_count}
+use Rattle.call_parts.specs.Told.{FolderTold}
+use Rattle.call_parts.specs.declared.report.SessionEnd.TheVariants.{Ended, Stopped}
+use Rattle.call_parts.proofs.EndLaws.{count-append, none-front, none-given, prefix-count}
+use Rattle.front_laws.proofs.RequestLaws.{no-limit, parts-are, prefix-length, writes-before, stood_or_merged}
 use Rattle.port_link.specs.Calls.{LinkValue, Since}
 use Rattle.port_link.specs.Standing.{exchanges_of, talk_of}
 use Rattle.port_link.specs.Hands.{HandRan}
 use Rattle.port_run.specs.Ends.{EndedSession, IssuedFor, SessionLeft, StoppedBefore, StoppedBehind, given_by}
 use Rattle.port_run.specs.declared.synced.CableReport.{CableReport}
 use Rattle.port_run.proofs.TalkedLaws.{ToldAll, all-exchanged, all-performed, begins-behind, begins-fresh, front_of, performed-begins, prefix-same, said_over, told_all}
-use Rattle.hotsync_run.proofs.BackupSpoke.{prefix-on}
+use Rattle.call_parts.proofs.EndLaws.{prefix-on}
 
 abbrev ids_by : List Exchange → List ℕ
 ids_by exchanges = flat_map (λ (exchange : Exchange). given_in exchange.request exchange.reply) exchanges
@@ -150,7 +150,7 @@ module _ (fault : LinkValue → Option LinkFault) (downs : LinkValue → ℕ) {m
     ended = ended;
     stopped = stopped;
     given = given;
-    moments = stood_or_merged meeting given desk desk_after moments;
+    moments = stood_or_merged meeting given desk.contents desk.moments desk_after.moments moments;
   }
 
   left-ended : (made : Vec DbReport) → report.end ≡ left_end (Ok made) → report.databases.items ≡ left_databases (Ok made)

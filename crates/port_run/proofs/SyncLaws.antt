@@ -26,14 +26,14 @@ use Rattle.hotsync_looks.specs.Opening.{Opens, OpensGiven, OpensGivenAtMost}
 use Rattle.hotsync_looks.specs.Told.{SinkTold}
 use Rattle.hotsync_looks.specs.declared.status.Status.{Status}
 use Rattle.hotsync_looks.specs.declared.status.Status.TheVariants.{NoMemory, DesktopFolder, InUse}
-use Rattle.hotsync_run.specs.Causes.{IsTracedStatus}
-use Rattle.hotsync_run.specs.Refusals.{HasDesktop, LeavesDesktopUnread}
-use Rattle.hotsync_run.specs.Runs.{StandsAsItDid}
-use Rattle.hotsync_run.specs.Told.{FolderTold}
-use Rattle.hotsync_run.specs.declared.report.SessionEnd.{SessionEnd}
-use Rattle.hotsync_run.specs.declared.report.SessionEnd.TheVariants.{NotStarted, Ended, Stopped}
-use Rattle.hotsync_run.proofs.RetoldLaws.{by_end_both, by_end_then}
-use Rattle.hotsync_run.proofs.SessionRuns.{traced_from}
+use Rattle.call_parts.specs.Causes.{IsTracedStatus}
+use Rattle.call_parts.specs.Refusals.{HasDesktop, LeavesDesktopUnread}
+use Rattle.call_parts.specs.Stays.{StandsAsItDid}
+use Rattle.call_parts.specs.Told.{FolderTold}
+use Rattle.call_parts.specs.declared.report.SessionEnd.{SessionEnd}
+use Rattle.call_parts.specs.declared.report.SessionEnd.TheVariants.{NotStarted, Ended, Stopped}
+use Rattle.call_parts.proofs.RetoldLaws.{by_end_both, by_end_then}
+use Rattle.call_parts.proofs.TraceLaws.{traced_from}
 use Rattle.port_run.specs.Causes.{stop_status}
 use Rattle.port_run.specs.Ends.{BothLeft, LeftFor, SessionLeft}
 use Rattle.port_run.specs.Reports.{IsOver}

@@ -24,11 +24,11 @@ use Rattle.port_link.specs.Logs.{log_entries}
 use Rattle.port_link.specs.Standing.{talk_of}
 use Rattle.port_link.specs.declared.entry.Entry.{Entry}
 use Rattle.port_link.specs.declared.port_cause.PortCause.{PortCause}
-use Rattle.hotsync_run.specs.Causes.{ByEnd}
-use Rattle.hotsync_run.specs.Closings.{left_databases, left_end}
-use Rattle.hotsync_run.specs.Told.{FolderTold, folder_told}
-use Rattle.hotsync_run.specs.declared.report.SessionEnd.{SessionEnd}
-use Rattle.hotsync_run.proofs.SpokeLaws.{by_left, ended_ok}
+use Rattle.call_parts.specs.Causes.{ByEnd}
+use Rattle.call_parts.specs.Closings.{left_databases, left_end}
+use Rattle.call_parts.specs.Told.{FolderTold, folder_told}
+use Rattle.call_parts.specs.declared.report.SessionEnd.{SessionEnd}
+use Rattle.call_parts.proofs.SpokeLaws.{by_left, ended_ok}
 use Rattle.hotsync_looks.specs.declared.status.Status.{Status}
 use Rattle.hotsync_looks.specs.declared.status.Status.TheVariants.{NoMemory}
 use Rattle.port_run.specs.Ends.{LeftFor}

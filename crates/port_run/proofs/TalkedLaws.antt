@@ -18,14 +18,14 @@ use Rattle.device_stream.specs.Hands.{Hand}
 use Rattle.session_plan.specs.Tasks.{Meeting}
 use Rattle.sync_session.specs.Fronts.{MeetingFront}
 use Rattle.sync_session.specs.Sessions.{requests}
-use Rattle.hotsync_run.specs.LineRuns.{write_count}
-use Rattle.hotsync_run.proofs.FrontLaws.{exchanged-requests}
+use Rattle.call_parts.specs.LineRuns.{write_count}
+use Rattle.call_parts.proofs.FrontLaws.{exchanged-requests}
 use Rattle.port_link.specs.Calls.{LinkValue}
 use Rattle.port_link.specs.Standing.{exchanges_of, talk_of}
 use Rattle.port_link.specs.Hands.{HandRan}
 use Rattle.port_run.specs.Ends.{given_by}
-use Rattle.hotsync_run.proofs.EndLaws.{said_left}
-use Rattle.hotsync_run.proofs.BackupSpoke.{prefix-on}
+use Rattle.call_parts.proofs.EndLaws.{said_left}
+use Rattle.call_parts.proofs.EndLaws.{prefix-on}
 use Rattle.cable_laws.proofs.TakeLaws.{some_of}
 
 -- ---- lists that begin others

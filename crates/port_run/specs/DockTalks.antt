@@ -6,7 +6,7 @@ use Rattle.port_link.specs.Logs.{log_entries}
 use Rattle.run_words.specs.Docks.{Dock}
 use Rattle.hotsync_looks.specs.declared.status.Status.{Status}
 use Rattle.hotsync_looks.specs.declared.status.Status.TheVariants.{HandheldFolder, PortFailed}
-use Rattle.hotsync_run.specs.Traces.{TracesFrames}
+use Rattle.call_parts.specs.Traces.{TracesFrames}
 use Rattle.port_run.specs.Docks.{HadDock}
 use Rattle.port_run.specs.LogTexts.{dock_text}
 use Rattle.port_run.specs.Told.{DockTold}

@@ -20,11 +20,11 @@ use Rattle.hotsync_looks.specs.Served.{served_lines}
 use Rattle.hotsync_looks.specs.Told.{SinkTold}
 use Rattle.hotsync_looks.specs.declared.status.Status.{Status}
 use Rattle.hotsync_looks.specs.declared.status.Status.TheVariants.{Done, Usage, PortFailed, HandheldFolder, InUse, LineDown, LineSilent, LineEndless, StreamAborted, BadHello, TraceWrite, NoMemory}
-use Rattle.hotsync_run.specs.Causes.{IsTracedStatus}
-use Rattle.hotsync_run.specs.Emulations.{WentWith}
-use Rattle.hotsync_run.specs.Refusals.{HandheldRefuses, HasHandheld, TraceRefuses}
-use Rattle.hotsync_run.specs.SessionCalls.{StaysAsItWas}
-use Rattle.hotsync_run.specs.Traces.{TakesTrace}
+use Rattle.call_parts.specs.Causes.{IsTracedStatus}
+use Rattle.call_parts.specs.Stays.{WentWith}
+use Rattle.call_parts.specs.Refusals.{HandheldRefuses, HasHandheld, TraceRefuses}
+use Rattle.call_parts.specs.Stays.{StaysAsItWas}
+use Rattle.call_parts.specs.Traces.{TakesTrace}
 use Rattle.port_run.specs.LogTexts.{dock_text}
 use Rattle.port_run.specs.Refusals.{IsPortRefusal}
 use Rattle.port_run.specs.Talks.{StaysUnsaid}

@@ -30,9 +30,9 @@ use Rattle.port_link.specs.Calls.{LinkValue}
 use Rattle.port_link.specs.Hands.{HandRan}
 use Rattle.port_link.specs.Standing.{exchanges_of, talk_of}
 use Rattle.run_words.specs.Cables.{Cable}
-use Rattle.hotsync_run.specs.LineRuns.{write_count}
-use Rattle.hotsync_run.specs.Told.{FolderTold}
-use Rattle.hotsync_run.specs.declared.report.SessionEnd.TheVariants.{Ended, Stopped}
+use Rattle.call_parts.specs.LineRuns.{write_count}
+use Rattle.call_parts.specs.Told.{FolderTold}
+use Rattle.call_parts.specs.declared.report.SessionEnd.TheVariants.{Ended, Stopped}
 use Rattle.port_run.specs.Wishes.{AsksFor}
 use Rattle.port_run.specs.declared.synced.CableReport.{CableReport}
 

@@ -12,7 +12,7 @@ use Rattle.front_laws.specs.Equal.{HasEqualSides, IsShownWhole}
 use Rattle.port_laws.specs.Palms.{Palm}
 use Rattle.run_words.specs.Cables.{Cable}
 use Rattle.hotsync_looks.specs.declared.status.Status.{Status}
-use Rattle.hotsync_run.specs.Told.{FolderTold}
+use Rattle.call_parts.specs.Told.{FolderTold}
 use Rattle.port_run.specs.Ends.{Meets}
 use Rattle.port_run.specs.Syncs.{SessionRan}
 use Rattle.port_run.specs.Told.{SyncTold}

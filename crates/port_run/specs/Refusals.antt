@@ -2,7 +2,7 @@
 use Rattle.std.specs.Prelude.{◌≡◌, ◌⊎◌, Option}
 use Rattle.hs_folders.specs.FileMaps.{FileMap}
 use Rattle.run_words.specs.Cables.{Cable}
-use Rattle.hotsync_run.specs.Refusals.{DesktopRefuses, HasDesktop, TraceRefuses}
+use Rattle.call_parts.specs.Refusals.{DesktopRefuses, HasDesktop, TraceRefuses}
 use Rattle.hotsync_looks.specs.declared.status.Status.{Status}
 use Rattle.hotsync_looks.specs.declared.status.Status.TheVariants.{PortFailed, NoMemory}
 

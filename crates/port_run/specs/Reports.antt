@@ -4,8 +4,8 @@ use Rattle.std.specs.Global.{Vec}
 use Rattle.port_link.specs.declared.port_cause.PortCause.{PortCause}
 use Rattle.session_parts.specs.declared.report.DbReport.{DbReport}
 use Rattle.session_parts.specs.declared.stop.Stop.{Stop}
-use Rattle.hotsync_run.specs.declared.report.SessionEnd.{SessionEnd}
-use Rattle.hotsync_run.specs.declared.report.SessionEnd.TheVariants.{NotStarted, Ended, Stopped}
+use Rattle.call_parts.specs.declared.report.SessionEnd.{SessionEnd}
+use Rattle.call_parts.specs.declared.report.SessionEnd.TheVariants.{NotStarted, Ended, Stopped}
 use Rattle.hotsync_looks.specs.declared.status.Status.{Status}
 use Rattle.hotsync_looks.specs.declared.status.Status.TheVariants.{Done}
 use Rattle.port_run.specs.Causes.{stop_status}

@@ -16,12 +16,12 @@ use Rattle.hotsync_looks.specs.Printed.{IsPrinted, IsPrintedStatus}
 use Rattle.hotsync_looks.specs.Told.{SinkTold}
 use Rattle.hotsync_looks.specs.declared.status.Status.{Status}
 use Rattle.hotsync_looks.specs.declared.status.Status.TheVariants.{NoMemory, PortFailed, DesktopFolder, InUse, TraceWrite}
-use Rattle.hotsync_run.specs.Causes.{ByEnd, HasBegun, IsTracedStatus}
-use Rattle.hotsync_run.specs.Refusals.{HasDesktop, LeavesDesktopUnread}
-use Rattle.hotsync_run.specs.Runs.{StandsAsItDid}
-use Rattle.hotsync_run.specs.SessionCalls.{StaysAsItWas}
-use Rattle.hotsync_run.specs.Traces.{TakesTrace, TracesFrames}
-use Rattle.hotsync_run.specs.declared.report.SessionEnd.{SessionEnd}
+use Rattle.call_parts.specs.Causes.{ByEnd, HasBegun, IsTracedStatus}
+use Rattle.call_parts.specs.Refusals.{HasDesktop, LeavesDesktopUnread}
+use Rattle.call_parts.specs.Stays.{StandsAsItDid}
+use Rattle.call_parts.specs.Stays.{StaysAsItWas}
+use Rattle.call_parts.specs.Traces.{TakesTrace, TracesFrames}
+use Rattle.call_parts.specs.declared.report.SessionEnd.{SessionEnd}
 use Rattle.port_run.specs.Ends.{BothLeft}
 use Rattle.port_run.specs.Links.{LinkRan}
 use Rattle.port_run.specs.LogTexts.{cable_text}

@@ -15,10 +15,10 @@ use Rattle.sync_session.specs.Leaving.{IsSlotsFile}
 use Rattle.port_link.specs.Logs.{log_entries}
 use Rattle.hotsync_looks.specs.declared.status.Status.{Status}
 use Rattle.hotsync_looks.specs.declared.status.Status.TheVariants.{NoMemory, PortFailed, DesktopFolder}
-use Rattle.hotsync_run.specs.Causes.{ByEnd}
-use Rattle.hotsync_run.specs.Told.{FolderTold}
-use Rattle.hotsync_run.specs.declared.report.SessionEnd.{SessionEnd}
-use Rattle.hotsync_run.specs.declared.report.SessionEnd.TheVariants.{Ended}
+use Rattle.call_parts.specs.Causes.{ByEnd}
+use Rattle.call_parts.specs.Told.{FolderTold}
+use Rattle.call_parts.specs.declared.report.SessionEnd.{SessionEnd}
+use Rattle.call_parts.specs.declared.report.SessionEnd.TheVariants.{Ended}
 use Rattle.port_run.specs.Ends.{LeftFor}
 use Rattle.port_run.specs.Links.{LinkRan}
 use Rattle.port_run.specs.Reports.{IsOver, IsSilent}

@@ -6,7 +6,7 @@ use Rattle.port_laws.specs.Palms.{Palm}
 use Rattle.port_line.specs.declared.port.Port.{Ghosts as PortMembers}
 use Rattle.hotsync_looks.specs.Told.{SinkTold, sink_told}
 use Rattle.hotsync_looks.specs.declared.status.Status.{Status}
-use Rattle.hotsync_run.specs.Told.{FolderTold, folder_told}
+use Rattle.call_parts.specs.Told.{FolderTold, folder_told}
 use Rattle.port_run.specs.declared.dock_report.DockReport.{DockReport}
 use Rattle.port_run.specs.declared.dock_report.Docked.{Docked}
 use Rattle.port_run.specs.declared.synced.CableReport.{CableReport}

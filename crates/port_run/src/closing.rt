@@ -3,11 +3,11 @@ ghost use Rattle.std.specs.Prelude.{◌≡◌};
 ghost use Rattle.port_run.specs.Causes.{down_status as status_of_down, fault_status as status_of_fault, stop_status as status_of_stop};
 ghost use Rattle.port_run.specs.Reports.{IsClosed};
 
+use call_parts::SessionEnd;
 use desktop_session::SessionFault;
 use hotsync_looks::Status;
-use hotsync_run::{DbReport, SessionEnd};
 use port_link::PortCause;
-use session_parts::Stop;
+use session_parts::{DbReport, Stop};
 use std::alloc::Global;
 use trace_text::End;
 

@@ -2,7 +2,7 @@
 ghost use Rattle.std.specs.Prelude.{◌≡◌, ◌⊎◌, ◌≤◌, IfErr, IfOk, OnOk};
 ghost use Rattle.hs_folders.specs.Causes.{Rose};
 ghost use Rattle.hotsync_looks.specs.Opening.{Opens, OpensAtMost};
-ghost use Rattle.hotsync_run.specs.Views.{folder_in as port_in};
+ghost use Rattle.call_parts.specs.Views.{folder_in as port_in};
 ghost use Rattle.port_laws.specs.Palms.{IsFirstTold};
 ghost use Rattle.port_run.specs.Refusals.{IsPortRefusal};
 

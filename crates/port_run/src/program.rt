@@ -9,7 +9,7 @@ ghost use Rattle.run_words.specs.Cables.{begins_sync, sync_of};
 
 use crate::synced::Synced;
 use crate::syncing::sync;
-use hotsync_run::seconds_now;
+use call_parts::seconds_now;
 use hs_folders::{DirFolder, FileSink, Folder, Sink, StdoutSink};
 use port_line::{Port, TtyPort};
 use run_words::is_sync;

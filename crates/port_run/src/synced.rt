@@ -2,9 +2,10 @@
 ghost use Rattle.std.specs.Prelude.{◌≡◌};
 ghost use Rattle.port_run.specs.Reports.{IsSilent};
 
+use call_parts::SessionEnd;
 use hotsync_looks::Status;
-use hotsync_run::{DbReport, SessionEnd};
 use port_link::{Entry, PortCause};
+use session_parts::DbReport;
 use std::alloc::Global;
 
 /// What a call over a cable did, beside its status.

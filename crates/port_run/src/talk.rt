@@ -2,7 +2,7 @@
 ghost use Rattle.std.specs.Prelude.{◌≡◌, ◌<◌, ◌^◌};
 ghost use Rattle.desk_store.specs.Bounds.{AreBounded};
 ghost use Rattle.desk_store.specs.Shelves.{AreInOrder};
-ghost use Rattle.hotsync_run.specs.Causes.{IsUnsaid};
+ghost use Rattle.call_parts.specs.Causes.{IsUnsaid};
 ghost use Rattle.port_laws.specs.Palms.{IsFirstTold};
 ghost use Rattle.port_run.specs.Links.{link_over, port_of};
 ghost use Rattle.port_run.specs.Talks.{HasTalked};

@@ -1,14 +1,14 @@
 // The trace of a session over a cable.
 ghost use Rattle.std.specs.Prelude.{◌≡◌, [], None, map, option_copied};
 ghost use Rattle.hotsync_looks.specs.Told.{sink_told};
-ghost use Rattle.hotsync_run.specs.Causes.{IsUnsaid};
-ghost use Rattle.hotsync_run.specs.Traces.{TracesFrames};
+ghost use Rattle.call_parts.specs.Causes.{IsUnsaid};
+ghost use Rattle.call_parts.specs.Traces.{TracesFrames};
 ghost use Rattle.port_link.specs.Logs.{entry_value};
 ghost use Rattle.port_run.specs.LogTexts.{log_text};
 
 use crate::log_text::write_log;
+use call_parts::write_text;
 use hotsync_looks::Status;
-use hotsync_run::write_text;
 use hs_folders::Sink;
 use port_link::Entry;
 use std::alloc::{AllocError, Global};

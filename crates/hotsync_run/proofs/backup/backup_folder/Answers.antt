@@ -1,6 +1,6 @@
 use Rattle.run_words.specs.Views.{between_view}
 use Rattle.hotsync_looks.specs.Told.{sink_told, source_told}
-use Rattle.hotsync_run.specs.Told.{CallTold, folder_told}
+use Rattle.call_parts.specs.Told.{CallTold, folder_told}
 use Rattle.hotsync_run.proofs.BackupRuns.{backup_printed}
 use Rattle.hotsync_run.proofs.BackupWell.{backup_ends_well}
 use Rattle.hotsync_run.proofs.backup.backup_folder.Goals as goal

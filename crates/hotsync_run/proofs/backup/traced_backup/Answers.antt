@@ -1,6 +1,6 @@
 use Rattle.handheld_files.specs.Openings.{opened_device}
-use Rattle.hotsync_run.specs.Told.{sides_told}
-use Rattle.hotsync_run.proofs.RetoldLaws.{talk_traced}
+use Rattle.call_parts.specs.Told.{sides_told}
+use Rattle.call_parts.proofs.RetoldLaws.{talk_traced}
 use Rattle.hotsync_run.proofs.BackupSpoke.{backup_retold}
 use Rattle.hotsync_run.proofs.backup.traced_backup.Goals as goal
 

@@ -1,10 +1,10 @@
 use Rattle.std.proofs.Common.{ap, refl, Err}
 use Rattle.run_words.specs.Views.{between_view}
 use Rattle.hotsync_looks.specs.Told.{sink_told, source_told}
-use Rattle.hotsync_run.specs.Told.{CallTold, folder_told}
+use Rattle.call_parts.specs.Told.{CallTold, folder_told}
 use Rattle.hotsync_run.proofs.RefusedRuns.{by_desktop, by_handheld, by_script, by_trace}
 use Rattle.hotsync_run.proofs.FilingRuns.{as_run, by_filing, refused_as}
-use Rattle.hotsync_run.proofs.TraceLaws.{talk_not_handheld, talk_not_source}
+use Rattle.call_parts.proofs.TraceLaws.{talk_not_handheld, talk_not_source}
 use Rattle.hotsync_run.proofs.categories.judged_categories.Goals as goal
 
 pub returns-in-Err-open_desktop-clause-ran : goal.returns-in-Err-open_desktop-clause-ran

@@ -1,7 +1,7 @@
 use Rattle.std.proofs.Common.{◌∙◌, ap}
 use Rattle.handheld_server.specs.Servers.{ServerValue}
-use Rattle.hotsync_run.specs.Told.{folder_told, sides_told}
-use Rattle.hotsync_run.proofs.SpokeLaws.{kept_silent}
+use Rattle.call_parts.specs.Told.{folder_told, sides_told}
+use Rattle.call_parts.proofs.SpokeLaws.{kept_silent}
 use Rattle.hotsync_run.proofs.categories_talk.categories_talk.Goals as goal
 
 pub returns-in-Err-clause-talk : goal.returns-in-Err-clause-talk

@@ -7,7 +7,7 @@ use Rattle.run_words.specs.declared.command.Command.{Command}
 use Rattle.run_words.specs.declared.command.MakeWords.{MakeWords}
 use Rattle.run_words.specs.declared.run.RunWords.{RunWords}
 use Rattle.hotsync_looks.specs.Told.{sink_told, source_told}
-use Rattle.hotsync_run.specs.Told.{CallTold, folder_told}
+use Rattle.call_parts.specs.Told.{CallTold, folder_told}
 use Rattle.hotsync_run.proofs.CallLaws.{only_memory, unread_call}
 use Rattle.hotsync_run.proofs.MakeWords.{few_asked}
 use Rattle.hotsync_run.proofs.PathLaws.{backup_desktop, backup_handheld, backup_source, backup_trace, categories_desktop, categories_handheld, categories_source, categories_trace, capture_handheld, capture_source, capture_trace, copied_none, install_handheld, install_source, install_trace, look_source, restore_desktop, restore_handheld, restore_source, restore_trace}

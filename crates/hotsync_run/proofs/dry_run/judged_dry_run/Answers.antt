@@ -1,12 +1,12 @@
 use Rattle.std.proofs.Common.{ap, inl, refl, Err}
 use Rattle.run_words.specs.Views.{run_view}
 use Rattle.hotsync_looks.specs.Told.{sink_told, source_told}
-use Rattle.hotsync_run.specs.SessionCalls.{StaysAsItWas}
-use Rattle.hotsync_run.specs.Told.{CallTold, SidesTold, folder_told}
+use Rattle.call_parts.specs.Stays.{StaysAsItWas}
+use Rattle.call_parts.specs.Told.{CallTold, SidesTold, folder_told}
 use Rattle.hotsync_run.proofs.DryLaws.{copy_blamed, copy_stands, copy_told, dry_by_copies, dry_of_run, not_begun, stands_still, uncopied}
 use Rattle.hotsync_run.proofs.RefusedRuns.{by_desktop, by_handheld, by_script, by_trace}
 use Rattle.hotsync_run.proofs.SessionRuns.{by_session}
-use Rattle.hotsync_run.proofs.TraceLaws.{talk_not_handheld, talk_not_source}
+use Rattle.call_parts.proofs.TraceLaws.{talk_not_handheld, talk_not_source}
 use Rattle.hotsync_run.specs.DryRuns.{over}
 use Rattle.hotsync_run.proofs.dry_run.judged_dry_run.Goals as goal
 

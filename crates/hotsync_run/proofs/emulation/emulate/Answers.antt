@@ -3,7 +3,7 @@ use Rattle.run_words.specs.Views.{capture_view}
 use Rattle.hotsync_looks.specs.Served.{served_lines}
 use Rattle.hotsync_looks.specs.Told.{sink_told, source_told}
 use Rattle.hotsync_looks.proofs.PrintedLaws.{printed_weaken}
-use Rattle.hotsync_run.specs.Told.{CallTold, folder_told}
+use Rattle.call_parts.specs.Told.{CallTold, folder_told}
 use Rattle.hotsync_run.proofs.EmulationLaws.{emulation_decided, emulation_printed}
 use Rattle.hotsync_run.proofs.emulation.emulate.Goals as goal
 

@@ -1,7 +1,7 @@
 use Rattle.std.proofs.Common.{ap, refl, Err}
 use Rattle.run_words.specs.Views.{capture_view}
 use Rattle.hotsync_looks.specs.Told.{sink_told, source_told}
-use Rattle.hotsync_run.specs.Told.{CallTold, folder_told}
+use Rattle.call_parts.specs.Told.{CallTold, folder_told}
 use Rattle.hotsync_run.proofs.EmulationLaws.{by_handheld, by_sink, by_source, by_talk}
 use Rattle.hotsync_run.proofs.emulation.judged_emulation.Goals as goal
 

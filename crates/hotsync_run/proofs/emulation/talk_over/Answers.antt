@@ -3,7 +3,7 @@ use Rattle.hs_folders.specs.Causes.{Rose}
 use Rattle.handheld_files.specs.Openings.{opened_device}
 use Rattle.handheld_server.specs.Servers.{ServerValue}
 use Rattle.hotsync_looks.specs.Told.{sink_told, source_told}
-use Rattle.hotsync_run.specs.Told.{CallTold, folder_told}
+use Rattle.call_parts.specs.Told.{CallTold, folder_told}
 use Rattle.hotsync_run.proofs.EmulationLaws.{had_talk, keeper_end, sink_end, source_end, talk_unprinted}
 use Rattle.hotsync_run.proofs.emulation.talk_over.Goals as goal
 

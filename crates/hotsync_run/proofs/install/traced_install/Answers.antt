@@ -1,7 +1,7 @@
 use Rattle.handheld_files.specs.Openings.{opened_device}
-use Rattle.hotsync_run.specs.Told.{sides_told}
+use Rattle.call_parts.specs.Told.{sides_told}
 use Rattle.hotsync_run.proofs.InstallSpoke.{install_retold}
-use Rattle.hotsync_run.proofs.RetoldLaws.{talk_traced}
+use Rattle.call_parts.proofs.RetoldLaws.{talk_traced}
 use Rattle.hotsync_run.proofs.install.traced_install.Goals as goal
 
 pub returns-clause-talk : goal.returns-clause-talk

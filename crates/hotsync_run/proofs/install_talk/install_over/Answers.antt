@@ -2,7 +2,7 @@ use Rattle.std.proofs.Common.{ap, refl}
 use Rattle.std.specs.Prelude.{not}
 use Rattle.handheld_server.specs.SaidThings.{downs_of}
 use Rattle.line_world.specs.Worlds.{world_talk}
-use Rattle.hotsync_run.specs.Told.{folder_told}
+use Rattle.call_parts.specs.Told.{folder_told}
 use Rattle.hotsync_run.proofs.InstallSpoke.{install_spoke}
 use Rattle.hotsync_run.proofs.LeftLaws.{opened_rests}
 use Rattle.hotsync_run.proofs.install_talk.install_over.Goals as goal

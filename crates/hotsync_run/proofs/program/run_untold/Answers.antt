@@ -1,5 +1,5 @@
 use Rattle.hotsync_looks.specs.Told.{sink_told}
-use Rattle.hotsync_run.specs.Told.{call_told}
+use Rattle.call_parts.specs.Told.{call_told}
 use Rattle.hotsync_run.proofs.program.run_untold.Goals as goal
 
 pub returns-clause-call : goal.returns-clause-call

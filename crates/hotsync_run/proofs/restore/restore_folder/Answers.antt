@@ -1,6 +1,6 @@
 use Rattle.run_words.specs.Views.{between_view}
 use Rattle.hotsync_looks.specs.Told.{sink_told, source_told}
-use Rattle.hotsync_run.specs.Told.{CallTold, folder_told}
+use Rattle.call_parts.specs.Told.{CallTold, folder_told}
 use Rattle.hotsync_run.proofs.RestoreRuns.{restore_printed}
 use Rattle.hotsync_run.proofs.RestoreWell.{restore_ends_well}
 use Rattle.hotsync_run.proofs.restore.restore_folder.Goals as goal

@@ -4,7 +4,7 @@ use Rattle.pdb_values.specs.NamedDatabases.{NamesRise}
 use Rattle.palm_device.specs.Bounds.{IsBoundedDatabase}
 use Rattle.handheld_server.specs.SaidThings.{downs_of}
 use Rattle.line_world.specs.Worlds.{world_talk}
-use Rattle.hotsync_run.specs.Told.{folder_told}
+use Rattle.call_parts.specs.Told.{folder_told}
 use Rattle.hotsync_run.proofs.LeftLaws.{opened_rests}
 use Rattle.hotsync_run.proofs.RestoreSpoke.{restore_spoke}
 use Rattle.hotsync_run.proofs.restore_talk.restore_over.Goals as goal

@@ -1,6 +1,6 @@
 use Rattle.run_words.specs.Views.{run_view}
 use Rattle.hotsync_looks.specs.Told.{sink_told, source_told}
-use Rattle.hotsync_run.specs.Told.{CallTold, folder_told}
+use Rattle.call_parts.specs.Told.{CallTold, folder_told}
 use Rattle.hotsync_run.proofs.RunLaws.{run_printed}
 use Rattle.hotsync_run.proofs.UndisturbedLaws.{run_ends_well}
 use Rattle.hotsync_run.proofs.run.run_folders.Goals as goal

@@ -1,8 +1,8 @@
 use Rattle.handheld_files.specs.Openings.{opened_device}
 use Rattle.run_words.specs.Views.{run_view}
-use Rattle.hotsync_run.specs.Told.{sides_told}
-use Rattle.hotsync_run.proofs.RetoldLaws.{talk_traced}
-use Rattle.hotsync_run.proofs.TraceLaws.{talked_for_retold}
+use Rattle.call_parts.specs.Told.{sides_told}
+use Rattle.call_parts.proofs.RetoldLaws.{talk_traced}
+use Rattle.hotsync_run.proofs.RetoldTalks.{talked_for_retold}
 use Rattle.hotsync_run.proofs.run.traced_talk.Goals as goal
 
 pub returns-clause-talk : goal.returns-clause-talk

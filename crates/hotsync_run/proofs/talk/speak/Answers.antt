@@ -1,7 +1,8 @@
 use Rattle.std.proofs.Common.{refl}
 use Rattle.handheld_server.specs.SaidThings.{downs_of}
 use Rattle.line_world.specs.Worlds.{world_talk}
-use Rattle.hotsync_run.proofs.LeftLaws.{opened_rests, sound_meeting}
+use Rattle.hotsync_run.proofs.LeftLaws.{opened_rests}
+use Rattle.front_laws.proofs.RequestLaws.{sound_meeting}
 use Rattle.hotsync_run.proofs.TalkLaws.{run_spoke}
 use Rattle.hotsync_run.proofs.talk.speak.Goals as goal
 

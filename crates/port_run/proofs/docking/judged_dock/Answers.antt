@@ -1,5 +1,5 @@
 use Rattle.std.proofs.Common.{Err, ap, inl, inr, refl, ◌∙◌}
-use Rattle.hotsync_run.specs.Told.{folder_told}
+use Rattle.call_parts.specs.Told.{folder_told}
 use Rattle.run_words.specs.Views.{dock_view}
 use Rattle.port_run.specs.Told.{dock_told, port_told}
 use Rattle.port_run.proofs.DockLaws.{by_talk, port_not_trace, trace_not_port, undocked}

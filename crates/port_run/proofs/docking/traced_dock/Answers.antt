@@ -2,7 +2,7 @@ use Rattle.std.proofs.Common.{◌≡◌, ◌∙◌, refl, subst, sym}
 use Rattle.hs_folders.specs.Causes.{Rose}
 use Rattle.handheld_files.specs.Openings.{opened_device}
 use Rattle.handheld_server.specs.Servers.{ServerValue}
-use Rattle.hotsync_run.proofs.RetoldLaws.{unprinted_traced}
+use Rattle.call_parts.proofs.RetoldLaws.{unprinted_traced}
 use Rattle.port_run.specs.Told.{dock_told}
 use Rattle.port_run.proofs.DockLaws.{dock_had, dock_keeper, dock_port, dock_unsaid}
 use Rattle.port_run.proofs.docking.traced_dock.Goals as goal

@@ -1,5 +1,5 @@
 use Rattle.std.proofs.Common.{◌∙◌, ap, sym}
-use Rattle.hotsync_run.proofs.RetoldLaws.{unprinted_traced}
+use Rattle.call_parts.proofs.RetoldLaws.{unprinted_traced}
 use Rattle.port_run.proofs.syncing.traced_talk.Goals as goal
 
 pub returns-clause-unprinted : goal.returns-clause-unprinted

@@ -1,0 +1,11 @@
+pub mod EndLaws
+pub mod FrontLaws
+pub mod FrontMoments
+pub mod LineLaws
+pub mod RetoldLaws
+pub mod SideLaws
+pub mod SpokeLaws
+pub mod StopLaws
+pub mod TraceLaws
+pub mod WholeLaws
+pub mod WriteLaws

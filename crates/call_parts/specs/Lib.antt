@@ -1,0 +1,15 @@
+pub mod Causes
+pub mod Clocks
+pub mod Closings
+pub mod Files
+pub mod LineRuns
+pub mod Refusals
+pub mod Reports
+pub mod Scripts
+pub mod Sessions
+pub mod Stays
+pub mod Stops
+pub mod Told
+pub mod Traces
+pub mod Views
+pub mod Whole

@@ -1,0 +1,21 @@
+//! What the calls with a session share, whatever they have it for: the line's script is read, the folders of both sides
+//! are opened and judged, the trace is opened and written, and a session that is over is told by a status and a report.
+#![tactic(auto)]
+
+mod answer;
+mod clock;
+mod closing;
+mod left;
+mod report;
+mod reporting;
+mod script;
+mod sides;
+mod tracing;
+
+pub use answer::Answer;
+pub use clock::seconds_now;
+pub use closing::{Closed, close_session};
+pub use report::{Report, SessionEnd};
+pub use script::script_of;
+pub use sides::{open_desktop, open_files, open_handheld};
+pub use tracing::{open_named, open_trace, write_text};
