@@ -1,3 +1,12 @@
-pub mod HearingLaws
-pub mod StateLaws
 pub mod CallLaws
+pub mod FileLaws
+pub mod HandleLaws
+pub mod HearingLaws
+pub mod HeldLaws
+pub mod NumberLaws
+pub mod PushLaws
+pub mod ReadLaws
+pub mod StateLaws
+pub mod StringLaws
+pub mod TalkStringLaws
+pub mod TextLaws

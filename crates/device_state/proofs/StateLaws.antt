@@ -4,16 +4,16 @@ use Rattle.std.proofs.Common.{ℕ, Bool, true, false, List, [], ◌∷◌, ◌++
 use Rattle.std.specs.FinMap as finmap
 use Rattle.std.specs.Prelude.{Option, Some, Result, Ok, Err, OnOk, unwrap_or}
 use Rattle.hs_folders.specs.FileMaps.{FileMap}
-use Rattle.file_lists.specs.Lists.{IsFileList, NamedFile, files_of, held_of, list_text}
-use Rattle.file_lists.specs.declared.files.ListFault.{ListFault}
-use Rattle.file_lists.specs.declared.files.ListFault.TheVariants as list_fault
-use Rattle.file_lists.proofs.HeldLaws.{held_of-files_of}
-use Rattle.file_lists.specs.Strings.{string_text}
-use Rattle.talk_text.specs.Opened.{AreNamed}
-use Rattle.talk_text.specs.Texts.{talk_text}
-use Rattle.talk_text.proofs.TextLaws.{talk_text-injective}
-use Rattle.file_lists.proofs.FileLaws.{list_text-injective}
-use Rattle.file_lists.proofs.StringLaws.{length-string_text, string_text-injective}
+use Rattle.device_state.specs.Lists.{IsFileList, NamedFile, files_of, held_of, list_text}
+use Rattle.device_state.specs.declared.files.ListFault.{ListFault}
+use Rattle.device_state.specs.declared.files.ListFault.TheVariants as list_fault
+use Rattle.device_state.proofs.HeldLaws.{held_of-files_of}
+use Rattle.device_state.specs.Strings.{string_text}
+use Rattle.device_state.specs.Opened.{AreNamed}
+use Rattle.device_state.specs.Texts.{talk_text}
+use Rattle.device_state.proofs.TextLaws.{talk_text-injective}
+use Rattle.device_state.proofs.FileLaws.{list_text-injective}
+use Rattle.device_state.proofs.StringLaws.{length-string_text, string_text-injective}
 use Rattle.padp_link.specs.Neighbours.{session_id}
 use Rattle.handheld_files.specs.Handhelds.{StandFor}
 use Rattle.handheld_files.proofs.OneLaws.{one-handheld}

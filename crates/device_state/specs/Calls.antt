@@ -1,7 +1,7 @@
 -- What a call makes of a handheld.
 use Rattle.std.specs.Prelude.{◌≡◌, ℕ, Bool, false, List, [], ◌∷◌, ◌++◌, Option}
 use Rattle.std.specs.FinMap as finmap
-use Rattle.file_lists.specs.Lists.{IsFileList, NamedFile, held_of, list_text}
+use Rattle.device_state.specs.Lists.{IsFileList, NamedFile, held_of, list_text}
 use Rattle.handheld_files.specs.Handhelds.{StandFor}
 use Rattle.padp_end.specs.Outgoings.{said_text}
 use Rattle.palm_device.specs.Devices.{Device}

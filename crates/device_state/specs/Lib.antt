@@ -1,5 +1,11 @@
-pub mod Hearing
-pub mod States
-pub mod Refusals
 pub mod Calls
+pub mod Hearing
 pub mod Laws
+pub mod Lists
+pub mod Numbers
+pub mod Opened
+pub mod Readings
+pub mod Refusals
+pub mod States
+pub mod Strings
+pub mod Texts

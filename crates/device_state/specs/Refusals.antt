@@ -1,9 +1,9 @@
 -- Why nothing is made of bytes.
 use Rattle.std.specs.Prelude.{◌≡◌, ⊤, List, ℕ}
 use Rattle.hs_folders.specs.FileMaps.{FileMap}
-use Rattle.file_lists.specs.Lists.{IsFileList, NamedFile, held_of, list_text}
-use Rattle.file_lists.specs.declared.files.ListFault.{ListFault}
-use Rattle.file_lists.specs.declared.files.ListFault.TheVariants as list
+use Rattle.device_state.specs.Lists.{IsFileList, NamedFile, held_of, list_text}
+use Rattle.device_state.specs.declared.files.ListFault.{ListFault}
+use Rattle.device_state.specs.declared.files.ListFault.TheVariants as list
 use Rattle.padp_link.specs.declared.parts.PartsFault.{PartsFault}
 use Rattle.padp_link.specs.declared.parts.PartsFault.TheVariants as parts
 use Rattle.handheld_files.specs.Openings.{ShowsOpenFault}

@@ -2,10 +2,10 @@
 use Rattle.std.specs.Prelude.{◌≡◌, true, List, ℕ, ◌++◌, codes, length, Option, Some}
 use Rattle.std.specs.FinMap as finmap
 use Rattle.hs_folders.specs.FileMaps.{FileMap}
-use Rattle.file_lists.specs.Lists.{IsFileList, NamedFile, held_of, list_text}
-use Rattle.file_lists.specs.Strings.{string_text}
-use Rattle.talk_text.specs.Opened.{AreNamed}
-use Rattle.talk_text.specs.Texts.{talk_text}
+use Rattle.device_state.specs.Lists.{IsFileList, NamedFile, held_of, list_text}
+use Rattle.device_state.specs.Strings.{string_text}
+use Rattle.device_state.specs.Opened.{AreNamed}
+use Rattle.device_state.specs.Texts.{talk_text}
 use Rattle.pdb_values.specs.Databases.{DatabaseValue}
 use Rattle.pdb_values.specs.declared.user.UserInfo.{UserInfo}
 use Rattle.handheld_files.specs.Handhelds.{StandFor}

@@ -10,7 +10,7 @@ use crate::hearing::{Heard, hear_any};
 use crate::state::{StateFront, open_files, read_front, write_state};
 use arrayvec::ArrayVec;
 use device_stream::{Talk, TalkEnd};
-use file_lists::read_files;
+use crate::files::read_files;
 use handheld_server::Server;
 use hs_folders::{Folder, MemFolder};
 use std::alloc::{AllocError, Global};

@@ -3,7 +3,7 @@ ghost use Rattle.std.specs.Prelude.{◌≡◌};
 ghost use Rattle.device_state.specs.Refusals.{of_list, of_parts};
 ghost use Rattle.device_state.specs.declared.fault.StateFault.TheVariants.{NoMemory};
 
-use file_lists::ListFault;
+use crate::files::ListFault;
 use padp_end::PartsFault;
 use std::alloc::AllocError;
 

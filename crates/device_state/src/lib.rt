@@ -11,10 +11,20 @@
 
 mod calls;
 mod fault;
+mod files;
+mod handles;
 mod hearing;
 mod laws;
+mod list_laws;
+mod numbers;
+mod opened;
 mod state;
+mod strings;
+mod talk;
+mod talk_laws;
 
 pub use calls::{Step, files_in, new_state, next_state};
 pub use fault::StateFault;
 pub use laws::{a_state_is_one_handheld, pieces_are_heard_as_one};
+pub use list_laws::{a_folder_in_memory_is_a_list, a_list_determines_its_files, a_list_is_read_again, a_list_says_what_is_held, a_string_determines_its_end};
+pub use talk_laws::a_text_determines_its_talk;

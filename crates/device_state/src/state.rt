@@ -1,22 +1,23 @@
 //! A handheld is read from its bytes, and written.
 ghost use Rattle.std.specs.Prelude.{◌≡◌, ◌++◌, ℕ, List, IfErr, IfOk, IsErrOf, length, true};
-ghost use Rattle.file_lists.specs.Strings.{string_text};
+ghost use Rattle.device_state.specs.Strings.{string_text};
 ghost use Rattle.handheld_files.specs.Openings.{opened_device};
 ghost use Rattle.palm_device.specs.Soundness.{IsDevice};
-ghost use Rattle.talk_text.specs.Opened.{AreNamed};
-ghost use Rattle.talk_text.specs.Texts.{talk_text};
+ghost use Rattle.device_state.specs.Opened.{AreNamed};
+ghost use Rattle.device_state.specs.Texts.{talk_text};
 ghost use Rattle.device_state.specs.Refusals.{RefusesList};
 ghost use Rattle.device_state.specs.States.{IsOpenedList, IsState, StandsByHand, mark};
 ghost use Rattle.device_stream.specs.declared.parts.TalkParts.{TalkParts};
 
 use crate::fault::StateFault;
 use device_stream::{Talk, TalkParts};
-use file_lists::{next_string, push_files, push_string, read_files};
+use crate::files::{push_files, read_files};
+use crate::strings::{next_string, push_string};
 use handheld_files::OpenFault;
 use handheld_store::Store;
 use hs_folders::{Folder, MemFolder};
 use std::alloc::{AllocError, Global};
-use talk_text::{TalkFront, push_talk, read_talk};
+use crate::talk::{TalkFront, push_talk, read_talk};
 
 // What the bytes of a handheld begin with.
 const MARK: [u8; 4] = *b"HSD1";

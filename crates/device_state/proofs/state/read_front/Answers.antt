@@ -1,5 +1,5 @@
 use Rattle.std.proofs.Common.{◌≡◌, ◌++◌, arith, length, rules}
-use Rattle.talk_text.specs.Texts.{talk_text}
+use Rattle.device_state.specs.Texts.{talk_text}
 use Rattle.device_state.proofs.StateLaws.{no-held}
 use Rattle.device_state.specs.States.{mark}
 use Rattle.device_state.proofs.state.read_front.Goals as goal

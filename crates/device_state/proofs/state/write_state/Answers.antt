@@ -3,8 +3,8 @@ use Rattle.std.specs.FinMap as finmap
 use Rattle.hs_folders.specs.FileMaps.{FileMap}
 use Rattle.hs_folders.specs.FileTrees.{file_map}
 use Rattle.hs_folders.specs.declared.mem_folder.MemFolder.{MemFolder}
-use Rattle.file_lists.proofs.HeldLaws.{IsFileList-files_of, utf8_of-file_map}
-use Rattle.file_lists.specs.Lists.{files_of, list_text}
+use Rattle.device_state.proofs.HeldLaws.{IsFileList-files_of, utf8_of-file_map}
+use Rattle.device_state.specs.Lists.{files_of, list_text}
 use Rattle.handheld_files.specs.Handhelds.{StandFor}
 use Rattle.device_state.proofs.StateLaws.{IsState-written, front_text-written, same_map}
 use Rattle.device_state.specs.States.{mark}

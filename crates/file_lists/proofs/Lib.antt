@@ -1,5 +1,0 @@
-pub mod FileLaws
-pub mod HeldLaws
-pub mod PushLaws
-pub mod ReadLaws
-pub mod StringLaws

@@ -1,4 +1,0 @@
-pub mod HandleLaws
-pub mod NumberLaws
-pub mod StringLaws
-pub mod TextLaws
