@@ -8,8 +8,8 @@ use Rattle.std.specs.Prelude.{All, codes}
 use Rattle.std.specs.Int.{bytes_high_first}
 use Rattle.hex.specs.Hex.{decode_of, encode_lower, lower_digits}
 use Rattle.hex.proofs.HexLemmas.{decode_of-encode_lower, length-encode_with}
-use Rattle.palm_text.specs.Characters.{char_of, characters}
-use Rattle.palm_text.proofs.CharacterLaws.{append_parts, char_of_injective, every, every_at}
+use Rattle.palm_records.specs.Characters.{char_of, characters}
+use Rattle.palm_records.proofs.CharacterLaws.{append_parts, char_of_injective, every, every_at}
 use Rattle.content_lines.specs.Lines.{IsLine, begins_with_space, escaped, escaped_char, has_no_break}
 use Rattle.content_lines.proofs.LineLaws.{unescaped-escaped}
 use Rattle.content_lines.specs.Lines as lines

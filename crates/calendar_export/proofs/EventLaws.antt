@@ -6,7 +6,7 @@ use Rattle.std.proofs.lemmas.List.Elements.{All-head, All-tail}
 use Rattle.std.proofs.Common.{arith, ◌≡◌, ◌<◌, ◌++◌, ◌∷◌, [], ◌∙◌, ◌==◌, ◌&&◌, ap, refl, sym, ℕ, zero, suc, ◌+◌, ◌-◌, ◌*◌, Bool, true, false, List, Option, None, Some, append_assoc, cond, get_or}
 use Rattle.std.specs.Prelude.{All, codes, map, nat_lt, option_map, if◌then◌else◌}
 use Rattle.std.specs.Option.{is_some}
-use Rattle.palm_text.proofs.CharacterLaws.{append_parts, every, every_at}
+use Rattle.palm_records.proofs.CharacterLaws.{append_parts, every, every_at}
 use Rattle.palm_records.specs.declared.day.Day.{Day}
 use Rattle.palm_events.specs.declared.alarm.Alarm.{Alarm}
 use Rattle.palm_events.specs.declared.alarm.AlarmUnit.{AlarmUnit}

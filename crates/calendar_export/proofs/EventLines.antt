@@ -3,7 +3,7 @@ use Rattle.std.proofs.lemmas.List.Elements.{All-append, All-cons, All-nil}
 use Rattle.std.proofs.Common.{arith, ◌≡◌, ◌<◌, ◌++◌, ◌∷◌, [], refl, ℕ, zero, suc, ◌+◌, Bool, true, false, List, Option, None, Some, cond}
 use Rattle.std.specs.Prelude.{All, codes, map}
 use Rattle.std.specs.Option.{is_some}
-use Rattle.palm_text.proofs.CharacterLaws.{every, every_at}
+use Rattle.palm_records.proofs.CharacterLaws.{every, every_at}
 use Rattle.palm_records.specs.declared.day.Day.{Day}
 use Rattle.palm_events.specs.declared.alarm.Alarm.{Alarm}
 use Rattle.palm_events.specs.declared.alarm.AlarmUnit.{AlarmUnit}

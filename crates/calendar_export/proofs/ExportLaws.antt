@@ -11,8 +11,8 @@ use Rattle.calendar_export.specs.Components.{SourceValue, closing_lines, opening
 use Rattle.calendar_export.specs.Items.{IsItem, calendar_text, item_lines}
 use Rattle.calendar_export.specs.declared.kind.Kind.{Kind}
 use Rattle.calendar_export.proofs.LineLaws.{lines-3}
-use Rattle.export_choice.specs.declared.choice.Privacy.{Privacy}
-use Rattle.export_choice.specs.Choices.{BadItem, first_bad, is_exported, or_later}
+use Rattle.palm_records.specs.declared.choice.Privacy.{Privacy}
+use Rattle.palm_records.specs.Choices.{BadItem, first_bad, is_exported, or_later}
 use Rattle.calendar_export.specs.Exports.{IsSaid, exported, item_of, items_text, source_of}
 use Rattle.content_lines.proofs.TextLaws.{lines_text-append}
 

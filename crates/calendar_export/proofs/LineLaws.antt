@@ -6,8 +6,8 @@ use Rattle.std.proofs.Common.{arith, ◌≡◌, ◌<◌, ◌++◌, ◌∷◌, []
 use Rattle.std.specs.Prelude.{chars, encode_utf8, encode_utf8_all, IsUtf8, nat_lt}
 use Rattle.std.specs.Str.{IsAscii, all_scalars}
 use Rattle.pdb_values.specs.Stems.{stem_byte, stem_of}
-use Rattle.palm_text.specs.Characters.{char_of, characters}
-use Rattle.palm_text.proofs.CharacterLaws.{every, every_at}
+use Rattle.palm_records.specs.Characters.{char_of, characters}
+use Rattle.palm_records.proofs.CharacterLaws.{every, every_at}
 use Rattle.content_lines.specs.Lines.{escaped, escaped_char, folded, lines_text}
 use Rattle.calendar_export.specs.ContentLines.{is_plain}
 use Rattle.hex.specs.Hex.{encode_lower, encode_with}

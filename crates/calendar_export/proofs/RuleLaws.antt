@@ -4,7 +4,7 @@ use Rattle.std.proofs.lemmas.Bool.Decides.{nat_tests}
 use Rattle.std.proofs.lemmas.List.{append_cancel_left}
 use Rattle.std.proofs.Common.{arith, ◌≡◌, ◌<◌, ◌++◌, ◌∷◌, [], ◌∙◌, ◌==◌, ◌&&◌, ap, not, refl, sym, ℕ, ◌+◌, ◌-◌, ◌*◌, Bool, true, List, Option, None, Some, append_assoc, get_or, length}
 use Rattle.std.specs.Prelude.{codes, if◌then◌else◌}
-use Rattle.palm_text.proofs.CharacterLaws.{append_parts, every, every_at}
+use Rattle.palm_records.proofs.CharacterLaws.{append_parts, every, every_at}
 use Rattle.palm_records.specs.declared.day.Day.{Day}
 use Rattle.palm_events.specs.declared.repeat.Week.{Week}
 use Rattle.palm_events.specs.declared.repeat.Week.TheVariants.{First, Second, Third, Fourth, Last}

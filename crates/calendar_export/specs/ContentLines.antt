@@ -1,6 +1,6 @@
 -- The content lines of an iCalendar object (RFC 5545, section 3.1), in characters.
 use Rattle.std.specs.Prelude.{ℕ, ◌==◌, ◌&&◌, Bool, true, List, [], ◌∷◌, ◌++◌, length, nat_lt, if◌then◌else◌}
-use Rattle.palm_text.specs.Characters.{characters}
+use Rattle.palm_records.specs.Characters.{characters}
 use Rattle.content_lines.specs.Lines.{escaped}
 
 -- each character is one of ASCII, and none is a control

@@ -11,10 +11,10 @@ use Rattle.pdb_values.specs.Heads.{holds_resources}
 use Rattle.pdb_values.specs.Stems.{stem_of}
 use Rattle.palm_records.specs.Tasks.{TaskValue, task_in}
 use Rattle.palm_events.specs.Events.{EventValue, event_in}
-use Rattle.export_choice.specs.declared.choice.BrokenRecords.{BrokenRecords}
-use Rattle.export_choice.specs.declared.choice.BrokenRecords.TheVariants as broken
-use Rattle.export_choice.specs.declared.choice.Privacy.{Privacy}
-use Rattle.export_choice.specs.Choices.{BadItem, first_bad, is_exported, shown_label}
+use Rattle.palm_records.specs.declared.choice.BrokenRecords.{BrokenRecords}
+use Rattle.palm_records.specs.declared.choice.BrokenRecords.TheVariants as broken
+use Rattle.palm_records.specs.declared.choice.Privacy.{Privacy}
+use Rattle.palm_records.specs.Choices.{BadItem, first_bad, is_exported, shown_label}
 use Rattle.content_lines.specs.Lines.{lines_text}
 use Rattle.calendar_export.specs.declared.export.Bad.{Bad}
 use Rattle.calendar_export.specs.declared.kind.Kind.{Kind}

@@ -2,8 +2,8 @@
 ghost use Rattle.std.specs.Prelude.{◌≡◌, ◌<◌, ◌↔◌, ◌++◌, All, IfOk, IsErrOf, List, None, OnOk, Some, false, option_map, string_bytes, true, ℕ};
 ghost use Rattle.std.specs.Option.{option_copied};
 ghost use Rattle.pdb_values.specs.Stems.{stem_of};
-ghost use Rattle.export_choice.specs.Choices.{first_bad};
-ghost use Rattle.export_choice.specs.declared.choice.BrokenRecords.TheVariants.{Refused};
+ghost use Rattle.palm_records.specs.Choices.{first_bad};
+ghost use Rattle.palm_records.specs.declared.choice.BrokenRecords.TheVariants.{Refused};
 ghost use Rattle.content_lines.specs.Lines.{lines_text};
 ghost use Rattle.calendar_export.specs.ContentLines.{is_plain};
 ghost use Rattle.calendar_export.specs.Components.{IsOrigin, origin_value, source_value};
@@ -15,9 +15,8 @@ use crate::component::{Origin, Source, push_closing, push_journal, push_opening}
 use crate::date::push_event;
 use crate::kind::Kind;
 use crate::task::push_todo;
-use export_choice::{BrokenRecords, ExportFault, Privacy, is_exported, shown_label};
+use palm_records::{BrokenRecords, ExportFault, Privacy, is_exported, read_task, shown_label};
 use palm_events::read_event;
-use palm_records::read_task;
 use pdb_values::{Database, DbHead, DbName, PalmDate, Record};
 use std::alloc::{AllocError, Global};
 

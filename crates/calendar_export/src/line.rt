@@ -1,12 +1,12 @@
 // A content line that grows.
 ghost use Rattle.std.specs.Prelude.{◌≡◌, ◌++◌, ◌∷◌, [], IfOk, OnOk, chars, string_bytes, true};
-ghost use Rattle.palm_text.specs.Characters.{characters};
+ghost use Rattle.palm_records.specs.Characters.{characters};
 ghost use Rattle.content_lines.specs.Lines.{escaped, lines_text};
 ghost use Rattle.calendar_export.specs.ContentLines.{is_plain};
 ghost use Rattle.calendar_export.specs.Moments.{digit};
 
 use content_lines::{push_escaped, push_line};
-use palm_text::char_of;
+use palm_records::char_of;
 use std::alloc::{AllocError, Global};
 use std::marker::Model;
 

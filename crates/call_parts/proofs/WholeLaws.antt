@@ -18,7 +18,7 @@ use Rattle.line_steps.specs.Acknowledging.{EndsAcknowledging}
 use Rattle.line_steps.specs.declared.harm.Stop.{Stop as LineStop}
 use Rattle.line_steps.specs.Sending.{StopsBy}
 use Rattle.line_steps.specs.Stories.{told_from}
-use Rattle.line_talk.specs.Telling.{bytes_of, wake}
+use Rattle.line_steps.specs.TalkTelling.{bytes_of, wake}
 use Rattle.line_world.specs.Causes.{BearsOut, IsCause, down_end}
 use Rattle.line_world.specs.Stops.{EndsBy}
 use Rattle.line_world.specs.Logs.{LogValue, no_log}

@@ -4,7 +4,7 @@ use Rattle.trace_text.specs.TraceLines.{FrameValue}
 use Rattle.trace_text.specs.Stories.{IsStory}
 use Rattle.trace_text.specs.declared.frame.End.TheVariants.{Handheld, Desktop}
 use Rattle.line_steps.specs.Stories.{told_from}
-use Rattle.line_talk.specs.Telling.{bytes_of, init, wake}
+use Rattle.line_steps.specs.TalkTelling.{bytes_of, init, wake}
 use Rattle.line_world.specs.Logs.{LogValue}
 use Rattle.line_world.specs.Worlds.{EndsAcknowledged}
 use Rattle.call_parts.specs.Causes.{IsFallen, IsLineDown}

@@ -1,11 +1,11 @@
 -- The first record that is out of its form.
 use Rattle.std.proofs.Common.{◌≡◌, ◌∙◌, ◌<◌, ◌≤◌, ap, refl, sym, ℕ, suc, ◌+◌, true, false, List, ◌∷◌, add-one, drop, drop-cons, drop_of_length-le, get_or, length, Option, None, Some, Ok, Err}
 use Rattle.pdb_values.specs.declared.record.Record.{Record}
-use Rattle.export_choice.specs.declared.choice.BrokenRecords.TheVariants.{Refused}
-use Rattle.export_choice.specs.declared.choice.Privacy.{Privacy}
-use Rattle.export_choice.specs.declared.fault.ExportFault.{ExportFault}
-use Rattle.export_choice.specs.declared.fault.ExportFault.TheVariants.{BadRecord}
-use Rattle.export_choice.specs.Choices.{BadItem, first_bad, is_exported, or_later}
+use Rattle.palm_records.specs.declared.choice.BrokenRecords.TheVariants.{Refused}
+use Rattle.palm_records.specs.declared.choice.Privacy.{Privacy}
+use Rattle.palm_records.specs.declared.fault.ExportFault.{ExportFault}
+use Rattle.palm_records.specs.declared.fault.ExportFault.TheVariants.{BadRecord}
+use Rattle.palm_records.specs.Choices.{BadItem, first_bad, is_exported, or_later}
 use Rattle.std.specs.Prelude.{if◌then◌else◌}
 use Rattle.card_export.specs.Exports.{refusal, refusal_at}
 

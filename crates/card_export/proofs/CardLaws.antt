@@ -8,7 +8,7 @@ use Rattle.std.specs.Int.{bytes_high_first}
 use Rattle.std.specs.List.{flat_map}
 use Rattle.hex.specs.Hex.{decode_of, encode_lower, lower_digits}
 use Rattle.hex.proofs.HexLemmas.{decode_of-encode_lower, length-encode_with}
-use Rattle.palm_text.proofs.CharacterLaws.{append_parts}
+use Rattle.palm_records.proofs.CharacterLaws.{append_parts}
 use Rattle.card_export.specs.Cards.{CardValue, FormValue, IsBytes, IsCard, IsForm, IsPerson, PersonValue}
 use Rattle.card_export.specs.Cards.FormValue.{Person, Unread}
 use Rattle.card_export.specs.Properties.{card_lines, class_lines, custom_lines, field_lines, form_lines, value_lines, head_lines, id_digits, name_line, parts, person_lines, phone_line, place_lines, property, tail_lines, uid_line, unread_lines}

@@ -6,8 +6,8 @@ use Rattle.std.specs.Str.{chars}
 use Rattle.std.proofs.lemmas.List.{take_more}
 use Rattle.std.proofs.lemmas.Grind.{flat_map-append}
 use Rattle.pdb_values.specs.declared.record.Record.{Record}
-use Rattle.export_choice.specs.declared.choice.Privacy.{Privacy}
-use Rattle.export_choice.specs.Choices.{is_exported}
+use Rattle.palm_records.specs.declared.choice.Privacy.{Privacy}
+use Rattle.palm_records.specs.Choices.{is_exported}
 use Rattle.content_lines.specs.Lines.{lines_text}
 use Rattle.content_lines.proofs.TextLaws.{lines_text-append}
 use Rattle.card_export.specs.Cards.{CardValue}

@@ -7,7 +7,7 @@ use Rattle.std.proofs.Math.Utf8.{encode}
 use Rattle.std.specs.Int.{bytes_high_first}
 use Rattle.hex.specs.Hex.{encode_lower, lower_digits}
 use Rattle.hex.proofs.HexLemmas.{IsAscii-encode_with}
-use Rattle.palm_text.proofs.CharacterLaws.{every, every_at}
+use Rattle.palm_records.proofs.CharacterLaws.{every, every_at}
 use Rattle.std.proofs.Common.{arith, append_assoc, inl, inr, get_or, ◌<◌, ◌≤◌, ◌≡◌, ◌∙◌, ap, refl, sym, ℕ, Bool, true, List, [], ◌∷◌, ◌++◌, map}
 use Rattle.std.specs.Prelude.{Result, Err, codes, encode_utf8_all, nat_lt}
 use Rattle.palm_records.specs.Addresses.{AddressValue, address_in}

@@ -5,8 +5,8 @@ use Rattle.std.proofs.lemmas.List.Elements.{All-cons, All-head, All-nil, All-tai
 use Rattle.std.proofs.Common.{arith, ◌≡◌, ◌∙◌, ◌<◌, ◌≤◌, ◌==◌, ◌&&◌, ◌||◌, ap, refl, sym, ℕ, zero, suc, ◌+◌, Bool, true, false, List, [], ◌∷◌, ◌++◌, append_assoc, get_or, length, map}
 use Rattle.std.specs.Prelude.{All, codes, if◌then◌else◌}
 use Rattle.std.specs.List.{flat_map}
-use Rattle.palm_text.specs.Characters.{char_of, characters}
-use Rattle.palm_text.proofs.CharacterLaws.{char_of_injective}
+use Rattle.palm_records.specs.Characters.{char_of, characters}
+use Rattle.palm_records.proofs.CharacterLaws.{char_of_injective}
 use Rattle.content_lines.specs.Lines.{escaped, escaped_char, unescaped}
 use Rattle.content_lines.proofs.LineLaws.{unescaped-escaped}
 use Rattle.card_export.specs.Cards.{CustomValue, IsBytes, IsCustom, IsPhone, IsPlace, PhoneValue, PlaceValue}

@@ -8,8 +8,8 @@ use Rattle.std.specs.Prelude.{All, codes, if◌then◌else◌}
 use Rattle.std.specs.Int.{bytes_high_first}
 use Rattle.std.specs.List.{flat_map}
 use Rattle.hex.specs.Hex.{encode_lower, encode_with, lower_digits}
-use Rattle.palm_text.specs.Characters.{char_of}
-use Rattle.palm_text.proofs.CharacterLaws.{char_of-return, every, every_at}
+use Rattle.palm_records.specs.Characters.{char_of}
+use Rattle.palm_records.proofs.CharacterLaws.{char_of-return, every, every_at}
 use Rattle.content_lines.specs.Lines.{IsLine, begins_with_space, escaped, escaped_char, has_no_break}
 use Rattle.content_lines.proofs.TextLaws.{lines_text_injective}
 use Rattle.card_export.specs.Cards.{CardValue, CustomValue, FormValue, IsBytes, IsCard, IsCustom, IsForm, IsPerson, IsPhone, IsPlace, PersonValue, PhoneValue, PlaceValue}

@@ -4,7 +4,7 @@ use Rattle.std.proofs.lemmas.Str.{encodes-IsAscii, encodes-append}
 use Rattle.std.proofs.Math.Utf8.{encode}
 use Rattle.std.specs.Prelude.{codes, encode_utf8_all, if◌then◌else◌}
 use Rattle.std.specs.Str.{IsAscii, chars}
-use Rattle.palm_text.specs.Characters.{char_of}
+use Rattle.palm_records.specs.Characters.{char_of}
 use Rattle.content_lines.specs.Lines.{escaped, lines_text}
 use Rattle.content_lines.proofs.TextLaws.{lines_text-more}
 use Rattle.card_export.specs.Cards.{CustomValue, PlaceValue}

@@ -11,8 +11,8 @@ use Rattle.pdb_values.specs.declared.record.Record.{Record}
 use Rattle.pdb_values.specs.Stems.{hex_digit, is_plain, stem_byte, stem_of}
 use Rattle.palm_records.specs.Addresses.{AddressValue, address_in, are_kinds, field_bits, fields_at, is_kind, kinds_of, or_left, phone_word, string_in, with_fields}
 use Rattle.palm_records.specs.Strings.{first_zero, front, until_zero}
-use Rattle.export_choice.specs.declared.choice.Privacy.{Privacy}
-use Rattle.export_choice.specs.Choices.{is_exported}
+use Rattle.palm_records.specs.declared.choice.Privacy.{Privacy}
+use Rattle.palm_records.specs.Choices.{is_exported}
 use Rattle.content_lines.specs.Lines.{has_no_break}
 use Rattle.card_export.specs.Cards.{IsBytes, IsCard, IsCustom, IsForm, IsPerson, IsPhone}
 use Rattle.card_export.specs.Exports.{IsItem, IsStored, card_of, custom_of, customs_before, field_text, form_of, has_number, has_text, person_of, phone_of, phones_before, text_of}

@@ -4,7 +4,7 @@ use Rattle.std.proofs.lemmas.List.{map-append}
 use Rattle.std.proofs.lemmas.Str.{chars_from_encodes, encodes-append, encodes-chars}
 use Rattle.std.specs.Prelude.{chars, encode_utf8_all}
 use Rattle.std.specs.Str.{IsUtf8}
-use Rattle.palm_text.specs.Characters.{char_of, characters}
+use Rattle.palm_records.specs.Characters.{char_of, characters}
 use Rattle.content_lines.specs.Lines.{escaped, escaped_char, lines_text}
 use Rattle.card_export.specs.Properties.{value_lines, property, value_chars}
 

@@ -10,12 +10,12 @@ use Rattle.pdb_values.specs.Databases.{DatabaseValue}
 use Rattle.pdb_values.specs.Heads.{holds_resources}
 use Rattle.pdb_values.specs.Stems.{stem_of}
 use Rattle.palm_records.specs.Addresses.{AddressValue, address_in}
-use Rattle.export_choice.specs.declared.choice.Privacy.{Privacy}
-use Rattle.export_choice.specs.declared.choice.BrokenRecords.{BrokenRecords}
-use Rattle.export_choice.specs.declared.choice.BrokenRecords.TheVariants.{Kept, Refused}
-use Rattle.export_choice.specs.declared.fault.ExportFault.{ExportFault}
-use Rattle.export_choice.specs.declared.fault.ExportFault.TheVariants.{BadRecord}
-use Rattle.export_choice.specs.Choices.{BadItem, first_bad, is_exported, shown_label}
+use Rattle.palm_records.specs.declared.choice.Privacy.{Privacy}
+use Rattle.palm_records.specs.declared.choice.BrokenRecords.{BrokenRecords}
+use Rattle.palm_records.specs.declared.choice.BrokenRecords.TheVariants.{Kept, Refused}
+use Rattle.palm_records.specs.declared.fault.ExportFault.{ExportFault}
+use Rattle.palm_records.specs.declared.fault.ExportFault.TheVariants.{BadRecord}
+use Rattle.palm_records.specs.Choices.{BadItem, first_bad, is_exported, shown_label}
 use Rattle.content_lines.specs.Lines.{lines_text}
 use Rattle.card_export.specs.Cards.{IsBytes, id_limit, CardValue, CustomValue, FormValue, PersonValue, PhoneValue, PlaceValue}
 use Rattle.card_export.specs.Cards.FormValue.{Person, Unread}

@@ -4,7 +4,7 @@ use Rattle.std.specs.Prelude.{ℕ, ◌+◌, ◌==◌, ◌&&◌, Bool, List, [], 
 use Rattle.std.specs.Int.{bytes_high_first}
 use Rattle.std.specs.List.{flat_map}
 use Rattle.hex.specs.Hex.{encode_lower}
-use Rattle.palm_text.specs.Characters.{characters}
+use Rattle.palm_records.specs.Characters.{characters}
 use Rattle.content_lines.specs.Lines.{escaped, lines_text}
 use Rattle.card_export.specs.Cards.{CardValue, CustomValue, FormValue, PersonValue, PhoneValue, PlaceValue}
 use Rattle.card_export.specs.Cards.FormValue.{Person, Unread}

@@ -10,8 +10,7 @@ ghost use Rattle.card_export.specs.Properties.{card_lines, class_lines, form_lin
 
 use crate::line::{push_given, push_plain};
 use crate::person::push_person;
-use export_choice::shown_label;
-use palm_records::read_address;
+use palm_records::{read_address, shown_label};
 use pdb_values::{Record, RecordId};
 use std::alloc::{AllocError, Global};
 

@@ -3,14 +3,13 @@ ghost use Rattle.std.specs.Prelude.{◌≡◌, ◌↔◌, ◌++◌, All, IfOk, I
 ghost use Rattle.std.specs.Option.{option_copied};
 ghost use Rattle.std.specs.Str.{IsUtf8};
 ghost use Rattle.pdb_values.specs.Stems.{stem_of};
-ghost use Rattle.export_choice.specs.declared.choice.BrokenRecords.TheVariants.{Refused};
+ghost use Rattle.palm_records.specs.declared.choice.BrokenRecords.TheVariants.{Refused};
 ghost use Rattle.card_export.specs.Cards.{CardValue, IsCard};
 ghost use Rattle.card_export.specs.Exports.{IsItem, IsRefusedAt, exported_cards, fault_of, first_bad_address, holds_addresses, item_text, items_text, refusal, refusal_at};
 ghost use Rattle.card_export.specs.Properties.{cards_text};
 
 use crate::card::push_card;
-use export_choice::{BrokenRecords, ExportFault, Privacy, is_exported};
-use palm_records::read_address;
+use palm_records::{BrokenRecords, ExportFault, Privacy, is_exported, read_address};
 use pdb_values::{Database, DbHead, Record};
 use std::alloc::{AllocError, Global};
 

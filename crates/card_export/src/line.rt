@@ -4,7 +4,7 @@ ghost use Rattle.content_lines.specs.Lines.{lines_text};
 ghost use Rattle.card_export.specs.Properties.{value_lines, property, value_chars};
 
 use content_lines::{push_escaped, push_line};
-use palm_text::char_of;
+use palm_records::char_of;
 use std::alloc::{AllocError, Global};
 
 /// Appends the characters of a value, with their escapes.

@@ -10,7 +10,7 @@ use Rattle.cmp_hello.specs.declared.hello.HelloKind.TheVariants.{Init}
 use Rattle.dlp_commands.specs.DeviceSteps.{MayGive, served}
 use Rattle.dlp_replies.specs.Frames.{reply_text}
 use Rattle.dlp_replies.specs.ReplyValues.{EndOfSync}
-use Rattle.line_talk.specs.Telling.{bytes_of, wake}
+use Rattle.line_steps.specs.TalkTelling.{bytes_of, wake}
 use Rattle.padp_end.specs.Ends.{EndValue, end_begins, end_expects, end_takes, end_waits, first_end}
 use Rattle.padp_end.specs.Outgoings.{OutgoingFragment}
 use Rattle.padp_end.specs.declared.heard.Heard.{Heard}

@@ -1,7 +1,7 @@
 //! The greetings, the transactions, and the last reply.
 ghost use Rattle.std.specs.Prelude.{◌≡◌, ◌<◌, ◌^◌};
 ghost use Rattle.padp_link.specs.Neighbours.{session_id as id_by_number};
-ghost use Rattle.line_talk.specs.Telling.{bytes_of, wake as the_wake};
+ghost use Rattle.line_steps.specs.TalkTelling.{bytes_of, wake as the_wake};
 ghost use Rattle.device_stream.specs.Hands.{is_farewell as ends_sync, is_init as begins_talk};
 
 use cmp_hello::{HELLO_LEN, Hello, HelloKind, read_hello, write_hello};

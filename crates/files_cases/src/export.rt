@@ -4,7 +4,7 @@ ghost use Rattle.std.specs.Prelude.{◌≤◌};
 use calendar_export::{dates_text, tasks_text};
 use card_export::cards_text;
 use case_words::{bytes_at, number_at, short_in, word};
-use export_choice::{BrokenRecords, ExportFault, Privacy};
+use palm_records::{BrokenRecords, ExportFault, Privacy};
 use memo_import::{ImportFault, import_memos};
 use pdb_values::{Category, Content, Database, DbHead, DbName, FourCc, PalmDate, Record, RecordId};
 use record_export::memos_text;

@@ -18,7 +18,7 @@ use Rattle.session_plan.specs.Skips.{active}
 use Rattle.session_plan.specs.Tasks.{Meeting, Task}
 use Rattle.session_plan.specs.Users.{begun_user}
 use Rattle.sync_session.proofs.QuietLaws.{quiet-before_writes}
-use Rattle.repeat_laws.proofs.MergedLaws.{NotNamed}
+use Rattle.front_laws.proofs.MergedLaws.{NotNamed}
 use Rattle.front_laws.specs.Given.{ids_in}
 use Rattle.front_laws.specs.Sound.{IsSoundMeeting}
 use Rattle.front_laws.proofs.AlongLaws.{Along, along-append, along-last, along-map, along-quiet, none-told, quiet-after, quiet-all}

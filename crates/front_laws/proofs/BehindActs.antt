@@ -23,7 +23,7 @@ use Rattle.sync_session.specs.Sessions.{after_commit, end_mark}
 use Rattle.session_plan.specs.Skips.{active}
 use Rattle.session_plan.specs.Tasks.{Meeting, Task, slot_of}
 use Rattle.session_plan.specs.Users.{begun_user, done_user}
-use Rattle.repeat_laws.proofs.MergedLaws.{NotNamed}
+use Rattle.front_laws.proofs.MergedLaws.{NotNamed}
 use Rattle.front_laws.specs.Given.{ids_in}
 use Rattle.front_laws.specs.Sound.{IsSoundMeeting}
 use Rattle.front_laws.proofs.AlongLaws.{Along, along-append, along-last, along-map, none-told}

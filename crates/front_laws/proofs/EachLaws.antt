@@ -9,7 +9,7 @@ use Rattle.pdb_values.proofs.NamedLaws.{NamesRise-with_put, bytes_eq-own, databa
 use Rattle.session_plan.specs.Merges.{handheld_before}
 use Rattle.session_plan.specs.Choosing.{add_count}
 use Rattle.session_plan.specs.Tasks.{Meeting, Task}
-use Rattle.repeat_laws.proofs.MergedLaws.{NotNamed}
+use Rattle.front_laws.proofs.MergedLaws.{NotNamed}
 use Rattle.front_laws.proofs.TaskActs.{IsReady}
 use Rattle.sync_session.proofs.OnceLaws.{bytes_eq-swap}
 

@@ -23,13 +23,13 @@ use Rattle.record_merge.proofs.AfterLaws.{after-append, after-clearing}
 use Rattle.record_merge.proofs.HeldLaws.{sides-equal}
 use Rattle.record_merge.proofs.PutLaws.{differ-ids}
 use Rattle.session_plan.specs.Tasks.{Meeting, task_of}
-use Rattle.repeat_laws.specs.Meetings.{IsActive, action_at, found_of, holding_after, ids_at}
-use Rattle.repeat_laws.specs.Repeats.{Finding, GotAllIds, GotIds, IsRead, chosen, ended, shown}
-use Rattle.repeat_laws.proofs.CommitLaws.{no_zero}
-use Rattle.repeat_laws.proofs.MeetingLaws.{reading-shows}
-use Rattle.repeat_laws.proofs.NewsLaws.{whole-is}
-use Rattle.repeat_laws.proofs.SoundLaws.{read-commit}
-use Rattle.repeat_laws.proofs.WholeLaws.{holds-end}
+use Rattle.front_laws.specs.Meetings.{IsActive, action_at, found_of, holding_after, ids_at}
+use Rattle.front_laws.specs.Repeats.{Finding, GotAllIds, GotIds, IsRead, chosen, ended, shown}
+use Rattle.front_laws.proofs.CommitLaws.{no_zero}
+use Rattle.front_laws.proofs.MeetingLaws.{reading-shows}
+use Rattle.front_laws.proofs.NewsLaws.{whole-is}
+use Rattle.front_laws.proofs.SoundLaws.{read-commit}
+use Rattle.front_laws.proofs.WholeLaws.{holds-end}
 use Rattle.front_laws.specs.Equal.{AreUnmarked, HasEqualSides, IsShownWhole, IsUnmarked}
 use Rattle.front_laws.specs.Sound.{IsSoundMeeting}
 use Rattle.front_laws.proofs.ReadyLaws.{handheld-sound}

@@ -17,15 +17,15 @@ use Rattle.session_plan.specs.Losses.{first_loss, is_loss, is_lost, is_new, is_n
 use Rattle.session_plan.specs.Merges.{merged_slot}
 use Rattle.session_plan.specs.Skips.{active, head_of, reason_by, skip_of}
 use Rattle.session_plan.specs.Tasks.{Meeting, Task, action_of_word, names, records_of, slot_of, task_of}
-use Rattle.repeat_laws.specs.Losses.{loses_rows}
-use Rattle.repeat_laws.specs.Meetings.{AsksTheSame, IsActive, LeftMerged, action_at, found_of, ids_at}
-use Rattle.repeat_laws.specs.Repeats.{Finding, GotIds, IsRead, MayStop, Place, among_news, at_end, before_mark, behind_commit, chosen, left}
-use Rattle.repeat_laws.specs.Repeats.{left_at_end, left_behind_commit}
-use Rattle.repeat_laws.proofs.LossLaws.{commit-loses, end-loses, news-loses}
-use Rattle.repeat_laws.proofs.MeetingLaws.{at-the_end, behind-the_commit, reading-shows}
-use Rattle.repeat_laws.proofs.MergedLaws.{AreTasks, IsTask}
-use Rattle.repeat_laws.proofs.TaskLaws.{are-active, device-name, is-active, on_a_side, rows-name}
-use Rattle.repeat_laws.proofs.WholeLaws.{chosen-is, untouched-at, whole-found}
+use Rattle.front_laws.specs.Losses.{loses_rows}
+use Rattle.front_laws.specs.Meetings.{AsksTheSame, IsActive, LeftMerged, action_at, found_of, ids_at}
+use Rattle.front_laws.specs.Repeats.{Finding, GotIds, IsRead, MayStop, Place, among_news, at_end, before_mark, behind_commit, chosen, left}
+use Rattle.front_laws.specs.Repeats.{left_at_end, left_behind_commit}
+use Rattle.front_laws.proofs.RepeatLossLaws.{commit-loses, end-loses, news-loses}
+use Rattle.front_laws.proofs.MeetingLaws.{at-the_end, behind-the_commit, reading-shows}
+use Rattle.front_laws.proofs.MergedLaws.{AreTasks, IsTask}
+use Rattle.front_laws.proofs.TaskLaws.{are-active, device-name, is-active, on_a_side, rows-name}
+use Rattle.front_laws.proofs.WholeLaws.{chosen-is, untouched-at, whole-found}
 use Rattle.front_laws.specs.Again.{IsFresh, RunsAgain}
 use Rattle.front_laws.specs.Sound.{IsSoundMeeting}
 use Rattle.front_laws.specs.Stops.{StandsAmongNews, StandsBehindCommit}

@@ -18,17 +18,17 @@ use Rattle.record_merge.proofs.PutLaws.{differ-ids}
 use Rattle.record_merge.proofs.SettledLaws.{based-merged}
 use Rattle.session_plan.specs.Limits.{first_over}
 use Rattle.session_plan.specs.Tasks.{Meeting, task_of}
-use Rattle.repeat_laws.specs.Meetings.{AllFollow, Follows, IsActive, action_at, found_of, holding_after, ids_at, last_of, places_of}
-use Rattle.repeat_laws.specs.Renaming.{AreUnknown, SameEnds}
-use Rattle.repeat_laws.specs.Repeats.{AreStops, Finding, GotAllIds, GotIds, IsRead, MayStop, NoneUnderGone, Place, all_ids, among_news, at_end, before_mark}
-use Rattle.repeat_laws.specs.Repeats.{EndAlike, Ending, behind_commit, chosen, ended, given_by, ids_given, ids_with, left, left_by, news_done, shown, sides}
-use Rattle.repeat_laws.proofs.CommitLaws.{end-adds}
-use Rattle.repeat_laws.proofs.DesktopLaws.{chosen-again}
-use Rattle.repeat_laws.proofs.MeetingLaws.{all-follow, reading-shows}
-use Rattle.repeat_laws.proofs.NewsLaws.{news-adds, whole-is}
-use Rattle.repeat_laws.proofs.SoundLaws.{read-commit, read-news}
-use Rattle.repeat_laws.proofs.RepeatLaws.{both_repeat, got-any}
-use Rattle.repeat_laws.proofs.WholeLaws.{holds-end, meetings-hold}
+use Rattle.front_laws.specs.Meetings.{AllFollow, Follows, IsActive, action_at, found_of, holding_after, ids_at, last_of, places_of}
+use Rattle.front_laws.specs.Renaming.{AreUnknown, SameEnds}
+use Rattle.front_laws.specs.Repeats.{AreStops, Finding, GotAllIds, GotIds, IsRead, MayStop, NoneUnderGone, Place, all_ids, among_news, at_end, before_mark}
+use Rattle.front_laws.specs.Repeats.{EndAlike, Ending, behind_commit, chosen, ended, given_by, ids_given, ids_with, left, left_by, news_done, shown, sides}
+use Rattle.front_laws.proofs.CommitLaws.{end-adds}
+use Rattle.front_laws.proofs.DesktopLaws.{chosen-again}
+use Rattle.front_laws.proofs.MeetingLaws.{all-follow, reading-shows}
+use Rattle.front_laws.proofs.NewsLaws.{news-adds, whole-is}
+use Rattle.front_laws.proofs.SoundLaws.{read-commit, read-news}
+use Rattle.front_laws.proofs.RepeatLaws.{both_repeat, got-any}
+use Rattle.front_laws.proofs.WholeLaws.{holds-end, meetings-hold}
 use Rattle.front_laws.specs.Again.{AllRunAgain, AreFresh, EndsAtMerge, IsFreshBehind, Later, RunsAgain, ids_of_all, last_run}
 use Rattle.front_laws.specs.Sound.{IsSoundMeeting}
 use Rattle.front_laws.proofs.FrontLaws.{front-among, front-behind}

@@ -20,11 +20,11 @@ use Rattle.session_plan.specs.Choosing.{action_or_sync, choice, seen_held, add_c
 use Rattle.session_plan.specs.Merges.{merged_device}
 use Rattle.session_plan.specs.Skips.{active, skip_of}
 use Rattle.session_plan.specs.Tasks.{Meeting, Task, names, records_of, task_of, tasks}
-use Rattle.repeat_laws.specs.Meetings.{IsActive, found, ids_at, ids_dealt}
-use Rattle.repeat_laws.specs.Repeats.{GotAllIds, GotIds, chosen, clearing_done, given_by, news_done, shown}
-use Rattle.repeat_laws.proofs.MergedLaws.{AreTasks, IsTask, NotNamed}
-use Rattle.repeat_laws.proofs.TaskLaws.{are-active, is-active}
-use Rattle.repeat_laws.proofs.WholeLaws.{chosen-is, shown-is}
+use Rattle.front_laws.specs.Meetings.{IsActive, found, ids_at, ids_dealt}
+use Rattle.front_laws.specs.Repeats.{GotAllIds, GotIds, chosen, clearing_done, given_by, news_done, shown}
+use Rattle.front_laws.proofs.MergedLaws.{AreTasks, IsTask, NotNamed}
+use Rattle.front_laws.proofs.TaskLaws.{are-active, is-active}
+use Rattle.front_laws.proofs.WholeLaws.{chosen-is, shown-is}
 use Rattle.front_laws.specs.Sound.{IsSoundMeeting}
 use Rattle.front_laws.specs.Stops.{IsWritten, StandsAmongNews, StandsBehindCommit, StandsWith}
 use Rattle.front_laws.proofs.AmongActs.{AmongPart, AreInTurn, AreShared, IsShare, Share, all_used, no_share}

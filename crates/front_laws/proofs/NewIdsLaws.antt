@@ -25,19 +25,19 @@ use Rattle.session_plan.specs.Limits.{first_behind, first_over}
 use Rattle.sync_session.specs.News.{replaced as replacements}
 use Rattle.session_plan.specs.Skips.{active}
 use Rattle.session_plan.specs.Tasks.{Meeting, Task, records_of, slot_of, task_of}
-use Rattle.repeat_laws.specs.Meetings.{IsActive, action_at, found, found_of, ids_at, ids_dealt}
-use Rattle.repeat_laws.specs.Renaming.{AreUnknown, is_known}
-use Rattle.repeat_laws.specs.Repeats.{Finding, GotAllIds}
-use Rattle.repeat_laws.proofs.MergedLaws.{IsTask}
-use Rattle.repeat_laws.proofs.TaskLaws.{is-active}
-use Rattle.repeat_laws.proofs.WholeLaws.{before_records, chosen-is, shown-is}
+use Rattle.front_laws.specs.Meetings.{IsActive, action_at, found, found_of, ids_at, ids_dealt}
+use Rattle.front_laws.specs.Renaming.{AreUnknown, is_known}
+use Rattle.front_laws.specs.Repeats.{Finding, GotAllIds}
+use Rattle.front_laws.proofs.MergedLaws.{IsTask}
+use Rattle.front_laws.proofs.TaskLaws.{is-active}
+use Rattle.front_laws.proofs.WholeLaws.{before_records, chosen-is, shown-is}
 use Rattle.front_laws.specs.Sound.{IsSoundMeeting}
 use Rattle.front_laws.proofs.PhaseActs.{first_not, has_room, within}
 use Rattle.front_laws.proofs.PutActs.{replaces-length}
 use Rattle.front_laws.proofs.ReadyLaws.{IsKept, are-kept, handheld-sound, ready-of, shows-no_other}
 use Rattle.front_laws.proofs.TaskActs.{HasRoom}
 use Rattle.std.proofs.lemmas.Bool.{or_parts}
-use Rattle.repeat_laws.proofs.DesktopLaws.{first_place}
+use Rattle.front_laws.proofs.DesktopLaws.{first_place}
 use Rattle.handheld_files.proofs.GivenLaws.{least_few}
 use Rattle.handheld_files.proofs.ChangeLaws.{take_front, drop_front}
 use Rattle.fast_mirror.proofs.ViewLaws.{ids_count}

@@ -30,7 +30,7 @@ use Rattle.session_plan.specs.Heads.{made_head}
 use Rattle.sync_session.specs.News.{news_acts, news_by, opened_for, writes, replaced as replacements}
 use Rattle.sync_session.specs.Reads.{opened}
 use Rattle.session_plan.specs.Tasks.{Meeting, Task}
-use Rattle.repeat_laws.specs.Repeats.{given_by}
+use Rattle.front_laws.specs.Repeats.{given_by}
 use Rattle.front_laws.specs.Given.{id_in, ids_in}
 use Rattle.front_laws.proofs.AlongLaws.{Along, Holds, along-append, along-last, along-map, along-quiet, none-in, none-told}
 use Rattle.front_laws.proofs.OpenActs.{all_closed, one_open, open_does}

@@ -23,7 +23,7 @@ use Rattle.sync_session.specs.Reads.{opened, read_acts, reads}
 use Rattle.session_plan.specs.Sizes.{is_over}
 use Rattle.session_plan.specs.Tasks.{Meeting, Task, records_of}
 use Rattle.session_plan.specs.declared.sizes.Sizes.{Sizes}
-use Rattle.repeat_laws.proofs.MergedLaws.{NotNamed}
+use Rattle.front_laws.proofs.MergedLaws.{NotNamed}
 use Rattle.front_laws.specs.Given.{GetFreeIds}
 use Rattle.front_laws.proofs.CountLaws.{appended-count}
 use Rattle.front_laws.proofs.EachLaws.{AreChanged, AreReady, Change, HaveNames, KeepsName, changed-other, look-other, put_at_task, put_each, put-is}
@@ -32,7 +32,7 @@ use Rattle.front_laws.proofs.OpenActs.{all_closed}
 use Rattle.front_laws.proofs.ReadActs.{reads_same}
 use Rattle.front_laws.proofs.PutActs.{free-append, free-front}
 use Rattle.front_laws.proofs.TaskActs.{AreGiven, HasNews, HasRoom, IsReady, news_do, purged_does, with_news}
-use Rattle.repeat_laws.proofs.SkipLaws.{right_false}
+use Rattle.front_laws.proofs.SkipLaws.{right_false}
 use Rattle.sync_session.proofs.OnceLaws.{bytes_eq-swap}
 use Rattle.sync_session.proofs.PlannedLaws.{at_most}
 use Rattle.folder_files.proofs.ValueLaws.{or_first}

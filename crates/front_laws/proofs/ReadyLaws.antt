@@ -31,9 +31,9 @@ use Rattle.session_plan.specs.Merges.{handheld_before, new_database}
 use Rattle.sync_session.specs.News.{replaced as replacements}
 use Rattle.session_plan.specs.Skips.{active, head_of, one_passes, reason_by, skip_of}
 use Rattle.session_plan.specs.Tasks.{Meeting, Task, names, records_of, slot_of, task_of, tasks}
-use Rattle.repeat_laws.proofs.MergedLaws.{AreTasks}
-use Rattle.repeat_laws.proofs.SkipLaws.{handheld-like}
-use Rattle.repeat_laws.proofs.TaskLaws.{are-active, on_a_side}
+use Rattle.front_laws.proofs.MergedLaws.{AreTasks}
+use Rattle.front_laws.proofs.SkipLaws.{handheld-like}
+use Rattle.front_laws.proofs.TaskLaws.{are-active, on_a_side}
 use Rattle.front_laws.specs.Sound.{IsSoundMeeting}
 use Rattle.front_laws.proofs.EachLaws.{AreReady, HaveNames}
 use Rattle.front_laws.proofs.PhaseActs.{ShowAll, Stand}

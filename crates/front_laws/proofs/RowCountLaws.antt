@@ -18,11 +18,11 @@ use Rattle.session_plan.specs.Sizes.{is_over}
 use Rattle.session_plan.specs.Skips.{active}
 use Rattle.session_plan.specs.Tasks.{Meeting, Task, slot_of, task_of}
 use Rattle.session_plan.specs.declared.sizes.Sizes.{Sizes}
-use Rattle.repeat_laws.proofs.MergedLaws.{AreTasks}
-use Rattle.repeat_laws.proofs.ShelfLaws.{rows_name}
-use Rattle.repeat_laws.proofs.TaskLaws.{are-active}
+use Rattle.front_laws.proofs.MergedLaws.{AreTasks}
+use Rattle.front_laws.proofs.ShelfLaws.{rows_name}
+use Rattle.front_laws.proofs.TaskLaws.{are-active}
 use Rattle.front_laws.proofs.PhaseActs.{first_not}
-use Rattle.repeat_laws.proofs.SkipLaws.{right_false}
+use Rattle.front_laws.proofs.SkipLaws.{right_false}
 use Rattle.sync_session.proofs.PlannedLaws.{at_most}
 use Rattle.folder_files.proofs.ValueLaws.{or_first}
 

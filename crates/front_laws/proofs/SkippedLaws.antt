@@ -9,14 +9,14 @@ use Rattle.run_words.specs.Actions.{action_for}
 use Rattle.session_plan.specs.Merges.{merged_device, merged_slot}
 use Rattle.session_plan.specs.Skips.{active, head_of, reason_by, skip_of}
 use Rattle.session_plan.specs.Tasks.{Meeting, action_of_word, slot_of, task_of}
-use Rattle.repeat_laws.specs.Meetings.{AsksTheSame, IsActive}
-use Rattle.repeat_laws.proofs.MergedLaws.{handheld-others}
-use Rattle.repeat_laws.proofs.ShelfLaws.{archive-head, archive_in, base-head, base_in, rows-head, rows_in, shelf-others}
-use Rattle.repeat_laws.proofs.TaskLaws.{are-active, device-name, on_a_side, rows-name}
+use Rattle.front_laws.specs.Meetings.{AsksTheSame, IsActive}
+use Rattle.front_laws.proofs.MergedLaws.{handheld-others}
+use Rattle.front_laws.proofs.ShelfLaws.{archive-head, archive_in, base-head, base_in, rows-head, rows_in, shelf-others}
+use Rattle.front_laws.proofs.TaskLaws.{are-active, device-name, on_a_side, rows-name}
 use Rattle.front_laws.specs.Again.{AllRunAgain, AllSkip, HoldsTheSame, Later, last_run}
 use Rattle.front_laws.proofs.FrontLaws.{front-among, front-behind}
 use Rattle.front_laws.proofs.NameLaws.{not-active}
-use Rattle.repeat_laws.proofs.WholeLaws.{device_databases, slot_shelves}
+use Rattle.front_laws.proofs.WholeLaws.{device_databases, slot_shelves}
 
 -- ---- a whole session
 

@@ -31,19 +31,19 @@ use Rattle.session_plan.specs.Merges.{merged_device, merged_slot}
 use Rattle.session_plan.specs.Skips.{active, head_of, reason_by, skip_of}
 use Rattle.session_plan.specs.Tasks.{Meeting, Task, action_of_word, records_of, slot_of, task_of}
 use Rattle.session_plan.specs.Users.{begun_user}
-use Rattle.repeat_laws.specs.Meetings.{AsksTheSame, Follows, IsActive, IsLikeFirst, LeftAmongNews, LeftAtEnd, LeftBehindCommit, LeftMerged, StandsLike}
-use Rattle.repeat_laws.specs.Meetings.{action_at, found_of, holding_after, ids_at}
-use Rattle.repeat_laws.specs.Renaming.{AreUnknown, SameEnds}
-use Rattle.repeat_laws.specs.Repeats.{Finding, GotAllIds, GotIds, IsRead, MayStop, NoneUnderGone, Place, among_news, at_end, before_mark, behind_commit, chosen}
-use Rattle.repeat_laws.specs.Repeats.{given_by, ids_given, ids_with, left_behind_commit, news_done, shown, sides}
-use Rattle.repeat_laws.proofs.CommitLaws.{commit-adds, end-adds}
-use Rattle.repeat_laws.proofs.MeetingLaws.{among-news, at-the_end, behind-the_commit, reading-shows, same_action}
-use Rattle.repeat_laws.proofs.MergedLaws.{handheld-merged}
-use Rattle.repeat_laws.proofs.NewsLaws.{whole-is}
-use Rattle.repeat_laws.proofs.SkipLaws.{handheld-like, kept-stays}
-use Rattle.repeat_laws.proofs.SoundLaws.{read-commit}
-use Rattle.repeat_laws.proofs.TaskLaws.{are-active, device-name, is-active, on_a_side, rows-name}
-use Rattle.repeat_laws.proofs.WholeLaws.{active-again, device_databases, meetings-hold, merged-at, whole-found}
+use Rattle.front_laws.specs.Meetings.{AsksTheSame, Follows, IsActive, IsLikeFirst, LeftAmongNews, LeftAtEnd, LeftBehindCommit, LeftMerged, StandsLike}
+use Rattle.front_laws.specs.Meetings.{action_at, found_of, holding_after, ids_at}
+use Rattle.front_laws.specs.Renaming.{AreUnknown, SameEnds}
+use Rattle.front_laws.specs.Repeats.{Finding, GotAllIds, GotIds, IsRead, MayStop, NoneUnderGone, Place, among_news, at_end, before_mark, behind_commit, chosen}
+use Rattle.front_laws.specs.Repeats.{given_by, ids_given, ids_with, left_behind_commit, news_done, shown, sides}
+use Rattle.front_laws.proofs.CommitLaws.{commit-adds, end-adds}
+use Rattle.front_laws.proofs.MeetingLaws.{among-news, at-the_end, behind-the_commit, reading-shows, same_action}
+use Rattle.front_laws.proofs.MergedLaws.{handheld-merged}
+use Rattle.front_laws.proofs.NewsLaws.{whole-is}
+use Rattle.front_laws.proofs.SkipLaws.{handheld-like, kept-stays}
+use Rattle.front_laws.proofs.SoundLaws.{read-commit}
+use Rattle.front_laws.proofs.TaskLaws.{are-active, device-name, is-active, on_a_side, rows-name}
+use Rattle.front_laws.proofs.WholeLaws.{active-again, device_databases, meetings-hold, merged-at, whole-found}
 use Rattle.front_laws.specs.Again.{IsFresh, RunsAgain}
 use Rattle.front_laws.specs.Sound.{IsSoundMeeting}
 use Rattle.front_laws.specs.Stops.{StandsAmongNews, StandsBehindCommit, StandsWith, news_at}
@@ -52,7 +52,7 @@ use Rattle.front_laws.proofs.PartActs.{take-all}
 use Rattle.front_laws.proofs.ReadyLaws.{handheld-sound}
 use Rattle.front_laws.proofs.UnwrittenLaws.{unwritten-ids, written-records}
 use Rattle.front_laws.proofs.UnknownLaws.{IsNewIn, all-new, news-back, news-new, none-back, none-front, unknown-both, unknown-of}
-use Rattle.repeat_laws.proofs.HandheldLaws.{take_none}
+use Rattle.front_laws.proofs.HandheldLaws.{take_none}
 
 -- ---- what the next meeting finds
 

@@ -12,9 +12,9 @@ use Rattle.conduit_rules.specs.declared.action.Action.{Action}
 use Rattle.record_merge.specs.Stops.{NoBase}
 use Rattle.record_merge.specs.Writes.{AreFree, adding, after, numbered, replaces}
 use Rattle.record_merge.proofs.AfterLaws.{after-replaces, free_before, free_before_all, place-first}
-use Rattle.repeat_laws.specs.Renaming.{AreUnknown}
-use Rattle.repeat_laws.specs.Repeats.{Finding, GotAllIds, GotIds, chosen, given_by, news_done, shown}
-use Rattle.repeat_laws.proofs.SkipLaws.{both_false}
+use Rattle.front_laws.specs.Renaming.{AreUnknown}
+use Rattle.front_laws.specs.Repeats.{Finding, GotAllIds, GotIds, chosen, given_by, news_done, shown}
+use Rattle.front_laws.proofs.SkipLaws.{both_false}
 use Rattle.desk_journal.proofs.StepLaws.{all_weaken}
 
 -- no record has the id

@@ -12,10 +12,10 @@ use Rattle.conduit_rules.specs.declared.action.Action.{Action}
 use Rattle.record_merge.specs.Writes.{Write, adding, after, numbered, replaces}
 use Rattle.record_merge.proofs.PutLaws.{first-put}
 use Rattle.session_plan.specs.Tasks.{Task, records_of}
-use Rattle.repeat_laws.specs.Repeats.{Finding, GotIds, chosen, given_by, news_done, shown}
+use Rattle.front_laws.specs.Repeats.{Finding, GotIds, chosen, given_by, news_done, shown}
 use Rattle.front_laws.specs.Stops.{IsWritten, StandsWith}
 use Rattle.front_laws.proofs.UnknownLaws.{news-new}
-use Rattle.repeat_laws.proofs.WholeLaws.{before_records}
+use Rattle.front_laws.proofs.WholeLaws.{before_records}
 
 -- ---- a database with some writes carried out
 

@@ -12,9 +12,9 @@ use Rattle.session_plan.specs.Losses.{first_loss}
 use Rattle.session_plan.specs.Merges.{merged_device, merged_slot}
 use Rattle.sync_session.specs.Sessions.{writes_before_commit}
 use Rattle.session_plan.specs.Tasks.{Meeting, slot_of, task_of}
-use Rattle.repeat_laws.specs.Meetings.{AsksTheSame, GotAllAt, IsActive, action_at, found_of, holding_after, ids_at}
-use Rattle.repeat_laws.specs.Renaming.{AreUnknown, SameEnds}
-use Rattle.repeat_laws.specs.Repeats.{EndAlike, GotAllIds, GotIds, NoneUnderGone, ended}
+use Rattle.front_laws.specs.Meetings.{AsksTheSame, GotAllAt, IsActive, action_at, found_of, holding_after, ids_at}
+use Rattle.front_laws.specs.Renaming.{AreUnknown, SameEnds}
+use Rattle.front_laws.specs.Repeats.{EndAlike, GotAllIds, GotIds, NoneUnderGone, ended}
 use Rattle.front_laws.specs.Equal.{IsShownWhole}
 use Rattle.front_laws.specs.Sound.{FitsLimits, IsSoundMeeting}
 

@@ -6,8 +6,8 @@ use Rattle.pdb_values.specs.declared.record.Record.{Record}
 use Rattle.palm_device.specs.Soundness.{AreIds, ids_of}
 use Rattle.conduit_rules.specs.States.{held}
 use Rattle.session_plan.specs.Tasks.{Meeting, task_of}
-use Rattle.repeat_laws.specs.Meetings.{IsTaskShown, holding_after}
-use Rattle.repeat_laws.specs.Repeats.{Ending}
+use Rattle.front_laws.specs.Meetings.{IsTaskShown, holding_after}
+use Rattle.front_laws.specs.Repeats.{Ending}
 
 -- a record that is live and not marked as changed
 abbrev pub IsUnmarked : Record → Type 0

@@ -3,5 +3,9 @@ pub mod Again
 pub mod Answered
 pub mod Equal
 pub mod Given
+pub mod Losses
+pub mod Meetings
+pub mod Renaming
+pub mod Repeats
 pub mod Sound
 pub mod Stops

@@ -11,8 +11,8 @@ use Rattle.session_plan.specs.Skips.{active}
 use Rattle.session_plan.specs.Tasks.{Meeting, Task, task_of}
 use Rattle.session_plan.specs.Users.{begun_user}
 use Rattle.sync_session.specs.Fronts.{MeetingFront}
-use Rattle.repeat_laws.specs.Meetings.{IsActive, action_at, found_of, ids_at}
-use Rattle.repeat_laws.specs.Repeats.{GotAllIds, GotIds, chosen, clearing_done, given_by, news_done, shown}
+use Rattle.front_laws.specs.Meetings.{IsActive, action_at, found_of, ids_at}
+use Rattle.front_laws.specs.Repeats.{GotAllIds, GotIds, chosen, clearing_done, given_by, news_done, shown}
 use Rattle.front_laws.specs.Sound.{FitsLimits}
 
 -- a front of a session that passes no limit

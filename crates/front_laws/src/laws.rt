@@ -13,7 +13,7 @@ ghost use Rattle.session_plan.specs.Limits.{first_over};
 ghost use Rattle.session_plan.specs.Merges.{merged_device};
 ghost use Rattle.sync_session.specs.Sessions.{adds_of, after_commit, before_commit, before_writes, session, requests, writes_before_commit};
 ghost use Rattle.session_plan.specs.Tasks.{Meeting};
-ghost use Rattle.repeat_laws.specs.Meetings.{GotAllAt, IsActive};
+ghost use Rattle.front_laws.specs.Meetings.{GotAllAt, IsActive};
 ghost use Rattle.front_laws.specs.Again.{AllRunAgain, AllSkip, AreAllFresh, AreRunAgain, EndsAsWhole, EndsAtMerge, GivesNewIds, IsRunAgain, IsSkipped, LeavesTheSame, LosesNone};
 ghost use Rattle.front_laws.specs.Again.{Later, RunsAgain, last_run};
 ghost use Rattle.front_laws.specs.Answered.{IsAnsweredExchange, RefusesNone};

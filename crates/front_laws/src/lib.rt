@@ -3,3 +3,7 @@
 #![tactic(auto)]
 
 pub mod laws;
+pub mod meetings;
+pub mod repeat_laws;
+
+

@@ -1,12 +1,12 @@
 -- An answer of a call that exports, in one value.
 use Rattle.std.proofs.Common.{◌≡◌, ap, refl, sym, ℕ, Bool, true, false, List, Err, Ok}
 use Rattle.std.specs.Prelude.{IfErr, IfOk, Option, None, Some, Result, if◌then◌else◌}
-use Rattle.export_choice.specs.Choices.{BadItem}
-use Rattle.export_choice.specs.declared.choice.BrokenRecords.{BrokenRecords}
-use Rattle.export_choice.specs.declared.choice.Privacy.{Privacy}
-use Rattle.export_choice.specs.declared.choice.BrokenRecords.TheVariants.{Kept, Refused}
-use Rattle.export_choice.specs.declared.fault.ExportFault.{ExportFault}
-use Rattle.export_choice.specs.declared.fault.ExportFault.TheVariants as fault
+use Rattle.palm_records.specs.Choices.{BadItem}
+use Rattle.palm_records.specs.declared.choice.BrokenRecords.{BrokenRecords}
+use Rattle.palm_records.specs.declared.choice.Privacy.{Privacy}
+use Rattle.palm_records.specs.declared.choice.BrokenRecords.TheVariants.{Kept, Refused}
+use Rattle.palm_records.specs.declared.fault.ExportFault.{ExportFault}
+use Rattle.palm_records.specs.declared.fault.ExportFault.TheVariants as fault
 use Rattle.hotsync_looks.specs.ExportTexts.{NoText, SaysNoText, if_held, unless_bad}
 
 -- what is said where a call exports what a database holds, if it does

@@ -1,13 +1,13 @@
 -- What an export makes of a database: a text, or why there is none.
 use Rattle.std.specs.Prelude.{◌≡◌, ⊤, ℕ, Bool, true, false, List, Option, Some, None, Result, Ok, Err, if◌then◌else◌}
 use Rattle.pdb_values.specs.Databases.{DatabaseValue}
-use Rattle.export_choice.specs.Choices.{BadItem, first_bad}
-use Rattle.export_choice.specs.declared.choice.BrokenRecords.{BrokenRecords}
-use Rattle.export_choice.specs.declared.choice.BrokenRecords.TheVariants.{Kept, Refused}
-use Rattle.export_choice.specs.declared.choice.Privacy.{Privacy}
-use Rattle.export_choice.specs.declared.choice.Privacy.TheVariants.{All, WithoutPrivate}
-use Rattle.export_choice.specs.declared.fault.ExportFault.{ExportFault}
-use Rattle.export_choice.specs.declared.fault.ExportFault.TheVariants as fault
+use Rattle.palm_records.specs.Choices.{BadItem, first_bad}
+use Rattle.palm_records.specs.declared.choice.BrokenRecords.{BrokenRecords}
+use Rattle.palm_records.specs.declared.choice.BrokenRecords.TheVariants.{Kept, Refused}
+use Rattle.palm_records.specs.declared.choice.Privacy.{Privacy}
+use Rattle.palm_records.specs.declared.choice.Privacy.TheVariants.{All, WithoutPrivate}
+use Rattle.palm_records.specs.declared.fault.ExportFault.{ExportFault}
+use Rattle.palm_records.specs.declared.fault.ExportFault.TheVariants as fault
 use Rattle.record_export.specs.Exports.{exported_memos, holds_memos}
 use Rattle.record_export.specs.Memos.{memos_text}
 use Rattle.card_export.specs.Exports.{exported_cards, first_bad_address, holds_addresses}

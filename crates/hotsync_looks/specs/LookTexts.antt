@@ -7,8 +7,8 @@ use Rattle.pdb_files.specs.declared.bad_kind.BadKind.{BadKind}
 use Rattle.file_text.specs.Counts.{check_text}
 use Rattle.file_text.specs.Listings.{full_text, show_text}
 use Rattle.pdb_files.specs.Files.{IsFileText, canonical}
-use Rattle.export_choice.specs.declared.fault.ExportFault.{ExportFault}
-use Rattle.export_choice.specs.declared.fault.ExportFault.TheVariants as export
+use Rattle.palm_records.specs.declared.fault.ExportFault.{ExportFault}
+use Rattle.palm_records.specs.declared.fault.ExportFault.TheVariants as export
 use Rattle.memo_import.specs.Databases.{import_in}
 use Rattle.memo_import.specs.declared.fault.ImportFault.{ImportFault}
 use Rattle.memo_import.specs.declared.fault.ImportFault.TheVariants as imports

@@ -9,7 +9,7 @@ ghost use Rattle.table_export.specs.declared.kind.Kind.TheVariants as rows;
 
 use calendar_export::{dates_text, tasks_text};
 use card_export::cards_text;
-use export_choice::{BrokenRecords, ExportFault, Privacy};
+use palm_records::{BrokenRecords, ExportFault, Privacy};
 use pdb_values::{Database, PalmDate};
 use record_export::memos_text;
 use run_words::{Export, ExportForm};

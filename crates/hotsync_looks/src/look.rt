@@ -15,7 +15,7 @@ use crate::printing::{print_refusal, print_text};
 use crate::source::read_source;
 use crate::status::{FileSide, Status};
 use crate::traced::{picture_text, verdict_text};
-use export_choice::ExportFault;
+use palm_records::ExportFault;
 use file_text::{counted_text, full_text, show_text};
 use hs_folders::{Sink, Source};
 use pdb_files::{count_entries, read_database};

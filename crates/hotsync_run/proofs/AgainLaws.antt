@@ -23,8 +23,8 @@ use Rattle.sync_session.specs.Sessions.{adds_of, after_commit, before_commit, be
 use Rattle.session_plan.specs.Skips.{active}
 use Rattle.session_plan.specs.Tasks.{Meeting, place_for, slot_of}
 use Rattle.session_plan.specs.Users.{agreed_user}
-use Rattle.repeat_laws.specs.Meetings.{AsksTheSame, IsActive, action_at, found_of, ids_at}
-use Rattle.repeat_laws.specs.Repeats.{GotAllIds}
+use Rattle.front_laws.specs.Meetings.{AsksTheSame, IsActive, action_at, found_of, ids_at}
+use Rattle.front_laws.specs.Repeats.{GotAllIds}
 use Rattle.front_laws.specs.Again.{AllRunAgain, HasSlot, Later, RunsAgain, last_run}
 use Rattle.front_laws.specs.Stops.{StandsAmongNews, StandsBehindCommit}
 use Rattle.front_laws.proofs.FrontLaws.{front-among, front-behind}

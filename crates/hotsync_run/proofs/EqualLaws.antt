@@ -2,7 +2,7 @@
 use Rattle.std.proofs.Common.{◌≡◌, refl, subst, sym}
 use Rattle.desk_store.specs.Shelves.{SlotValue}
 use Rattle.session_plan.specs.Merges.{merged_device}
-use Rattle.repeat_laws.specs.Meetings.{holding}
+use Rattle.front_laws.specs.Meetings.{holding}
 use Rattle.front_laws.specs.Equal.{HasEqualSides}
 use Rattle.front_laws.proofs.EqualLaws.{holds-equal}
 use Rattle.hotsync_run.specs.Equal.{EndsEqual}

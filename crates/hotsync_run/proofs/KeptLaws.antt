@@ -25,7 +25,7 @@ use Rattle.handheld_server.specs.Keeping.{Touches, wrote_user}
 use Rattle.line_world.specs.Folders.{FilesRan, stored}
 use Rattle.session_plan.specs.Skips.{skip_of}
 use Rattle.session_plan.specs.Tasks.{Meeting, names, task_of}
-use Rattle.repeat_laws.specs.Meetings.{IsActive}
+use Rattle.front_laws.specs.Meetings.{IsActive}
 use Rattle.hotsync_run.specs.Kept.{IsFileOfName, IsLeftAlone, KeepsBytes, bytes_under}
 
 -- ---- one file

@@ -26,7 +26,7 @@ use Rattle.made_folders.proofs.MergeLaws.{fate_is, handheld_is}
 use Rattle.hotsync_run.proofs.MadeItems.{records-few}
 use Rattle.hotsync_run.proofs.MadeReports.{AsksNothing, choice_is, made_device, made_meeting, made_slot, made_task, not_skipped, sides_are, tasks_are}
 use Rattle.hotsync_run.proofs.MadeSides.{AreItems}
-use Rattle.repeat_laws.proofs.DesktopLaws.{new_none}
+use Rattle.front_laws.proofs.DesktopLaws.{new_none}
 use Rattle.std.proofs.lemmas.Bool.{or_from}
 
 -- what is made by id, at most one of each and none where no item is, is not more than there are items

@@ -3,7 +3,7 @@ use Rattle.std.proofs.Common.{refl, arith, ℕ, List, [], ◌∷◌}
 use Rattle.cmp_hello.specs.HelloText.{HelloText}
 use Rattle.cmp_hello.specs.declared.hello.HelloKind.TheVariants.{Wake, Init}
 use Rattle.line_script.specs.Scripts.{fate_by}
-use Rattle.line_talk.specs.Telling.{bytes_of, init, wake}
+use Rattle.line_steps.specs.TalkTelling.{bytes_of, init, wake}
 use Rattle.line_world.specs.Logs.{said_in}
 use Rattle.trace_check.specs.Judging.{IsProperTrace}
 use Rattle.trace_check.specs.Messages.{IsGreeting}

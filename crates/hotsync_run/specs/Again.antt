@@ -6,9 +6,9 @@ use Rattle.desk_store.specs.Shelves.{slot_at}
 use Rattle.run_words.specs.Runs.{run_actions}
 use Rattle.session_plan.specs.Merges.{merged_device, merged_slot, merged_slots}
 use Rattle.session_plan.specs.Tasks.{Meeting}
-use Rattle.repeat_laws.specs.Meetings.{IsActive, action_at, found_of, holding_after, ids_at}
-use Rattle.repeat_laws.specs.Renaming.{AreUnknown, SameEnds}
-use Rattle.repeat_laws.specs.Repeats.{GotAllIds}
+use Rattle.front_laws.specs.Meetings.{IsActive, action_at, found_of, holding_after, ids_at}
+use Rattle.front_laws.specs.Renaming.{AreUnknown, SameEnds}
+use Rattle.front_laws.specs.Repeats.{GotAllIds}
 use Rattle.front_laws.specs.Again.{AllSkip, EndsAtMerge, HoldsTheSame, IsFreshBehind, Later, last_run}
 use Rattle.hotsync_run.specs.Headline.{IsAnsweredRun, RunCall}
 use Rattle.call_parts.specs.LineRuns.{log_in}

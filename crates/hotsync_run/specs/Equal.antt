@@ -5,7 +5,7 @@ use Rattle.desk_store.specs.Desks.{IsDesk}
 use Rattle.desk_store.specs.Shelves.{slot_at}
 use Rattle.session_plan.specs.Merges.{merged_device, merged_slots}
 use Rattle.session_plan.specs.Tasks.{Meeting}
-use Rattle.repeat_laws.specs.Meetings.{IsActive, holding}
+use Rattle.front_laws.specs.Meetings.{IsActive, holding}
 use Rattle.front_laws.specs.Equal.{HasEqualSides, IsShownWhole}
 use Rattle.hotsync_run.specs.Headline.{RunCall}
 use Rattle.call_parts.specs.LineRuns.{log_in}

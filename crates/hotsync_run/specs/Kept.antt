@@ -5,7 +5,7 @@ use Rattle.std.specs.Option.{option_map}
 use Rattle.hs_folders.specs.FileMaps.{FileMap}
 use Rattle.folder_files.specs.FileNames.{device_info_file, resources_file, rows_file}
 use Rattle.session_plan.specs.Tasks.{Meeting}
-use Rattle.repeat_laws.specs.Meetings.{IsActive}
+use Rattle.front_laws.specs.Meetings.{IsActive}
 
 -- the file of a database of this name
 abbrev pub IsFileOfName : List ℕ → List ℕ → Type 0

@@ -1,6 +1,7 @@
 pub mod Budget
 pub mod Came
 pub mod Core
+pub mod Examples
 pub mod Framing
 pub mod Hearing
 pub mod Line

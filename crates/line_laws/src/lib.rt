@@ -6,6 +6,8 @@
 //! `proofs/RunningLaws.antt` has a law for each step.
 #![tactic(auto)]
 
+mod example_laws;
 mod laws;
 
+pub use example_laws::{a_changed_digit_is_noticed, a_losing_line_has_a_proper_trace, a_quiet_line_has_a_proper_trace};
 pub use laws::{a_dead_line_has_ten_faults, a_running_line_has_a_proper_trace, past_grows};

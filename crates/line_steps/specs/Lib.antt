@@ -7,13 +7,16 @@ pub mod Halting
 pub mod Hearing
 pub mod Marking
 pub mod Promising
-pub mod Sending
 pub mod Resting
+pub mod Rests
 pub mod Rooms
 pub mod Running
+pub mod Sending
 pub mod Settling
 pub mod Stories
 pub mod Taking
+pub mod TalkHalting
+pub mod TalkTelling
 pub mod Telling
 pub mod Ticking
 pub mod Turning

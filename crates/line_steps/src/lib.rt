@@ -4,12 +4,15 @@
 //! damaged, or comes behind noise; or it ends the run. `hear` is what an end makes of the bytes that arrive.
 #![tactic(auto)]
 
+mod asking;
 mod carrying;
+mod greeting;
 mod half;
 mod harm;
 mod hearing;
 mod laws;
 mod line;
+mod over;
 mod pieces;
 mod sending;
 mod skipping;
@@ -17,7 +20,9 @@ mod starting;
 mod taking;
 mod ticking;
 
+pub use asking::{answer, ask};
 pub use carrying::{carry, settle};
+pub use greeting::greet;
 pub use half::{Half, Wire};
 pub use harm::Stop;
 pub use hearing::{Heard, hear};

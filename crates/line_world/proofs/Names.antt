@@ -40,11 +40,11 @@ pub use Rattle.line_steps.specs.declared.harm.Stop.{Stop}
 pub use Rattle.line_steps.specs.declared.line.Line.{Line}
 pub use Rattle.line_steps.specs.declared.sending.Halt.{Halt}
 pub use Rattle.line_steps.specs.declared.sending.Halt.TheVariants.{NoMemory}
-pub use Rattle.line_talk.proofs.EndLaws.{answers-ends, asks-ends, greets-ends}
-pub use Rattle.line_talk.proofs.ToldLaws.{cursor-inside, told-answers, told-asks, told-last, told-others}
-pub use Rattle.line_talk.specs.Halting.{HaltsWithin, LineEnds}
-pub use Rattle.line_talk.specs.Rests.{AreEnds, MayAnswer, MayAsk, MayGreet}
-pub use Rattle.line_talk.specs.Telling.{HasSaid, LineCounts, LineRecords, LineTells, LineTold, bytes_of, greeted, init, wake}
+pub use Rattle.line_steps.proofs.EndLaws.{answers-ends, asks-ends, greets-ends}
+pub use Rattle.line_steps.proofs.ToldLaws.{cursor-inside, told-answers, told-asks, told-last, told-others}
+pub use Rattle.line_steps.specs.TalkHalting.{HaltsWithin, LineEnds}
+pub use Rattle.line_steps.specs.Rests.{AreEnds, MayAnswer, MayAsk, MayGreet}
+pub use Rattle.line_steps.specs.TalkTelling.{HasSaid, LineCounts, LineRecords, LineTells, LineTold, bytes_of, greeted, init, wake}
 pub use Rattle.line_world.specs.Causes.{AreLastTen, AreTenFaults, BearsOut, IsCause, IsCauseOf, IsHaltOf, KeeperOnly, NamesLast, down_end, faults_in}
 pub use Rattle.line_world.specs.Causes.{halt_of, link_fault}
 pub use Rattle.line_world.specs.Conversing.{Answers, Breaks, Sent, Served, Unsent, RequestReach, WentTo}

@@ -12,7 +12,7 @@ use Rattle.line_steps.specs.declared.line.Line.{Line}
 use Rattle.line_world.specs.declared.stop.Break.{Break}
 use Rattle.line_world.specs.declared.stop.Break.TheVariants.{NoMemory, Keeper}
 use Rattle.line_world.specs.Folders.{ServedSince}
-use Rattle.line_talk.specs.Rests.{MayAsk}
+use Rattle.line_steps.specs.Rests.{MayAsk}
 use Rattle.line_world.specs.Logs.{LogValue, with_issued, with_performed}
 use Rattle.line_world.specs.Serving.{Performs}
 

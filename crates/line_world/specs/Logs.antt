@@ -4,7 +4,7 @@ use Rattle.std.specs.Prelude.{ℕ, ◌+◌, ◌≤◌, List, [], ◌∷◌, ◌+
 use Rattle.dlp_args.specs.Messages.{MessageTextValue}
 use Rattle.dlp_commands.specs.Changes.{given_in}
 use Rattle.trace_text.specs.Talks.{Talk}
-use Rattle.line_talk.specs.Telling.{bytes_of, init, wake}
+use Rattle.line_steps.specs.TalkTelling.{bytes_of, init, wake}
 use Rattle.line_world.specs.declared.log.Log.{Log}
 
 pub record LogValue : Type 0 where

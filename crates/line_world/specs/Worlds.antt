@@ -27,9 +27,9 @@ use Rattle.line_world.specs.declared.down.Down.{Down}
 use Rattle.line_world.specs.declared.down.Down.TheVariants.{Keeper}
 use Rattle.line_world.specs.Causes.{IsCause, IsHaltOf, NamesLast, down_end}
 use Rattle.line_world.specs.Folders.{ServedSince}
-use Rattle.line_talk.specs.Halting.{LineEnds}
-use Rattle.line_talk.specs.Rests.{MayGreet, MayAsk}
-use Rattle.line_talk.specs.Telling.{LineCounts, LineRecords, LineTells, LineTold, bytes_of, init, wake}
+use Rattle.line_steps.specs.TalkHalting.{LineEnds}
+use Rattle.line_steps.specs.Rests.{MayGreet, MayAsk}
+use Rattle.line_steps.specs.TalkTelling.{LineCounts, LineRecords, LineTells, LineTold, bytes_of, init, wake}
 use Rattle.line_world.specs.Logs.{LogValue, said_in}
 
 -- a world is the handheld's server, the script, what was said, how much of it was answered, the

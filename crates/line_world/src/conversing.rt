@@ -1,9 +1,9 @@
 //! A request and its reply.
 ghost use Rattle.std.specs.Prelude.{◌≡◌, ◌≤◌, true, IfSome, OnOk, IfErr, length};
 ghost use Rattle.padp_link.specs.Receivers.{whole_of};
-ghost use Rattle.line_talk.specs.Halting.{LineEnds};
-ghost use Rattle.line_talk.specs.Rests.{MayAsk};
-ghost use Rattle.line_talk.specs.Telling.{LineCounts, LineRecords, LineTells};
+ghost use Rattle.line_steps.specs.TalkHalting.{LineEnds};
+ghost use Rattle.line_steps.specs.Rests.{MayAsk};
+ghost use Rattle.line_steps.specs.TalkTelling.{LineCounts, LineRecords, LineTells};
 ghost use Rattle.line_world.specs.Causes.{halt_of};
 ghost use Rattle.line_world.specs.Conversing.{Answers, Breaks};
 ghost use Rattle.line_world.specs.Logs.{log_value, said_in};
@@ -16,8 +16,7 @@ use dlp_commands::Message;
 use handheld_server::Server;
 use hs_folders::Folder;
 use line_script::Script;
-use line_steps::Line;
-use line_talk::{answer, ask};
+use line_steps::{Line, answer, ask};
 use padp_link::Receiver;
 use std::alloc::Global;
 

@@ -2,14 +2,14 @@
 ghost use Rattle.std.specs.Prelude.{◌≡◌, false, true, Err, IfOk, IfSome, IsErrOf, OnErr, OnOk};
 ghost use Rattle.std.specs.Result.{result_err};
 ghost use Rattle.dlp_commands.specs.Links.{WentDown, first_fault};
-ghost use Rattle.line_talk.specs.Telling.{wake};
+ghost use Rattle.line_steps.specs.TalkTelling.{wake};
 
 use crate::conversing::converse;
 use crate::stop::{Break, cause_of, fault_of};
 use crate::world::World;
 use dlp_commands::{Link, LinkFault, Message};
 use hs_folders::Folder;
-use line_talk::greet;
+use line_steps::greet;
 
 impl<F: Folder> Link for World<F> {
     ghost use Rattle.std.specs.Prelude.{Some};

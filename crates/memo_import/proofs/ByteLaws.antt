@@ -6,8 +6,8 @@ use Rattle.std.proofs.lemmas.Str.{IsUtf8-from_is_utf8, chars-nil, is_utf8-from_I
 use Rattle.std.specs.Prelude.{chars}
 use Rattle.std.specs.Option.{option_map}
 use Rattle.std.specs.Str.{is_utf8}
-use Rattle.palm_text.specs.Characters.{char_of}
-use Rattle.palm_text.proofs.CharacterLaws.{char_of_injective}
+use Rattle.palm_records.specs.Characters.{char_of}
+use Rattle.palm_records.proofs.CharacterLaws.{char_of_injective}
 use Rattle.memo_import.specs.Characters.{byte_below, byte_of, bytes_of, line_bytes, with_first}
 
 -- the byte at the top, or one below it

@@ -10,7 +10,7 @@ use Rattle.std.specs.Option.{option_and_then, option_map}
 use Rattle.std.specs.Result.{result_ok}
 use Rattle.hex.specs.Hex.{IsBytes, encode_lower, encode_with, lower_digits}
 use Rattle.hex.proofs.HexLemmas.{decode_sized-encode_lower}
-use Rattle.palm_text.proofs.CharacterLaws.{every, every_at}
+use Rattle.palm_records.proofs.CharacterLaws.{every, every_at}
 use Rattle.record_export.specs.Heads.{begins_with, gap, head_line, id_text, is_doubtful, label_chars, label_text, mark}
 use Rattle.record_export.proofs.HeadLaws.{is_plain}
 use Rattle.memo_import.specs.Heads.{new_memo, head_of, id_of, id_of_bytes, marked_label, tail_of}

@@ -6,7 +6,7 @@ use Rattle.std.proofs.Math.Utf8.{encode}
 use Rattle.std.proofs.Common.{arith, ◌≡◌, ◌≤◌, ◌++◌, ◌∷◌, [], ◌∙◌, ◌+◌, ◌==◌, ◌&&◌, not, ap, refl, sym, subst, ℕ, Bool, true, false, List, cond, append_assoc, append-nil, length, Some}
 use Rattle.std.specs.Prelude.{codes, nat_lt}
 use Rattle.std.specs.List.{join_with_byte}
-use Rattle.palm_text.specs.Characters.{char_of, char_text}
+use Rattle.palm_records.specs.Characters.{char_of, char_text}
 use Rattle.record_export.specs.Heads.{begins_with, label_chars}
 use Rattle.record_export.specs.Memos.{MemoValue, guard, lines_from, memo_lines}
 use Rattle.record_export.proofs.HeadLaws.{is_plain}

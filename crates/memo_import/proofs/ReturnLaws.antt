@@ -14,8 +14,8 @@ use Rattle.std.specs.Option.{is_some}
 use Rattle.std.specs.Str.{bytes_eq}
 use Rattle.palm_records.specs.Categories.{label_in}
 use Rattle.palm_records.specs.Strings.{first_zero, until_zero}
-use Rattle.export_choice.specs.Choices.{is_exported, shown_label}
-use Rattle.export_choice.specs.declared.choice.Privacy.TheVariants as privacy
+use Rattle.palm_records.specs.Choices.{is_exported, shown_label}
+use Rattle.palm_records.specs.declared.choice.Privacy.TheVariants as privacy
 use Rattle.record_export.specs.Exports.{exported_memos, memo_of}
 use Rattle.record_export.specs.Memos.{MemoValue}
 use Rattle.memo_import.specs.Databases.{category_at, category_ids, label_field, labels_from, labels_of, memo_block, memo_database, place_of, record_of, with_label}

@@ -8,8 +8,8 @@ use Rattle.std.proofs.Common.{arith, ◌≡◌, ◌<◌, ◌++◌, ◌∷◌, []
 use Rattle.std.specs.Prelude.{chars, encode_utf8_all, nat_lt}
 use Rattle.std.specs.List.{onto_first}
 use Rattle.std.specs.Option.{option_and_then}
-use Rattle.palm_text.specs.Characters.{char_of}
-use Rattle.palm_text.proofs.CharacterLaws.{every, every_at}
+use Rattle.palm_records.specs.Characters.{char_of}
+use Rattle.palm_records.proofs.CharacterLaws.{every, every_at}
 use Rattle.record_export.specs.Heads.{label_char, label_char_text, label_chars}
 use Rattle.record_export.proofs.HeadLaws.{is_plain, label_char-plain}
 use Rattle.memo_import.specs.Characters.{byte_below, byte_of, bytes_of, line_bytes}

@@ -2,7 +2,7 @@
 -- set of the Latin handhelds).
 use Rattle.std.specs.Prelude.{ℕ, zero, suc, ◌==◌, List, [], ◌∷◌, chars, Option, None, Some, if◌then◌else◌}
 use Rattle.std.specs.Str.{is_utf8}
-use Rattle.palm_text.specs.Characters.{char_of}
+use Rattle.palm_records.specs.Characters.{char_of}
 
 -- the byte below this one that stands for a character
 unfoldable pub byte_below : ℕ → ℕ → Option ℕ

@@ -3,7 +3,7 @@ ghost use Rattle.std.specs.Prelude.{◌≡◌, MatchResult, None, Some, chars};
 ghost use Rattle.memo_import.specs.Characters.{byte_below, byte_of, bytes_of, line_bytes};
 
 use crate::fault::LineFault;
-use palm_text::char_of;
+use palm_records::char_of;
 use std::alloc::Global;
 use std::str;
 

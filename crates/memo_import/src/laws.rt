@@ -1,6 +1,6 @@
 // What holds of texts and databases of memos.
 ghost use Rattle.std.specs.Prelude.{◌≡◌, ◌≤◌, All, List, Ok, length};
-ghost use Rattle.export_choice.specs.declared.choice.Privacy.TheVariants as privacy;
+ghost use Rattle.palm_records.specs.declared.choice.Privacy.TheVariants as privacy;
 ghost use Rattle.record_export.specs.Exports.{exported_memos};
 ghost use Rattle.record_export.specs.Memos.{MemoValue, memos_text};
 ghost use Rattle.memo_import.specs.Databases.{import_in, labels_of, memo_database};

@@ -9,13 +9,22 @@
 mod address;
 mod bad_record;
 mod category;
+mod character;
+mod choice;
 mod day;
+mod fault;
+mod label;
 mod task;
 mod text;
+pub mod text_laws;
 
 pub use address::{Address, FIELDS, read_address};
 pub use bad_record::BadRecord;
 pub use category::category_label;
+pub use character::{char_of, push_text};
+pub use choice::{BrokenRecords, Privacy, is_exported};
 pub use day::{Day, day_in, days_in_month};
+pub use fault::ExportFault;
+pub use label::shown_label;
 pub use task::{Task, read_task};
 pub use text::{split_string, until_zero};

@@ -1,9 +1,9 @@
 -- A desktop's end over a handheld and a cable.
 use Rattle.std.proofs.Common.{◌≡◌, ℕ, List, [], ◌∷◌, ◌++◌, length, inl, inr, refl, subst, sym, ap, ◌∙◌, arith}
 use Rattle.std.proofs.lemmas.List.{append-nil, append_assoc}
-use Rattle.cable_laws.proofs.MomentLaws.{says_again, takes, turned}
-use Rattle.cable_laws.specs.Cables.{Cable, Side, Parcel, packets_of, parcels}
-use Rattle.cable_laws.specs.Moments.{HeardRightly, StaysOn}
+use Rattle.port_laws.proofs.MomentLaws.{says_again, takes, turned}
+use Rattle.port_laws.specs.Cables.{Cable, Side, Parcel, packets_of, parcels}
+use Rattle.port_laws.specs.Moments.{HeardRightly, StaysOn}
 use Rattle.device_stream.specs.Hands.{Hand}
 use Rattle.padp_end.specs.Ends.{Answer, EndValue, end_takes, end_waits}
 use Rattle.padp_end.specs.Outgoings.{OutgoingFragment}

@@ -3,9 +3,9 @@ use Rattle.std.proofs.Common.{◌≡◌, ◌≤◌, ℕ, ◌+◌, Bool, true, fa
 use Rattle.std.specs.Option.{unwrap_or}
 use Rattle.std.proofs.lemmas.Bool.{cases_Bool, cond-false, cond-true}
 use Rattle.std.proofs.lemmas.List.{append-nil, append_assoc, length-append, map-append}
-use Rattle.cable_laws.proofs.MomentLaws.{begins, expects, takes}
-use Rattle.cable_laws.specs.Cables.{Cable, Count, IsAhead, IsOver, Side, Parcel, packet_of, packets_in, packets_of, parcels}
-use Rattle.cable_laws.specs.Moments.{HeardRightly, StaysOn}
+use Rattle.port_laws.proofs.MomentLaws.{begins, expects, takes}
+use Rattle.port_laws.specs.Cables.{Cable, Count, IsAhead, IsOver, Side, Parcel, packet_of, packets_in, packets_of, parcels}
+use Rattle.port_laws.specs.Moments.{HeardRightly, StaysOn}
 use Rattle.device_stream.specs.declared.talk_end.TalkEnd.{TalkEnd}
 use Rattle.device_stream.specs.declared.talk_end.TalkEnd.TheVariants.{Aborted, BadHello, Ended}
 use Rattle.device_stream.specs.Hands.{Hand, awaiting, greeted_by, heard_by, is_farewell, is_init, message_of, taken_by, with_delivery, with_end, with_reply}

@@ -1,8 +1,8 @@
 -- What happens by itself behind a port leaves all as it stands.
 use Rattle.std.proofs.Common.{◌≡◌, ℕ, List, [], ◌∷◌, ◌++◌, length, refl, subst, sym, ap, ◌∙◌}
 use Rattle.std.proofs.lemmas.List.{append_assoc, map-append}
-use Rattle.cable_laws.proofs.MomentLaws.{loses, says_again, takes, turned}
-use Rattle.cable_laws.specs.Cables.{Cable, Parcel, packets_in, packets_of, parcels}
+use Rattle.port_laws.proofs.MomentLaws.{loses, says_again, takes, turned}
+use Rattle.port_laws.specs.Cables.{Cable, Parcel, packets_in, packets_of, parcels}
 use Rattle.device_stream.specs.Hands.{with_end}
 use Rattle.device_stream.specs.Talks.{Takes}
 use Rattle.padp_end.specs.Ends.{EndValue, end_takes, end_waits}

@@ -3,7 +3,7 @@ use Rattle.std.proofs.Common.{◌≡◌, ◌≤◌, ◌+◌, ℕ, List, [], ◌�
 use Rattle.std.specs.Prelude.{Option, Some, None}
 use Rattle.std.proofs.lemmas.Bool.{cases_Bool, cond-false, cond-true}
 use Rattle.std.proofs.lemmas.List.{append-nil, append_assoc, drop_all, length-take}
-use Rattle.cable_laws.specs.Cables.{packet_of, packets_of}
+use Rattle.port_laws.specs.Cables.{packet_of, packets_of}
 use Rattle.device_stream.specs.Hands.{Hand, awaiting, greeted_by, heard_by, message_of, taken_by, with_end, with_reply}
 use Rattle.dlp_commands.specs.DeviceSteps.{served}
 use Rattle.padp_end.proofs.TakingLaws.{IsNext, IsOther, IsRepeat, data_case}

@@ -1,9 +1,9 @@
 -- The stages of a session over a handheld and a cable, from the opening on.
 use Rattle.std.proofs.Common.{◌≡◌, ◌≤◌, ◌<◌, ℕ, true, false, List, [], ◌∷◌, ◌++◌, length, Some, None, inl, inr, refl, subst, sym, ap, ◌∙◌, arith}
 use Rattle.std.proofs.lemmas.Bool.{and_parts, eqb-true, not-true}
-use Rattle.cable_laws.proofs.MomentLaws.{begins, expects, turned}
-use Rattle.cable_laws.specs.Cables.{Cable, Count, IsOver, Way, packets_of, parcels}
-use Rattle.cable_laws.specs.Moments.{BeginsOne}
+use Rattle.port_laws.proofs.MomentLaws.{begins, expects, turned}
+use Rattle.port_laws.specs.Cables.{Cable, Count, IsOver, Way, packets_of, parcels}
+use Rattle.port_laws.specs.Moments.{BeginsOne}
 use Rattle.device_stream.specs.Hands.{Hand}
 use Rattle.padp_end.specs.Ends.{EndValue, end_begins, end_expects, end_takes, first_end}
 use Rattle.padp_end.specs.declared.heard.Heard.TheVariants as heard

@@ -1,2 +1,4 @@
+pub mod Cables
+pub mod Moments
 pub mod Palms
 pub mod Talking

@@ -4,7 +4,7 @@
 -- request's transaction until it is acknowledged; it answers as its device's table says, and
 -- changes by nothing but requests. It may break down at any request, which it leaves undone.
 use Rattle.std.specs.Prelude.{◌≡◌, ◌≤◌, ℕ, Bool, true, false, ◌&&◌, not, nat_eq, is_none, List, [], ◌∷◌, ◌++◌, length, Option, Some, None, if◌then◌else◌}
-use Rattle.cable_laws.specs.Cables.{packets_of}
+use Rattle.port_laws.specs.Cables.{packets_of}
 use Rattle.device_stream.specs.Hands.{Hand, waited_by, with_end}
 use Rattle.device_stream.specs.Talks.{Takes}
 use Rattle.dlp_commands.specs.Talks.{Talk, fresh}

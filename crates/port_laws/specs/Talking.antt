@@ -1,8 +1,8 @@
 -- A desktop's end over a handheld and a cable: what holds of both while no request was said yet,
 -- and from a request on until its reply was taken.
 use Rattle.std.specs.Prelude.{◌≡◌, ◌⊎◌, ◌≤◌, ℕ, false, List, [], ◌∷◌, ◌++◌, length, Some, None}
-use Rattle.cable_laws.specs.Cables.{Cable, Count, IsOver, Side, Parcel, packets_in, packets_of}
-use Rattle.cable_laws.specs.Moments.{HeardRightly, StaysOn}
+use Rattle.port_laws.specs.Cables.{Cable, Count, IsOver, Side, Parcel, packets_in, packets_of}
+use Rattle.port_laws.specs.Moments.{HeardRightly, StaysOn}
 use Rattle.device_stream.specs.Hands.{Hand}
 use Rattle.device_stream.specs.Laws.{DidNothing}
 use Rattle.dlp_commands.specs.DeviceSteps.{DeviceStep}

@@ -3,8 +3,10 @@
 //! (`specs/Talking.antt`).
 #![tactic(auto)]
 
+mod cable_laws;
 mod laws;
 
+pub use cable_laws::{a_message_may_be_awaited, a_message_may_begin, a_packet_is_taken_rightly, a_packet_may_be_lost, a_piece_may_go_again, a_repeat_is_known, an_acknowledgement_is_for_its_piece, ends_are_alike};
 pub use laws::{
     a_first_message_is_the_wake, a_palm_stands, a_reply_is_to_its_request, a_reply_may_be_awaited,
     a_request_may_begin, a_session_opens, an_init_is_no_request, an_init_may_begin, bytes_may_come,

@@ -2,7 +2,7 @@
 use Rattle.std.proofs.Common.{◌≡◌, ℕ, List, [], ◌∷◌, ◌++◌, refl, sym, ap, subst, ◌∙◌, inl, inr}
 use Rattle.std.specs.Prelude.{Option, Some, None, is_some}
 use Rattle.std.proofs.lemmas.Bool.{cases_Bool, cond-false, cond-true}
-use Rattle.cable_laws.specs.Cables.{packets_of}
+use Rattle.port_laws.specs.Cables.{packets_of}
 use Rattle.padp_end.specs.Outgoings.{OutgoingFragment, said_text}
 use Rattle.padp_link.specs.Senders.{waiting}
 use Rattle.port_laws.specs.Palms.{HearsOf, IsTold, MovesOn, Palm}

@@ -27,7 +27,7 @@ use Rattle.port_link.specs.Standing.{IsBegun, IsStanding, IsStill, exchanges_of,
 use Rattle.port_link.proofs.GreetLaws.{greets_met}
 use Rattle.port_link.proofs.ReplyLaws.{asked_left, says_asked, says_taken, taken_answered}
 use Rattle.port_link.proofs.RoundLaws.{round}
-use Rattle.cable_laws.proofs.TakeLaws.{some_of}
+use Rattle.port_laws.proofs.TakeLaws.{some_of}
 
 -- ---- where nothing is told
 

@@ -29,7 +29,7 @@ use Rattle.port_link.proofs.LinkLaws.{Standing, asks_told, hello_told, standing_
 use Rattle.port_link.proofs.ReplyLaws.{asked_left, exchanged-more, exchanges_more, says_asked, says_taken}
 use Rattle.port_link.proofs.RoundLaws.{round}
 use Rattle.port_link.proofs.StandLaws.{Stood}
-use Rattle.cable_laws.proofs.TakeLaws.{some_of}
+use Rattle.port_laws.proofs.TakeLaws.{some_of}
 
 -- ---- a hand since an earlier time
 

@@ -3,7 +3,7 @@ use Rattle.std.proofs.Common.{◌≡◌, ℕ, List, [], ◌∷◌, inl, inr, sym
 use Rattle.std.specs.Prelude.{Option, Some, None, is_some}
 use Rattle.std.proofs.lemmas.Bool.{cases_Bool, cond-false, cond-true}
 use Rattle.std.proofs.lemmas.List.{append-nil}
-use Rattle.cable_laws.specs.Cables.{packets_of}
+use Rattle.port_laws.specs.Cables.{packets_of}
 use Rattle.padp_end.specs.Ends.{EndValue, end_takes}
 use Rattle.padp_end.specs.Outgoings.{OutgoingFragment}
 use Rattle.padp_link.specs.Senders.{waiting}

@@ -1,6 +1,6 @@
 -- What stands behind a port, where it is told, as events go on.
 use Rattle.std.specs.Prelude.{◌≡◌, List, [], ◌∷◌, Option, Some, None}
-use Rattle.cable_laws.specs.Cables.{packets_of}
+use Rattle.port_laws.specs.Cables.{packets_of}
 use Rattle.port_laws.specs.Palms.{Gives, HearsOf, IsTold, MovesOn, Palm}
 use Rattle.port_line.specs.declared.port_fault.PortFault.{PortFault}
 use Rattle.port_link.specs.declared.desk.Desk.{Desk}

@@ -2,7 +2,7 @@
 ghost use Rattle.std.specs.Prelude.{◌≡◌, ◌≤◌, ◌<◌, ◌++◌, ◌∷◌, [], Ok, IfOk, IsErrOf, OnErr, OnOk, length};
 ghost use Rattle.std.specs.Result.{result_err};
 ghost use Rattle.hs_folders.specs.Causes.{HasCause};
-ghost use Rattle.cable_laws.specs.Cables.{packets_of};
+ghost use Rattle.port_laws.specs.Cables.{packets_of};
 ghost use Rattle.port_laws.specs.Palms.{HearsOf, IsTold};
 ghost use Rattle.slp_frames.specs.PacketScan.{scan};
 ghost use Rattle.slp_frames.specs.PacketValues.{lent_value};

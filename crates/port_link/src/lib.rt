@@ -16,6 +16,7 @@
 mod awaited;
 mod cable;
 mod desk;
+mod ends;
 mod entry;
 mod greeting;
 mod laws;
@@ -23,13 +24,21 @@ mod link;
 mod listening;
 mod log;
 mod port_cause;
+mod port_end;
 mod port_link;
+mod serving;
 mod talking;
 mod turn;
+mod vigil;
+mod vigil_laws;
+mod vigil_log;
 
 pub use entry::{Entry, HeardPacket};
 pub use laws::{
     a_reply_came_behind_its_request, packets_are_those_of_the_bytes, transactions_come_round,
 };
 pub use port_cause::PortCause;
+pub use port_end::PortEnd;
 pub use port_link::PortLink;
+pub use serving::{AtPort, serve_at_port};
+pub use vigil_laws::a_vigil_is_a_run;

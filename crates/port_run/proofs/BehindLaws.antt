@@ -38,7 +38,7 @@ use Rattle.port_run.proofs.LeftLaws.{BeganWith, EndsOver, session_left}
 use Rattle.port_link.proofs.RanLaws.{HandSince, RanAt, calls-ran, first-ran, last-palm, later-ran, since-once}
 use Rattle.port_run.proofs.TalkedLaws.{ToldAll, all-exchanged, all-performed}
 use Rattle.call_parts.proofs.EndLaws.{exchanged-append}
-use Rattle.cable_laws.proofs.TakeLaws.{some_of}
+use Rattle.port_laws.proofs.TakeLaws.{some_of}
 
 -- ---- from a handheld that was never asked
 

@@ -13,11 +13,11 @@ use Rattle.handheld_server.specs.Servers.{ServerValue}
 use Rattle.line_world.specs.Folders.{FilesRan, OthersStay, StoodAfterSome}
 use Rattle.device_stream.specs.Hands.{Hand}
 use Rattle.device_stream.specs.Runs.{KeptFor}
-use Rattle.port_device.specs.Courses.{Course}
-use Rattle.port_device.specs.Runs.{IsPortRun}
-use Rattle.port_device.specs.declared.port_end.PortEnd.{PortEnd}
-use Rattle.port_device.specs.declared.port_end.PortEnd.TheVariants as ends
-use Rattle.port_device.proofs.RunLaws.{waking-run}
+use Rattle.port_link.specs.VigilCourses.{Course}
+use Rattle.port_link.specs.Runs.{IsPortRun}
+use Rattle.port_link.specs.declared.port_end.PortEnd.{PortEnd}
+use Rattle.port_link.specs.declared.port_end.PortEnd.TheVariants as ends
+use Rattle.port_link.proofs.RunLaws.{waking-run}
 use Rattle.run_words.specs.Docks.{Dock}
 use Rattle.trace_text.specs.declared.frame.End.TheVariants as end
 use Rattle.hotsync_looks.specs.Opening.{Opens, OpensAtMost, OpensGivenAtMost}

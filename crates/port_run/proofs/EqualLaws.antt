@@ -11,7 +11,7 @@ use Rattle.session_plan.specs.Limits.{first_over}
 use Rattle.session_plan.specs.Merges.{merged_device, merged_slots}
 use Rattle.session_plan.specs.Tasks.{Meeting}
 use Rattle.sync_session.specs.Sessions.{adds_of, after_commit, before_commit, writes_before_commit}
-use Rattle.repeat_laws.specs.Meetings.{holding}
+use Rattle.front_laws.specs.Meetings.{holding}
 use Rattle.front_laws.specs.Equal.{HasEqualSides}
 use Rattle.front_laws.proofs.EqualLaws.{holds-equal}
 use Rattle.front_laws.proofs.FrontLaws.{front-behind}

@@ -26,7 +26,7 @@ use Rattle.port_link.specs.Hands.{HandRan}
 use Rattle.port_run.specs.Ends.{given_by}
 use Rattle.call_parts.proofs.EndLaws.{said_left}
 use Rattle.call_parts.proofs.EndLaws.{prefix-on}
-use Rattle.cable_laws.proofs.TakeLaws.{some_of}
+use Rattle.port_laws.proofs.TakeLaws.{some_of}
 
 -- ---- lists that begin others
 

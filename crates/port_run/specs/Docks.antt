@@ -7,10 +7,10 @@ use Rattle.palm_device.specs.Handles.{no_handles}
 use Rattle.handheld_files.specs.Openings.{HoldsAll}
 use Rattle.line_world.specs.Logs.{texts}
 use Rattle.device_stream.specs.Hands.{Hand}
-use Rattle.port_device.specs.Courses.{Course}
-use Rattle.port_device.specs.Runs.{IsPortRun}
-use Rattle.port_device.specs.declared.port_end.PortEnd.{PortEnd}
-use Rattle.port_device.specs.declared.port_end.PortEnd.TheVariants as ends
+use Rattle.port_link.specs.VigilCourses.{Course}
+use Rattle.port_link.specs.Runs.{IsPortRun}
+use Rattle.port_link.specs.declared.port_end.PortEnd.{PortEnd}
+use Rattle.port_link.specs.declared.port_end.PortEnd.TheVariants as ends
 use Rattle.port_link.specs.Logs.{log_entries}
 use Rattle.run_words.specs.Docks.{Dock}
 use Rattle.trace_text.specs.declared.frame.End.TheVariants as end

@@ -7,7 +7,7 @@ use Rattle.desk_store.specs.Shelves.{slot_at}
 use Rattle.session_plan.specs.Merges.{merged_slots}
 use Rattle.session_plan.specs.Tasks.{Meeting}
 use Rattle.session_parts.specs.Rests.{IsAtRest}
-use Rattle.repeat_laws.specs.Meetings.{IsActive, holding}
+use Rattle.front_laws.specs.Meetings.{IsActive, holding}
 use Rattle.front_laws.specs.Equal.{HasEqualSides, IsShownWhole}
 use Rattle.port_laws.specs.Palms.{Palm}
 use Rattle.run_words.specs.Cables.{Cable}

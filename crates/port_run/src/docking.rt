@@ -20,7 +20,7 @@ use handheld_server::Server;
 use handheld_store::Store;
 use hotsync_looks::{Status, print_refusal, print_served};
 use hs_folders::{Folder, Sink};
-use port_device::{AtPort, PortEnd, serve_at_port};
+use port_link::{AtPort, PortEnd, serve_at_port};
 use port_line::Port;
 use run_words::{DockWords, docking_words};
 use std::alloc::Global;

@@ -10,8 +10,8 @@ use Rattle.std.specs.Prelude.{codes, nat_lt, if◌then◌else◌}
 use Rattle.std.specs.Int.{bytes_high_first}
 use Rattle.hex.specs.Hex.{decode_of, encode_lower, lower_digits}
 use Rattle.hex.proofs.HexLemmas.{decode_of-encode_lower, length-encode_with}
-use Rattle.palm_text.specs.Characters.{char_of}
-use Rattle.palm_text.proofs.CharacterLaws.{append_parts, byte_of, code_of, every, every_at, first-append, is_told, place_in, text_front}
+use Rattle.palm_records.specs.Characters.{char_of}
+use Rattle.palm_records.proofs.CharacterLaws.{append_parts, byte_of, code_of, every, every_at, first-append, is_told, place_in, text_front}
 use Rattle.record_export.specs.Heads.{begins_with, head_line, id_text, is_doubtful, label_char_text, label_chars, label_text, mark}
 use Rattle.record_export.specs.Memos.{IsBytes}
 

@@ -6,8 +6,8 @@ use Rattle.std.proofs.lemmas.List.{length-append}
 use Rattle.std.proofs.Math.Utf8.{encode}
 use Rattle.std.proofs.Common.{arith, ◌≡◌, ◌<◌, ◌++◌, ◌∷◌, [], ◌∙◌, ◌==◌, ◌&&◌, ◌⊎◌, inl, inr, ap, refl, sym, subst, ℕ, Bool, true, false, List, append_assoc, get_or, length}
 use Rattle.std.specs.Prelude.{codes, nat_lt, if◌then◌else◌}
-use Rattle.palm_text.specs.Characters.{char_of, char_text}
-use Rattle.palm_text.proofs.CharacterLaws.{char_text_front, char_text_some}
+use Rattle.palm_records.specs.Characters.{char_of, char_text}
+use Rattle.palm_records.proofs.CharacterLaws.{char_text_front, char_text_some}
 use Rattle.record_export.specs.Heads.{begins_with}
 use Rattle.record_export.specs.Memos.{IsBytes, guard, guard_behind, lines_from}
 use Rattle.record_export.proofs.HeadLaws.{IsBytes-rest, begins_with-cons, char_of-plain, is_plain}

@@ -3,9 +3,9 @@ use Rattle.std.proofs.Common.{◌≡◌, ◌<◌, ◌++◌, ◌∷◌, [], ◌+�
 use Rattle.std.proofs.lemmas.List.Elements.{All-cons, All-head, All-nil, All-tail}
 use Rattle.std.specs.Prelude.{All, filter, map, Option}
 use Rattle.pdb_values.specs.declared.record.Record.{Record}
-use Rattle.palm_text.specs.Characters.{char_text}
-use Rattle.export_choice.specs.declared.choice.Privacy.{Privacy}
-use Rattle.export_choice.specs.Choices.{is_exported}
+use Rattle.palm_records.specs.Characters.{char_text}
+use Rattle.palm_records.specs.declared.choice.Privacy.{Privacy}
+use Rattle.palm_records.specs.Choices.{is_exported}
 use Rattle.record_export.specs.Exports.{IsItem, items_text, memo_of}
 use Rattle.record_export.specs.Memos.{IsMemo, guard_behind, lines_from, memo_text, memos_text}
 

@@ -7,8 +7,8 @@ use Rattle.pdb_values.specs.declared.record.Record.{Record}
 use Rattle.pdb_values.specs.Databases.{DatabaseValue}
 use Rattle.pdb_values.specs.Heads.{holds_resources}
 use Rattle.palm_records.specs.Strings.{until_zero}
-use Rattle.export_choice.specs.declared.choice.Privacy.{Privacy}
-use Rattle.export_choice.specs.Choices.{is_exported, shown_label}
+use Rattle.palm_records.specs.declared.choice.Privacy.{Privacy}
+use Rattle.palm_records.specs.Choices.{is_exported, shown_label}
 use Rattle.record_export.specs.Memos.{IsMemo, MemoValue, memo_text}
 
 -- a memo database: records of type `DATA` and creator `memo`, or `PMem` on later handhelds

@@ -4,7 +4,7 @@ use Rattle.std.specs.Prelude.{ℕ, ◌==◌, ◌&&◌, ◌||◌, Bool, not, List
 use Rattle.std.specs.Int.{bytes_high_first}
 use Rattle.std.specs.List.{flat_map, starts_with}
 use Rattle.hex.specs.Hex.{encode_lower}
-use Rattle.palm_text.specs.Characters.{char_of}
+use Rattle.palm_records.specs.Characters.{char_of}
 
 -- the byte that ends a line
 abbrev pub line_feed : List ℕ

@@ -2,7 +2,7 @@
 -- dashes and no fourth are the heads.
 use Rattle.std.specs.Prelude.{ℕ, ◌<◌, ◌==◌, Bool, List, [], ◌∷◌, ◌++◌, codes, slice_index, if◌then◌else◌}
 use Rattle.std.specs.List.{flat_map}
-use Rattle.palm_text.specs.Characters.{char_text}
+use Rattle.palm_records.specs.Characters.{char_text}
 use Rattle.record_export.specs.Heads.{begins_with, head_line, id_limit, line_feed}
 
 -- a memo: the id of its record, whether it is private, the label of its category (empty: none), and

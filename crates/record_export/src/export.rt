@@ -5,7 +5,7 @@ ghost use Rattle.record_export.specs.Exports.{IsItem, exported_memos, holds_memo
 ghost use Rattle.record_export.specs.Memos.{IsMemo, MemoValue, memos_text};
 
 use crate::memo::push_item;
-use export_choice::{ExportFault, Privacy};
+use palm_records::{ExportFault, Privacy};
 use pdb_values::{Database, DbHead};
 use std::alloc::{AllocError, Global};
 

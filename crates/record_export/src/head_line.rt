@@ -3,7 +3,7 @@ ghost use Rattle.std.specs.Prelude.{◌≡◌, ◌<◌, ◌++◌, OnOk, string_b
 ghost use Rattle.record_export.specs.Memos.{IsBytes};
 ghost use Rattle.record_export.specs.Heads.{gap, head_line, id_limit, id_text, is_doubtful, label_char, label_chars, label_text, mark};
 
-use palm_text::char_of;
+use palm_records::char_of;
 use pdb_values::RecordId;
 use std::alloc::{AllocError, Global};
 

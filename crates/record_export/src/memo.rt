@@ -6,8 +6,7 @@ ghost use Rattle.record_export.specs.Memos.{IsMemo, memo_text};
 
 use crate::head_line::push_head;
 use crate::memo_lines::push_lines;
-use export_choice::{Privacy, is_exported, shown_label};
-use palm_records::until_zero;
+use palm_records::{Privacy, is_exported, shown_label, until_zero};
 use pdb_values::Record;
 use std::alloc::{AllocError, Global};
 

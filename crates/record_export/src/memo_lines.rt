@@ -1,9 +1,9 @@
 // The lines of a memo.
 ghost use Rattle.std.specs.Prelude.{◌≡◌, ◌++◌, OnOk, string_bytes};
-ghost use Rattle.palm_text.specs.Characters.{char_text};
+ghost use Rattle.palm_records.specs.Characters.{char_text};
 ghost use Rattle.record_export.specs.Memos.{IsBytes, guard, guard_behind, lines_from, memo_lines};
 
-use palm_text::char_of;
+use palm_records::char_of;
 use std::alloc::AllocError;
 
 /// Appends the lines of a memo.

@@ -7,8 +7,8 @@ use Rattle.std.proofs.lemmas.List.FromFn.{map-range_with_len_more}
 use Rattle.std.proofs.lemmas.Grind.{flat_map-append}
 use Rattle.pdb_values.specs.declared.record.Record.{Record}
 use Rattle.palm_records.specs.Addresses.{AddressValue}
-use Rattle.export_choice.specs.declared.choice.Privacy.{Privacy}
-use Rattle.export_choice.specs.Choices.{is_exported}
+use Rattle.palm_records.specs.declared.choice.Privacy.{Privacy}
+use Rattle.palm_records.specs.Choices.{is_exported}
 use Rattle.csv.specs.Writing.{row_text}
 use Rattle.table_export.specs.Addresses.{columns_before, field_columns}
 use Rattle.table_export.specs.Exports.{item_row, item_text, items_text}

@@ -6,8 +6,8 @@ use Rattle.pdb_values.specs.declared.record.Record.{Record}
 use Rattle.pdb_values.specs.Databases.{DatabaseValue}
 use Rattle.palm_records.specs.Addresses.{AddressValue, address_in}
 use Rattle.palm_records.specs.Tasks.{TaskValue, task_in}
-use Rattle.export_choice.specs.declared.choice.Privacy.{Privacy}
-use Rattle.export_choice.specs.Choices.{is_exported}
+use Rattle.palm_records.specs.declared.choice.Privacy.{Privacy}
+use Rattle.palm_records.specs.Choices.{is_exported}
 use Rattle.card_export.specs.Exports.{text_of}
 use Rattle.table_export.specs.Addresses.{address_columns, columns_before}
 use Rattle.table_export.specs.Exports.{address_or, exported_rows, head_row, item_row, task_or}

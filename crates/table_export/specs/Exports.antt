@@ -12,10 +12,10 @@ use Rattle.pdb_values.specs.Databases.{DatabaseValue}
 use Rattle.pdb_values.specs.Heads.{holds_resources}
 use Rattle.palm_records.specs.Addresses.{AddressValue, address_in}
 use Rattle.palm_records.specs.Tasks.{TaskValue, task_in}
-use Rattle.export_choice.specs.declared.choice.BrokenRecords.{BrokenRecords}
-use Rattle.export_choice.specs.declared.choice.BrokenRecords.TheVariants.{Refused}
-use Rattle.export_choice.specs.declared.choice.Privacy.{Privacy}
-use Rattle.export_choice.specs.Choices.{BadItem, first_bad, is_exported, shown_label}
+use Rattle.palm_records.specs.declared.choice.BrokenRecords.{BrokenRecords}
+use Rattle.palm_records.specs.declared.choice.BrokenRecords.TheVariants.{Refused}
+use Rattle.palm_records.specs.declared.choice.Privacy.{Privacy}
+use Rattle.palm_records.specs.Choices.{BadItem, first_bad, is_exported, shown_label}
 use Rattle.csv.specs.Writing.{row_text}
 use Rattle.card_export.specs.Exports.{text_of}
 use Rattle.table_export.specs.Addresses.{address_columns, address_names}

@@ -6,7 +6,7 @@ use Rattle.csv.specs.Reading.{default_config, records}
 use Rattle.csv.specs.Writing.{default_writer, row_text, with_terminator}
 use Rattle.csv.specs.declared.parser.Terminator.TheVariants as term
 use Rattle.csv.specs.declared.writer.WriterBuilder.{WriterBuilder}
-use Rattle.palm_text.specs.Characters.{characters}
+use Rattle.palm_records.specs.Characters.{characters}
 
 -- commas, double quotes where a field needs them, and CR LF
 abbrev pub table_writer : WriterBuilder

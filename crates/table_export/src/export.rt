@@ -1,6 +1,6 @@
 // The addresses and the tasks of a database as tables.
 ghost use Rattle.std.specs.Prelude.{◌≡◌, ◌↔◌, All, IfOk, IsErrOf, List, None, Some, false, string_bytes, ℕ};
-ghost use Rattle.export_choice.specs.declared.choice.BrokenRecords.TheVariants.{Refused};
+ghost use Rattle.palm_records.specs.declared.choice.BrokenRecords.TheVariants.{Refused};
 ghost use Rattle.card_export.specs.Exports.{refusal, refusal_at};
 ghost use Rattle.table_export.specs.Exports.{IsRefusedAt, creator_of, exported_rows, fault_of, first_bad_item, is_of_kind, place_in};
 ghost use Rattle.table_export.specs.Tables.{IsRow, rows_in, table_text};
@@ -10,8 +10,7 @@ use crate::csv_row::push_row;
 use crate::head::head_row;
 use crate::item::push_item;
 use crate::kind::Kind;
-use export_choice::{BrokenRecords, ExportFault, Privacy, is_exported};
-use palm_records::{read_address, read_task};
+use palm_records::{BrokenRecords, ExportFault, Privacy, is_exported, read_address, read_task};
 use pdb_values::{Database, DbHead, Record};
 use std::alloc::{AllocError, Global};
 

@@ -6,7 +6,7 @@ ghost use Rattle.table_export.specs.Exports.{unread_columns};
 ghost use Rattle.table_export.specs.Tables.{palm_field};
 
 use csv::StringRecord;
-use palm_text::push_text;
+use palm_records::push_text;
 use std::alloc::{AllocError, Global};
 
 /// Appends a text of a Palm as a field.

@@ -12,8 +12,7 @@ use crate::field::{push_hex, push_palm, push_unread};
 use crate::kind::Kind;
 use crate::task::push_task;
 use csv::StringRecord;
-use export_choice::{Privacy, is_exported, shown_label};
-use palm_records::{read_address, read_task};
+use palm_records::{Privacy, is_exported, read_address, read_task, shown_label};
 use pdb_values::Record;
 use std::alloc::{AllocError, Global};
 

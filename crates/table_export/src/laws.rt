@@ -1,7 +1,7 @@
 // What holds of exported tables.
 ghost use Rattle.std.specs.Prelude.{◌≡◌, All, List, length, ℕ};
 ghost use Rattle.pdb_values.specs.Databases.{DatabaseValue};
-ghost use Rattle.export_choice.specs.declared.choice.Privacy.{Privacy};
+ghost use Rattle.palm_records.specs.declared.choice.Privacy.{Privacy};
 ghost use Rattle.card_export.specs.Exports.{text_of};
 ghost use Rattle.table_export.specs.Exports.{exported_rows, head_row};
 ghost use Rattle.table_export.specs.Tables.{IsRow, rows_in, table_text};

@@ -1,5 +1,5 @@
 use Rattle.std.proofs.Common.{◌≡◌, drop}
-use Rattle.export_choice.specs.Choices.{first_bad}
+use Rattle.palm_records.specs.Choices.{first_bad}
 use Rattle.calendar_export.specs.Exports.{fault_of}
 use Rattle.calendar_export.proofs.export.first_bad.Given as goal
 

@@ -1,6 +1,6 @@
 use Rattle.std.proofs.Common.{◌≡◌, ◌++◌, string_bytes, drop}
 use Rattle.std.specs.Prelude.{chars}
-use Rattle.palm_text.specs.Characters.{characters}
+use Rattle.palm_records.specs.Characters.{characters}
 use Rattle.content_lines.specs.Lines.{escaped}
 use Rattle.calendar_export.proofs.line.push_value.Given as goal
 

@@ -3,7 +3,7 @@ use Rattle.std.proofs.Common.{◌≡◌, ◌∙◌, ◌++◌, ap, arith, string_
 use Rattle.std.specs.Option.{option_copied}
 use Rattle.std.specs.Str.{chars}
 use Rattle.palm_records.specs.Addresses.{address_in}
-use Rattle.export_choice.specs.Choices.{shown_label}
+use Rattle.palm_records.specs.Choices.{shown_label}
 use Rattle.content_lines.specs.Lines.{lines_text}
 use Rattle.card_export.specs.Cards.{IsBytes}
 use Rattle.card_export.specs.Exports.{card_of, form_of, text_of}

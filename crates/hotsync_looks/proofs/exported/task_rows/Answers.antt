@@ -1,6 +1,6 @@
 use Rattle.std.specs.Prelude.{string_bytes}
 use Rattle.std.specs.declared.alloc.Global.{Global}
-use Rattle.export_choice.specs.declared.choice.Privacy.{Privacy}
+use Rattle.palm_records.specs.declared.choice.Privacy.{Privacy}
 use Rattle.table_export.specs.Exports.{exported_rows, first_bad_item, is_of_kind}
 use Rattle.table_export.specs.Tables.{table_text}
 use Rattle.table_export.specs.declared.kind.Kind.TheVariants.{Tasks}

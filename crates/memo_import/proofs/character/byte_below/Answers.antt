@@ -1,6 +1,6 @@
 use Rattle.std.proofs.lemmas.Bool.{cases_lt}
 use Rattle.std.proofs.Common.{◌≡◌, ◌<◌, ◌≤◌, ◌⊎◌, inl, inr, arith, sym, ◌∙◌, ℕ}
-use Rattle.palm_text.specs.Characters.{char_of}
+use Rattle.palm_records.specs.Characters.{char_of}
 use Rattle.memo_import.proofs.ByteLaws.{byte_below-none, byte_found, high_none}
 use Rattle.memo_import.proofs.character.byte_below.Goals as goal
 use Rattle.memo_import.proofs.character.byte_below.Goals.{else-code-lt256-via-then-code-lt256+else-char_of-ch, else-code-lt256-via-else-code-lt256}

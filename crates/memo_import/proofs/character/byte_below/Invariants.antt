@@ -1,5 +1,5 @@
 use Rattle.std.proofs.Common.{◌≡◌, ℕ, ◌<◌}
-use Rattle.palm_text.specs.Characters.{char_of}
+use Rattle.palm_records.specs.Characters.{char_of}
 use Rattle.memo_import.proofs.character.byte_below.Given as goal
 
 abbrev pub invariant-loop-byte : goal.invariant-loop-byte

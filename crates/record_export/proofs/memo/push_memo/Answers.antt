@@ -1,7 +1,7 @@
 use Rattle.std.proofs.Common.{ap, ◌∙◌, subst}
 use Rattle.palm_records.specs.Strings.{until_zero}
 use Rattle.std.specs.Option.{option_copied}
-use Rattle.export_choice.specs.Choices.{shown_label}
+use Rattle.palm_records.specs.Choices.{shown_label}
 use Rattle.record_export.specs.Memos.{IsBytes}
 use Rattle.record_export.proofs.memo.push_memo.Goals as goal
 

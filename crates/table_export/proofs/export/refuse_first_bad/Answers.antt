@@ -1,6 +1,6 @@
 use Rattle.std.proofs.Common.{ap, sym}
 use Rattle.std.proofs.lemmas.Result.{err_from_is_err_and}
-use Rattle.export_choice.specs.Choices.{first_bad}
+use Rattle.palm_records.specs.Choices.{first_bad}
 use Rattle.table_export.specs.Exports.{fault_of, first_bad_item}
 use Rattle.card_export.proofs.BadLaws.{accepted_at, first_bad-fine, first_bad-skip, none_left, refused}
 use Rattle.table_export.proofs.export.refuse_first_bad.Goals as goal

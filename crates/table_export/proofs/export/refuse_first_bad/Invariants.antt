@@ -1,5 +1,5 @@
 use Rattle.std.proofs.Common.{◌≡◌, drop}
-use Rattle.export_choice.specs.Choices.{first_bad}
+use Rattle.palm_records.specs.Choices.{first_bad}
 use Rattle.table_export.specs.Exports.{fault_of, first_bad_item}
 use Rattle.table_export.proofs.export.refuse_first_bad.Given as goal
 

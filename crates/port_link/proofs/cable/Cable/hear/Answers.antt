@@ -3,7 +3,7 @@ use Rattle.std.specs.Prelude.{Some}
 use Rattle.slp_frames.specs.PacketValues.{lent_value}
 use Rattle.port_link.specs.Courses.{Tells}
 use Rattle.port_link.specs.Logs.{Heard, log_entries, speech}
-use Rattle.cable_laws.specs.Cables.{packets_of}
+use Rattle.port_laws.specs.Cables.{packets_of}
 use Rattle.padp_end.specs.Ends.{end_takes}
 use Rattle.port_laws.proofs.SaidLaws.{takes_scanned}
 use Rattle.port_link.proofs.BehindLaws.{heard-said, told-unheard}

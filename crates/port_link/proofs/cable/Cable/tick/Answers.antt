@@ -2,7 +2,7 @@ use Rattle.std.proofs.Common.{List, ◌∷◌, [], ℕ, rules, refl, subst, ◌�
 use Rattle.std.specs.Prelude.{Some}
 use Rattle.port_link.specs.Courses.{Tells}
 use Rattle.port_link.specs.Logs.{Silent, log_entries, speech}
-use Rattle.cable_laws.specs.Cables.{packets_of}
+use Rattle.port_laws.specs.Cables.{packets_of}
 use Rattle.port_link.specs.Desks.{silence}
 use Rattle.port_link.proofs.BehindLaws.{heard-said, silence_scanned, told-unheard}
 use Rattle.port_link.proofs.TellLaws.{tells-kept, tells-then}

@@ -1,6 +1,0 @@
-pub mod QueueLaws
-mod SayLaws
-mod StepLaws
-pub mod TakeLaws
-mod DataLaws
-pub mod MomentLaws

@@ -1,5 +1,0 @@
-use Rattle.cable_laws.proofs.MomentLaws.{says_again}
-use Rattle.cable_laws.proofs.laws.a_piece_may_go_again.Goals as goal
-
-pub returns : goal.returns
-returns c = says_again

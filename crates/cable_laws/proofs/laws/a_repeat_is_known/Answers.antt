@@ -1,5 +1,0 @@
-use Rattle.cable_laws.proofs.MomentLaws.{known_by-stamp}
-use Rattle.cable_laws.proofs.laws.a_repeat_is_known.Goals as goal
-
-pub returns : goal.returns
-returns c = known_by-stamp

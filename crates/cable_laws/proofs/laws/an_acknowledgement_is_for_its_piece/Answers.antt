@@ -1,5 +1,0 @@
-use Rattle.cable_laws.proofs.MomentLaws.{acked_by-stamp}
-use Rattle.cable_laws.proofs.laws.an_acknowledgement_is_for_its_piece.Goals as goal
-
-pub returns : goal.returns
-returns c = acked_by-stamp

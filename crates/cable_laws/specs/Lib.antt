@@ -1,2 +1,0 @@
-pub mod Cables
-pub mod Moments

@@ -1,5 +1,0 @@
-use Rattle.palm_text.proofs.CharacterLaws.{char_of_injective}
-use Rattle.palm_text.proofs.laws.characters_are_one_to_one.Goals as goal
-
-pub returns : goal.returns
-returns c = char_of_injective

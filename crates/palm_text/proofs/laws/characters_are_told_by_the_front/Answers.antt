@@ -1,5 +1,0 @@
-use Rattle.palm_text.proofs.CharacterLaws.{char_text_front}
-use Rattle.palm_text.proofs.laws.characters_are_told_by_the_front.Goals as goal
-
-pub returns : goal.returns
-returns c = char_text_front

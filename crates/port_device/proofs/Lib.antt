@@ -1,2 +1,0 @@
-pub mod CourseLaws
-pub mod RunLaws

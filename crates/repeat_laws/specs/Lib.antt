@@ -1,4 +1,0 @@
-pub mod Losses
-pub mod Meetings
-pub mod Renaming
-pub mod Repeats
