@@ -16,8 +16,8 @@ use Rattle.call_parts.specs.declared.report.SessionEnd.{SessionEnd}
 use Rattle.call_parts.specs.declared.report.SessionEnd.TheVariants.{NotStarted}
 use Rattle.hotsync_looks.specs.declared.status.Status.{Status}
 use Rattle.hotsync_looks.specs.declared.status.Status.TheVariants.{Done, TraceWrite, OutWrite, NoMemory, InUse}
-
 use Rattle.call_parts.proofs.RetoldLaws.{by_end_both}
+
 -- ---- the trace
 
 -- a text that was taken

@@ -19,7 +19,7 @@ use Rattle.category_mirror.specs.Changes.{change_filed, change_for, changes_file
 use Rattle.category_mirror.specs.Courses.{did_of, report_filed, reports_filed}
 use Rattle.session_parts.specs.declared.report.Did.{Did}
 use Rattle.session_parts.specs.declared.report.DbReport.{DbReport}
-use Rattle.slow_mirror.proofs.NewsLaws.{SplitAt}
+use Rattle.mirrors.proofs.NewsLaws.{SplitAt}
 use Rattle.category_mirror.specs.Jobs.{names_filed}
 use Rattle.category_mirror.specs.Refiled.{refiled_rows}
 

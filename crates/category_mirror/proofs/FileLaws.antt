@@ -6,11 +6,11 @@ use Rattle.dlp_replies.specs.declared.fault.ReplyFault.{ReplyFault}
 use Rattle.desktop_session.specs.Answers.{block_of, or_none}
 use Rattle.desktop_session.specs.Requests.{reading_app}
 use Rattle.session_parts.proofs.LinkWords.{Act, AsksOne, LinkFault, SessionFault, SessionValue, Talk, acted, answer_by, said_in, saying}
-use Rattle.slow_mirror.specs.Asks.{Asks}
-use Rattle.slow_mirror.proofs.AskLaws.{asked_part, asks_then, none_said, one_said, said_all, said_part}
+use Rattle.mirrors.specs.Asks.{Asks}
+use Rattle.mirrors.proofs.AskLaws.{asked_part, asks_then, none_said, one_said, said_all, said_part}
 use Rattle.category_mirror.specs.Blocks.{MergeValue, blocks_merge, written_block}
 use Rattle.category_mirror.specs.FilingActs.{IsMergeTold, app_told, block_in, block_or_none, filed_under, writes_where}
-use Rattle.slow_mirror.proofs.ReadLaws.{grown_untold}
+use Rattle.mirrors.proofs.ReadLaws.{grown_untold}
 
 -- a block that was read
 pub block_said : (fault : Option LinkFault) (read : Result ReplyValue ReplyFault) (block : Option (List ℕ))

@@ -3,7 +3,7 @@ ghost use Rattle.std.specs.Prelude.{◌≡◌, ◌∷◌, ◌++◌, [], IfErr, I
 ghost use Rattle.std.specs.Option.{option_copied};
 ghost use Rattle.desktop_session.specs.declared.fault.SessionFault.TheVariants as session;
 ghost use Rattle.desk_store.specs.Views.{shelves_in};
-ghost use Rattle.slow_mirror.specs.Asks.{Asks};
+ghost use Rattle.mirrors.specs.Asks.{Asks};
 ghost use Rattle.session_parts.specs.Causes.{IsLater};
 ghost use Rattle.session_parts.specs.Spans.{Spans};
 ghost use Rattle.session_parts.specs.Stretches.{SpansEach};

@@ -9,11 +9,11 @@ use Rattle.conduit_rules.specs.ById.{id_bound}
 use Rattle.conduit_rules.specs.Views.{slow_seen, slow_view}
 use Rattle.conduit_rules.specs.declared.view.Seen.{Seen}
 use Rattle.record_merge.specs.Merging.{AreBounded}
-use Rattle.slow_mirror.specs.Entries.{AreBounded as AreSeenBounded, ordered}
-use Rattle.slow_mirror.proofs.NewsLaws.{split_at}
+use Rattle.mirrors.specs.Entries.{AreBounded as AreSeenBounded, ordered}
+use Rattle.mirrors.proofs.NewsLaws.{split_at}
 use Rattle.std.proofs.lemmas.List.{map-append}
 use Rattle.pdb_files.proofs.WriteLaws.{all_behind}
-use Rattle.slow_mirror.proofs.ShownLaws.{ordered-slow}
+use Rattle.mirrors.proofs.ShownLaws.{ordered-slow}
 
 -- the entries of all records in their order are the view, by a name that code can cite
 pub ordered_map : (records : List Record) → ordered (map slow_seen records) ≡ slow_view records

@@ -12,7 +12,7 @@ use Rattle.palm_device.proofs.RecordLaws.{put_record_new}
 use Rattle.record_merge.specs.Writes.{AreFree, Write, add, adding, after, clean_up, numbered, purge, purges, replace, replaces, reset}
 use Rattle.record_merge.proofs.AfterLaws.{after-append}
 use Rattle.record_merge.proofs.PutLaws.{put_record-cons}
-use Rattle.slow_mirror.proofs.NewsLaws.{split_at}
+use Rattle.mirrors.proofs.NewsLaws.{split_at}
 use Rattle.session_plan.proofs.RowLaws.{numbered-push}
 
 -- ---- replacements

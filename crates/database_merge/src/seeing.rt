@@ -8,7 +8,7 @@ ghost use Rattle.session_plan.specs.Tasks.{records_of};
 
 use conduit_rules::{Seen, SeenState, View};
 use pdb_values::{Database, Kind, Record};
-use slow_mirror::in_order;
+use mirrors::in_order;
 use std::alloc::{AllocError, Global};
 
 /// The records of a database that may not be there.

@@ -6,11 +6,11 @@ ghost use Rattle.device_state.specs.Refusals.{RefusesList, RefusesState, SaysNon
 ghost use Rattle.device_state.specs.States.{IsState, StandsByHand};
 
 use crate::fault::StateFault;
+use crate::files::read_files;
 use crate::hearing::{Heard, hear_any};
 use crate::state::{StateFront, open_files, read_front, write_state};
 use arrayvec::ArrayVec;
 use device_stream::{Talk, TalkEnd};
-use crate::files::read_files;
 use handheld_server::Server;
 use hs_folders::{Folder, MemFolder};
 use std::alloc::{AllocError, Global};

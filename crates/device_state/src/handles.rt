@@ -4,8 +4,8 @@ ghost use Rattle.palm_device.specs.declared.opened.Opened.{Opened};
 ghost use Rattle.device_state.specs.Opened.{AreNamed, handles_text};
 
 use crate::opened::{opened_bytes, opened_of};
-use device_stream::PartsFault;
 use crate::strings::{next_string, push_string};
+use device_stream::PartsFault;
 use palm_device::Handles;
 use std::alloc::AllocError;
 

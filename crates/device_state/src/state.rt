@@ -10,14 +10,14 @@ ghost use Rattle.device_state.specs.States.{IsOpenedList, IsState, StandsByHand,
 ghost use Rattle.device_stream.specs.declared.parts.TalkParts.{TalkParts};
 
 use crate::fault::StateFault;
-use device_stream::{Talk, TalkParts};
 use crate::files::{push_files, read_files};
 use crate::strings::{next_string, push_string};
+use crate::talk::{TalkFront, push_talk, read_talk};
+use device_stream::{Talk, TalkParts};
 use handheld_files::OpenFault;
 use handheld_store::Store;
 use hs_folders::{Folder, MemFolder};
 use std::alloc::{AllocError, Global};
-use crate::talk::{TalkFront, push_talk, read_talk};
 
 // What the bytes of a handheld begin with.
 const MARK: [u8; 4] = *b"HSD1";

@@ -6,8 +6,8 @@ ghost use Rattle.device_stream.specs.declared.parts.TalkParts.{TalkParts};
 
 use crate::handles::{next_handles, push_handles};
 use crate::numbers::{numbers_of, parts_of};
-use device_stream::{PartsFault, TalkParts};
 use crate::strings::{next_string, push_string};
+use device_stream::{PartsFault, TalkParts};
 use std::alloc::{AllocError, Global};
 
 /// What a talk holds, and the bytes behind it.

@@ -15,7 +15,7 @@ use Rattle.conduit_rules.specs.Plans.{purged_ids}
 use Rattle.record_merge.specs.Writes.{Write, after, clean_up, clearing, giving, purges, reset}
 use Rattle.desktop_session.specs.Requests.{cleaning, ending, opening, removing, resetting}
 use Rattle.desktop_session.specs.Tellings.{device_after}
-use Rattle.slow_mirror.specs.News.{purge_writes}
+use Rattle.mirrors.specs.News.{purge_writes}
 use Rattle.session_plan.specs.Choosing.{choice, seen_held, add_count}
 use Rattle.session_plan.specs.Merges.{merged_databases}
 use Rattle.sync_session.specs.News.{purge_acts}

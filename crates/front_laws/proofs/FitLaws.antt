@@ -21,12 +21,12 @@ use Rattle.desktop_session.specs.Lists.{id_listings, id_parts, listings}
 use Rattle.desktop_session.specs.Requests.{cleaning, closing, ending, listing, listing_ids, reading_at, reading_next, reading_of, removing, resetting}
 use Rattle.desktop_session.proofs.RequestFits.{at_fits, begin_fits, clean_fits, close_fits, count_fits, end_fits, ids_fit, list_fits, make_fits, mark_fits}
 use Rattle.desktop_session.proofs.RequestFits.{next_fits, of_fits, open_fits, putting_fits, remove_fits, reset_fits, user_fits}
-use Rattle.slow_mirror.specs.News.{as_new, purge_writes, puts}
-use Rattle.slow_mirror.specs.Reads as slow
+use Rattle.mirrors.specs.News.{as_new, purge_writes, puts}
+use Rattle.mirrors.specs.Reads as slow
 use Rattle.session_plan.specs.Choosing.{base_rows, choice, is_fast, seen_held, add_count}
 use Rattle.session_plan.specs.Heads.{plain_attributes}
 use Rattle.sync_session.specs.News.{all_news, made, news_acts, news_by, opened_for, purge_acts, writes, replaced as replacements}
-use Rattle.fast_mirror.specs.FastReads.{asks_of, fast_asks, other_reads}
+use Rattle.mirrors.specs.FastReads.{asks_of, fast_asks, other_reads}
 use Rattle.sync_session.specs.Reads.{opened, read_acts, reads}
 use Rattle.sync_session.specs.Sessions.{after_commit, before_commit, before_writes, listing_all, session, begin_mark, end_mark}
 use Rattle.session_plan.specs.Skips.{active}

@@ -40,7 +40,7 @@ use Rattle.std.proofs.lemmas.Bool.{or_parts}
 use Rattle.front_laws.proofs.DesktopLaws.{first_place}
 use Rattle.handheld_files.proofs.GivenLaws.{least_few}
 use Rattle.handheld_files.proofs.ChangeLaws.{take_front, drop_front}
-use Rattle.fast_mirror.proofs.ViewLaws.{ids_count}
+use Rattle.mirrors.proofs.ViewLaws.{ids_count}
 
 -- ---- ids that are not taken
 

@@ -24,7 +24,7 @@ use Rattle.desktop_session.specs.Tellings.{device_after}
 use Rattle.desktop_session.proofs.ChangeRows.{row_does}
 use Rattle.desktop_session.proofs.OrderLaws.{name_right}
 use Rattle.desktop_session.proofs.RowLaws.{close_row}
-use Rattle.slow_mirror.specs.Reads as slow
+use Rattle.mirrors.specs.Reads as slow
 use Rattle.session_parts.proofs.RestLaws.{listing_same}
 use Rattle.desktop_session.proofs.ListLaws.{after_append}
 

@@ -22,10 +22,10 @@ use Rattle.desktop_session.specs.Lists.{id_listings, id_parts, listings}
 use Rattle.desktop_session.specs.Orders.{AreInOrder, HasRecordAt, HasRecords, IsPossible}
 use Rattle.desktop_session.specs.Requests.{beginning, closing, counting, listing, listing_ids, opening, reading_at, reading_next, reading_of}
 use Rattle.desktop_session.specs.Tellings.{device_after}
-use Rattle.slow_mirror.specs.Reads as slow
+use Rattle.mirrors.specs.Reads as slow
 use Rattle.session_plan.specs.Choosing.{base_rows, is_fast}
 use Rattle.session_plan.specs.Merges.{handheld_before}
-use Rattle.fast_mirror.specs.FastReads.{asks_of, fast_asks, other_reads}
+use Rattle.mirrors.specs.FastReads.{asks_of, fast_asks, other_reads}
 use Rattle.sync_session.specs.Reads.{opened, read_acts, reads}
 use Rattle.sync_session.specs.Sessions.{before_writes, listing_all}
 use Rattle.session_plan.specs.Skips.{active}

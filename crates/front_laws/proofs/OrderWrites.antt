@@ -25,7 +25,7 @@ use Rattle.desktop_session.specs.Requests.{cleaning, ending, making, opening, pu
 use Rattle.desktop_session.specs.Tellings.{device_after}
 use Rattle.desktop_session.proofs.ChangeRows.{mark_possible}
 use Rattle.desktop_session.proofs.OrderLaws.{order_answered}
-use Rattle.slow_mirror.specs.News.{as_new, purge_writes, puts}
+use Rattle.mirrors.specs.News.{as_new, purge_writes, puts}
 use Rattle.session_plan.specs.Choosing.{choice, seen_held, add_count}
 use Rattle.session_plan.specs.Heads.{made_head}
 use Rattle.session_plan.specs.Limits.{first_over}

@@ -24,7 +24,7 @@ use Rattle.record_merge.proofs.PutLaws.{Apart, appended}
 use Rattle.desktop_session.specs.Acts.{Act, acted}
 use Rattle.desktop_session.specs.Requests.{closing, making, opening, putting}
 use Rattle.desktop_session.specs.Tellings.{device_after}
-use Rattle.slow_mirror.specs.News.{as_new, puts}
+use Rattle.mirrors.specs.News.{as_new, puts}
 use Rattle.session_plan.specs.Choosing.{choice, seen_held, add_count}
 use Rattle.session_plan.specs.Heads.{made_head}
 use Rattle.sync_session.specs.News.{news_acts, news_by, opened_for, writes, replaced as replacements}

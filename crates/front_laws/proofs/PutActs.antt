@@ -21,7 +21,7 @@ use Rattle.record_merge.proofs.PutLaws.{Apart, appended, put_record-cons, put_re
 use Rattle.desktop_session.specs.Acts.{Act, acted}
 use Rattle.desktop_session.specs.Requests.{putting}
 use Rattle.desktop_session.specs.Tellings.{device_after}
-use Rattle.slow_mirror.specs.News.{as_new, puts}
+use Rattle.mirrors.specs.News.{as_new, puts}
 use Rattle.front_laws.specs.Given.{GetFreeIds}
 use Rattle.front_laws.proofs.WriteActs.{CanPut, IsSorted, MayWrite, holding, holding_base, put_does}
 

@@ -15,9 +15,9 @@ use Rattle.dlp_commands.specs.Reached.{with_next}
 use Rattle.desktop_session.specs.Lists.{id_listings, id_parts}
 use Rattle.desktop_session.specs.Requests.{counting, opening, reading_next, reading_of}
 use Rattle.desktop_session.specs.Tellings.{device_after}
-use Rattle.slow_mirror.specs.Reads as slow
+use Rattle.mirrors.specs.Reads as slow
 use Rattle.session_plan.specs.Choosing.{base_rows, is_fast}
-use Rattle.fast_mirror.specs.FastReads.{asks_of, fast_asks, other_reads}
+use Rattle.mirrors.specs.FastReads.{asks_of, fast_asks, other_reads}
 use Rattle.sync_session.specs.Reads.{opened, reads}
 use Rattle.session_plan.specs.Tasks.{Meeting, Task, records_of}
 use Rattle.front_laws.proofs.OpenActs.{KeepsOpen, all_closed, around, count_same, keeps-append, keeps-flat_map, keeps-id_listings, keeps-next, keeps-nil}

@@ -9,7 +9,7 @@ use Rattle.pdb_values.specs.Databases.{DatabaseValue}
 use Rattle.conduit_rules.specs.Plans.{purged_ids}
 use Rattle.desktop_session.specs.Acts.{Act}
 use Rattle.desktop_session.specs.Requests.{cleaning, closing, ending, making, opening, removing, resetting}
-use Rattle.slow_mirror.specs.News.{as_new, purge_writes, puts}
+use Rattle.mirrors.specs.News.{as_new, purge_writes, puts}
 use Rattle.session_plan.specs.Choosing.{choice, seen_held, add_count}
 use Rattle.session_plan.specs.Heads.{made_head}
 use Rattle.session_plan.specs.Merges.{handheld_before}

@@ -21,7 +21,7 @@ use Rattle.record_merge.proofs.CountLaws.{honest-merged}
 use Rattle.record_merge.proofs.PutLaws.{differ-ids}
 use Rattle.record_merge.proofs.StopLaws.{handheld-given}
 use Rattle.desk_store.specs.Shelves.{SlotValue}
-use Rattle.fast_mirror.specs.Agreements.{agreed}
+use Rattle.mirrors.specs.Agreements.{agreed}
 use Rattle.run_words.specs.Actions.{action_for}
 use Rattle.run_words.specs.declared.action.NamedAction.{NamedAction}
 use Rattle.session_plan.specs.Archives.{entries_of}

@@ -25,7 +25,7 @@ use Rattle.desktop_session.specs.Acts.{Act, acted}
 use Rattle.desktop_session.specs.Requests.{closing, making, opening}
 use Rattle.desktop_session.specs.Tellings.{device_after}
 use Rattle.desktop_session.proofs.ChangeRows.{made_does}
-use Rattle.slow_mirror.specs.News.{as_new, purge_writes, puts}
+use Rattle.mirrors.specs.News.{as_new, purge_writes, puts}
 use Rattle.session_plan.specs.Choosing.{choice, seen_held, add_count}
 use Rattle.session_plan.specs.Heads.{made_head}
 use Rattle.session_plan.specs.Merges.{handheld_before, new_database}

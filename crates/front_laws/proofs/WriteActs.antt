@@ -28,10 +28,10 @@ use Rattle.desktop_session.specs.Acts.{acted}
 use Rattle.desktop_session.specs.Requests.{cleaning, putting, removing, resetting, secret_bit}
 use Rattle.desktop_session.specs.Tellings.{device_after, tells, told}
 use Rattle.desktop_session.proofs.RowLaws.{writes_row}
-use Rattle.slow_mirror.specs.News.{purge_writes}
+use Rattle.mirrors.specs.News.{purge_writes}
 use Rattle.record_merge.specs.Writes.{after, purges}
 use Rattle.front_laws.proofs.OpenActs.{one_open}
-use Rattle.slow_mirror.proofs.CarryLaws.{secret_again}
+use Rattle.mirrors.proofs.CarryLaws.{secret_again}
 use Rattle.desktop_session.proofs.ListLaws.{after_append}
 
 -- what is open, over databases of which it has these records

@@ -53,8 +53,6 @@ use Rattle.call_parts.proofs.LineLaws.{line_ran}
 use Rattle.hotsync_run.proofs.NeverLaws.{all-answered, all-talked, backup_never, run-says}
 use Rattle.call_parts.proofs.SpokeLaws.{IsUnrefusedEnd}
 
-
-
 -- what is told is what the answer says
 told_by : {F : Type 0} {device : Device} {later : List DatabaseValue} {old new : WorldValue F} (answer : Result (Vec DbReport) Stop) (report : Report)
     → IfOk answer (λ reports. ToldBackedUp device later old new reports.items) → report.databases.items ≡ left_databases answer

@@ -6,9 +6,9 @@ use Rattle.pdb_values.specs.declared.record.Record.{Record}
 use Rattle.desktop_session.specs.Puts.{Puts}
 use Rattle.desktop_session.specs.Requests.{putting}
 use Rattle.session_parts.proofs.LinkWords.{LinkFault, Talk, Act, SessionFault, SessionValue, AsksOne}
-use Rattle.slow_mirror.specs.Asks.{Asks}
-use Rattle.slow_mirror.proofs.AskLaws.{none_said, said_all}
-use Rattle.slow_mirror.proofs.NewsLaws.{SplitAt}
+use Rattle.mirrors.specs.Asks.{Asks}
+use Rattle.mirrors.proofs.AskLaws.{none_said, said_all}
+use Rattle.mirrors.proofs.NewsLaws.{SplitAt}
 use Rattle.install_backup.specs.InstallActs.{block_acts, put_record}
 
 module _ {L : Type 0} {talk : L → Option Talk} {since : L → L → Type 0} {fault : L → Option LinkFault} {downs : L → ℕ} where

@@ -32,7 +32,7 @@ use Rattle.desktop_session.proofs.RequestFits.{app_fits, sort_fits}
 use Rattle.desktop_session.proofs.TellLaws.{act_sayable, acted_reads}
 use Rattle.session_parts.specs.Rests.{IsAtRest}
 use Rattle.session_parts.proofs.RestLaws.{opened_on}
-use Rattle.slow_mirror.specs.Reads.{entries_told}
+use Rattle.mirrors.specs.Reads.{entries_told}
 use Rattle.install_backup.specs.BackupEnds.{read_of}
 use Rattle.install_backup.specs.BackedUp.{backed_up}
 use Rattle.install_backup.specs.Copies.{block_in, blocked, copied, each_told, is_gone, record_from, records_in, records_told, resources_in, resources_told, with_entries}

@@ -4,7 +4,7 @@ use Rattle.std.specs.Prelude.{Option, Some, None, OnOk, Result, Ok, Err}
 use Rattle.palm_device.specs.Devices.{Device}
 use Rattle.desktop_session.specs.declared.fault.SessionFault.TheVariants as session
 use Rattle.desktop_session.proofs.StopLaws.{does_then, fell_none, stops_none, stops_then}
-use Rattle.slow_mirror.proofs.AskLaws.{asked_part, one_said}
+use Rattle.mirrors.proofs.AskLaws.{asked_part, one_said}
 use Rattle.session_parts.specs.Causes.{IsLater}
 use Rattle.session_parts.specs.Rests.{IsFirst}
 use Rattle.session_parts.specs.Spans.{Spans}

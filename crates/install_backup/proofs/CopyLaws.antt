@@ -16,12 +16,12 @@ use Rattle.desktop_session.specs.Lent.{LentValue}
 use Rattle.desktop_session.specs.Requests.{reading_app, reading_sort}
 use Rattle.session_parts.proofs.LinkWords.{Act, AsksOne, LinkFault, SessionFault, SessionValue, Talk, acted, answer_by, counting, said_in, saying}
 use Rattle.session_parts.proofs.RestLaws.{reads_same}
-use Rattle.slow_mirror.specs.Asks.{Asks}
-use Rattle.slow_mirror.specs.Reads.{entries_of, entries_told}
-use Rattle.slow_mirror.proofs.AskLaws.{asks_then, one_said}
+use Rattle.mirrors.specs.Asks.{Asks}
+use Rattle.mirrors.specs.Reads.{entries_of, entries_told}
+use Rattle.mirrors.proofs.AskLaws.{asks_then, one_said}
 use Rattle.install_backup.specs.BackupActs.{backup_under}
 use Rattle.install_backup.specs.Copies.{block_in, blocked, copied, or_no_block, record_from, records_in, with_entries}
-use Rattle.slow_mirror.proofs.ReadLaws.{grown_untold}
+use Rattle.mirrors.proofs.ReadLaws.{grown_untold}
 
 pub lent_record : (function : ℕ) (fault : Option LinkFault) (read : Result ReplyValue ReplyFault) {lent : LentValue} → answer_by fault (said_in function record_of read) ≡ Ok lent
     → records_in read ≡ record_from lent ∷ []

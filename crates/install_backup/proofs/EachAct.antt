@@ -3,9 +3,9 @@ use Rattle.std.proofs.Common.{◌≡◌, ◌∙◌, ◌+◌, ◌≤◌, ap, sym,
 use Rattle.std.proofs.lemmas.List.{map-append}
 use Rattle.std.specs.Prelude.{Option, None, Ok, Err}
 use Rattle.session_parts.proofs.LinkWords.{LinkFault, Talk, SessionFault, Act, SessionValue, AsksOne}
-use Rattle.slow_mirror.specs.Asks.{Asks}
-use Rattle.slow_mirror.proofs.AskLaws.{SoFar, asked_part, asks_then, none_said, said_all, said_on}
-use Rattle.slow_mirror.proofs.NewsLaws.{SplitAt, take_none}
+use Rattle.mirrors.specs.Asks.{Asks}
+use Rattle.mirrors.proofs.AskLaws.{SoFar, asked_part, asks_then, none_said, said_all, said_on}
+use Rattle.mirrors.proofs.NewsLaws.{SplitAt, take_none}
 use Rattle.desktop_session.proofs.GrowLaws.{take_whole}
 
 module _ {L X : Type 0} {talk : L → Option Talk} {since : L → L → Type 0} {fault : L → Option LinkFault} {downs : L → ℕ} (f : X → Act)

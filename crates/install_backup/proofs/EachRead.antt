@@ -9,8 +9,8 @@ use Rattle.desktop_session.specs.Requests.{reading_resource}
 use Rattle.desktop_session.proofs.TellLaws.{said_device}
 use Rattle.session_parts.proofs.LinkWords.{Act, AsksOne, LinkFault, SessionFault, SessionValue, Talk, acted, device_after, reading_at, said, saying}
 use Rattle.session_parts.proofs.RestLaws.{reads_same}
-use Rattle.slow_mirror.specs.Asks.{Asks}
-use Rattle.slow_mirror.proofs.AskLaws.{SoFar, asked_part, asks_then, none_said, said_on, said_part}
+use Rattle.mirrors.specs.Asks.{Asks}
+use Rattle.mirrors.proofs.AskLaws.{SoFar, asked_part, asks_then, none_said, said_on, said_part}
 use Rattle.install_backup.specs.BackupActs.{each_read}
 use Rattle.install_backup.specs.Copies.{each_told}
 use Rattle.desktop_session.proofs.ListLaws.{next, after_append}

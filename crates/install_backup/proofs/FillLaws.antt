@@ -36,7 +36,7 @@ use Rattle.install_backup.proofs.RecordLaws.{installed-bounded, installed-few, i
 use Rattle.install_backup.proofs.ArriveLaws.{Goes, Writable, filled, goes_none, goes_one, goes_then, leads, writable_base, wrote}
 use Rattle.folder_files.proofs.SlotLaws.{not_true}
 use Rattle.handheld_files.proofs.SettledLaws.{turned}
-use Rattle.slow_mirror.proofs.CarryLaws.{secret_again, room_left}
+use Rattle.mirrors.proofs.CarryLaws.{secret_again, room_left}
 
 -- ---- records
 

@@ -14,7 +14,7 @@ use Rattle.desk_journal.specs.Entries.{EntryValue}
 use Rattle.desk_journal.specs.Overlays.{put_all}
 use Rattle.desktop_session.proofs.StopLaws.{fell_none, stops_none}
 use Rattle.desktop_session.specs.declared.fault.SessionFault.TheVariants as session
-use Rattle.slow_mirror.proofs.NewsLaws.{SplitAt, take_none}
+use Rattle.mirrors.proofs.NewsLaws.{SplitAt, take_none}
 use Rattle.session_parts.specs.Causes.{IsLater}
 use Rattle.session_parts.specs.Spans.{Spans}
 use Rattle.session_parts.specs.declared.stop.Stop.{Stop}

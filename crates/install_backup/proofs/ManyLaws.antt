@@ -3,7 +3,7 @@ use Rattle.std.proofs.Common.{◌≡◌, ◌∙◌, ap, inl, refl, sym, subst, �
 use Rattle.std.specs.Prelude.{Option, Some, None, Ok, Err}
 use Rattle.pdb_values.specs.Databases.{DatabaseValue}
 use Rattle.pdb_values.specs.Heads.{is_read_only}
-use Rattle.slow_mirror.proofs.NewsLaws.{SplitAt}
+use Rattle.mirrors.proofs.NewsLaws.{SplitAt}
 use Rattle.session_parts.specs.Spans.{Spans}
 use Rattle.session_parts.specs.declared.stop.Stop.{Stop}
 use Rattle.session_parts.specs.declared.stop.Stop.TheVariants as stop

@@ -34,7 +34,7 @@ use Rattle.session_parts.specs.Stretches.{AreFirst, EachSays, Stretch, each_acts
 use Rattle.session_parts.proofs.LinkWords.{IsTellable, Talk, closing, counting, saying}
 use Rattle.session_parts.proofs.RestLaws.{closes_does, greeting_same, leads_to, opened_on, reads_same}
 use Rattle.session_parts.proofs.StretchLaws.{Tells, first_is, tells_on}
-use Rattle.slow_mirror.specs.Reads.{entries_in, entries_told}
+use Rattle.mirrors.specs.Reads.{entries_in, entries_told}
 use Rattle.install_backup.specs.BackupActs.{backup_of, backup_under, each_read, entry_reads}
 use Rattle.install_backup.specs.BackupEnds.{backup_front, read_of}
 use Rattle.install_backup.specs.Backups.{SaysCopied, backups_under}

@@ -21,7 +21,7 @@ use Rattle.desktop_session.specs.Requests.{opening_to_read}
 use Rattle.desktop_session.specs.Says.{saying}
 use Rattle.desktop_session.specs.Sessions.{SessionValue}
 use Rattle.desktop_session.specs.Stops.{Does, Stops}
-use Rattle.slow_mirror.specs.Reads.{entries_of}
+use Rattle.mirrors.specs.Reads.{entries_of}
 use Rattle.session_parts.specs.Causes.{IsLater}
 use Rattle.session_parts.specs.Rests.{IsFirst}
 use Rattle.session_parts.specs.Spans.{Spans, within}

@@ -18,7 +18,7 @@ use Rattle.desktop_session.specs.Acts.{Act, acted}
 use Rattle.desktop_session.specs.Answers.{block_of, or_none, record_of, resource_of, said_in}
 use Rattle.desktop_session.specs.Lent.{LentResource, LentValue, lent_kind}
 use Rattle.desktop_session.specs.Requests.{reading_app, reading_at, reading_resource, reading_sort}
-use Rattle.slow_mirror.specs.Reads.{entries_told}
+use Rattle.mirrors.specs.Reads.{entries_told}
 
 -- the user deleted it, whether it is kept in an archive or not
 abbrev pub is_gone : Kind → Bool

@@ -7,7 +7,7 @@ ghost use Rattle.desktop_session.specs.declared.fault.SessionFault.TheVariants a
 ghost use Rattle.desktop_session.specs.Lent.{lent_resource, lent_value};
 ghost use Rattle.desktop_session.specs.Requests.{reading_at, reading_resource};
 ghost use Rattle.desktop_session.specs.Stops.{AsksOne};
-ghost use Rattle.slow_mirror.specs.Asks.{Asks};
+ghost use Rattle.mirrors.specs.Asks.{Asks};
 ghost use Rattle.session_parts.specs.Causes.{IsLater};
 ghost use Rattle.install_backup.specs.BackupActs.{each_read, entry_reads};
 ghost use Rattle.install_backup.specs.Copies as copies;

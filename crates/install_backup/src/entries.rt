@@ -5,7 +5,7 @@ ghost use Rattle.std.specs.Option.{option_copied};
 ghost use Rattle.pdb_values.specs.Databases.{IsShortResource};
 ghost use Rattle.pdb_values.specs.declared.record.Record.{Record};
 ghost use Rattle.desktop_session.specs.Requests.{writing_app, writing_sort};
-ghost use Rattle.slow_mirror.specs.Asks.{Asks};
+ghost use Rattle.mirrors.specs.Asks.{Asks};
 ghost use Rattle.session_parts.specs.Causes.{IsLater};
 ghost use Rattle.install_backup.specs.InstallActs as acts;
 ghost use Rattle.install_backup.specs.InstallActs.{block_acts, record_acts};

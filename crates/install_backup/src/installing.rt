@@ -2,7 +2,7 @@
 ghost use Rattle.std.specs.Prelude.{◌≡◌, ◌≤◌, ◌∷◌, [], IfErr, OnErr, OnOk, false, length, true};
 ghost use Rattle.pdb_values.specs.Heads.{is_read_only};
 ghost use Rattle.desktop_session.specs.Requests.{making};
-ghost use Rattle.slow_mirror.specs.Asks.{Asks};
+ghost use Rattle.mirrors.specs.Asks.{Asks};
 ghost use Rattle.session_parts.specs.Causes.{IsLater};
 ghost use Rattle.session_parts.specs.Spans.{Spans, within};
 ghost use Rattle.install_backup.specs.Installed.{installed_head, installed_records};

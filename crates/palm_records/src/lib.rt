@@ -4,6 +4,15 @@
 //! of its records. `read_address` and `read_task` give what a record says, lent from its bytes, or the place where it
 //! breaks its form. The public sources are the Palm File Format Specification and pilot-link's `memo.h`, `address.h`,
 //! `todo.h`, `datebook.c` and `pi-appinfo.h`.
+//!
+//! Of a database live records are exported, each under the label of its category. Private ones are, too, unless they are
+//! not wanted. A record that is out of its form refuses the whole text, unless such records are to be kept in it as they
+//! are (`BrokenRecords`).
+//!
+//! Each byte of a Palm's text stands for one character (`char_of`), and no two bytes for the same one. The public source is
+//! the character set of Palm OS 3.5: Latin-1, with the letters and signs of Windows-1252 from 0x80 to 0x9F, where four
+//! places have the suits of cards. Control bytes other than tab and line feed are shown by Unicode's control pictures, so
+//! that no reader of the text takes one for the end of a line.
 #![tactic(auto)]
 
 mod address;

@@ -1,4 +1,4 @@
-//! A link to a handheld behind a port: the desktop's end of a cable.
+//! Both ends of a HotSync at a port: a link to a handheld behind one, and a handheld that stands behind one.
 //!
 //! `PortLink` is a `Link` of `dlp_commands`, so a session runs over it as over any other. `hello` awaits the
 //! handheld's wake and says the init, `exchange` says a request and takes the reply to it. Its end is one of
@@ -11,6 +11,11 @@
 //! hands it out with the port and the reason why the link answered no more, if there is one.
 //!
 //! It tells nothing of a device behind the port.
+//!
+//! At the other end `serve_at_port` stands a `Talk`, the handheld's end over a folder, behind a `Port`. Its wake goes out, and
+//! once more at each tick until something comes; each packet is taken as it comes, and each tick of silence says the piece
+//! that waits once more. What it says and is then is `Steps` of `specs/Vigils.antt`. It ends with the talk, or where a piece
+//! had its ten tries, thirty ticks in a row brought nothing, or the port, the folder or memory refused.
 #![tactic(auto)]
 
 mod awaited;

@@ -9,9 +9,9 @@ ghost use Rattle.port_link.specs.Ends.{IsSudden};
 ghost use Rattle.port_link.specs.VigilScenes.{LeavesPort, scene_of};
 
 use crate::ends::port_end;
-use crate::vigil_log::Log;
 use crate::port_end::PortEnd;
 use crate::vigil::{PATIENCE, Vigil};
+use crate::vigil_log::Log;
 use arrayvec::ArrayVec;
 use device_stream::{DeviceReport, MAX_SAID, Talk};
 use handheld_server::Server;

@@ -10,8 +10,8 @@ ghost use Rattle.port_link.specs.Logs.{log_entries, speech};
 ghost use Rattle.port_link.specs.VigilScenes.{StepsBy, StopsBy};
 
 use crate::ends::{port_end, serving_end, talking_end};
-use crate::vigil_log::Log;
 use crate::port_end::PortEnd;
+use crate::vigil_log::Log;
 use arrayvec::ArrayVec;
 use device_stream::{MAX_SAID, Talk};
 use hs_folders::Folder;

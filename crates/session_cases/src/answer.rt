@@ -86,16 +86,16 @@ fn mirrored<L: Link + Drop>(
 ) -> Result<String, AllocError> {
     let (word, rest) = call.split_once(':').unwrap_or((call, ""));
     let view = match word {
-        "slow" => slow_mirror::read_side(alloc, base),
-        "fast" => fast_mirror::read_side(alloc, base, &rows_in(alloc, rest)?),
+        "slow" => mirrors::read_slowly(alloc, base),
+        "fast" => mirrors::read_fast(alloc, base, &rows_in(alloc, rest)?),
         "news" => {
             let plan = plan_in(alloc, rest)?;
-            return match slow_mirror::send_news(alloc, base, &plan) {
+            return match mirrors::send_news(alloc, base, &plan) {
                 Ok(ids) => ids_text(alloc, &ids),
                 Err(fault) => refused(alloc, fault),
             };
         }
-        _ => return done(alloc, slow_mirror::purge_side(base, &plan_in(alloc, rest)?)),
+        _ => return done(alloc, mirrors::purge_side(base, &plan_in(alloc, rest)?)),
     };
     match view {
         Ok(view) => view_text(alloc, &view),

@@ -21,7 +21,7 @@ use Rattle.dlp_commands.specs.UserFunctions.{chosen, marked, name_length, write_
 use Rattle.dlp_commands.specs.Writings as writing
 use Rattle.dlp_commands.specs.Writings.{WritingValue, written_in}
 use Rattle.desktop_session.proofs.TellLaws.{IfDone, Opens, done_then, open_done, said_device}
-use Rattle.slow_mirror.specs.News.{purge_writes, puts}
+use Rattle.mirrors.specs.News.{purge_writes, puts}
 use Rattle.session_parts.proofs.HandleLaws.{make_done}
 use Rattle.session_parts.proofs.RestLaws.{outcome_is}
 use Rattle.desk_journal.proofs.StepLaws.{all_and}

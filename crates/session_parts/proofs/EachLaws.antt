@@ -5,9 +5,9 @@ use Rattle.std.specs.Prelude.{Option, Ok, Err, Result, OnOk, None}
 use Rattle.session_parts.proofs.LinkWords.{LinkFault, Talk, SessionFault, Act, text, saying, SessionValue, AsksOne, Does}
 use Rattle.desktop_session.proofs.SaysLaws.{saying_none, saying_then}
 use Rattle.desktop_session.proofs.StopLaws.{does_then, stops_then}
-use Rattle.slow_mirror.proofs.AskLaws.{SoFar, all_said, asked_part, asks_then, none_said, one_said}
-use Rattle.slow_mirror.proofs.NewsLaws.{SplitAt}
-use Rattle.slow_mirror.specs.Asks.{Asks}
+use Rattle.mirrors.proofs.AskLaws.{SoFar, all_said, asked_part, asks_then, none_said, one_said}
+use Rattle.mirrors.proofs.NewsLaws.{SplitAt}
+use Rattle.mirrors.specs.Asks.{Asks}
 use Rattle.session_parts.specs.Causes.{IsLater}
 use Rattle.session_parts.specs.Spans.{Spans}
 use Rattle.session_parts.specs.Stretches.{AreFirst, EachSays, SpansBehind, SpansEach, Stretch, done_each, each_acts}

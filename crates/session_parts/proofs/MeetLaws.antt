@@ -7,7 +7,7 @@ use Rattle.session_parts.proofs.LinkWords.{LinkFault, Talk, Halted, SessionFault
 use Rattle.desktop_session.specs.Greetings.{AsksUser, AnswersGreeting, HasSlot, begun_by, greeted, user_by, user_with}
 use Rattle.desktop_session.specs.Lists.{HasCause, IsByReplyTo, IsNotMissing, Lists, has_more, list_reply, listings}
 use Rattle.desktop_session.proofs.StopLaws.{does_then, stops_then}
-use Rattle.slow_mirror.proofs.AskLaws.{answered_none}
+use Rattle.mirrors.proofs.AskLaws.{answered_none}
 use Rattle.session_parts.specs.declared.meeting.Met.{Met}
 use Rattle.session_parts.specs.Meets.{greeting, Meets, IsSeated, MeetsOrNot}
 use Rattle.pdb_values.specs.Slots.{IsWithin, slot_for}

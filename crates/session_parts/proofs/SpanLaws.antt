@@ -2,8 +2,8 @@
 use Rattle.std.proofs.Common.{◌≡◌, ℕ, List, [], ◌∷◌, ◌++◌, ap, false, refl, true, Option, None, Some, IfErr, IfOk, OnErr, OnOk, Result, Ok, Err}
 use Rattle.dlp_replies.specs.ReplyReading.{reply_at}
 use Rattle.session_parts.proofs.LinkWords.{LinkFault, Talk, SessionFault, Act, answer_by, handle_of, mapped, no_more, said_in, closing, SessionValue, AsksOne}
-use Rattle.slow_mirror.specs.Asks.{Asks}
-use Rattle.slow_mirror.proofs.AskLaws.{all_said, asked_answer, asked_part, asks_part, asks_then, none_said, one_said}
+use Rattle.mirrors.specs.Asks.{Asks}
+use Rattle.mirrors.proofs.AskLaws.{all_said, asked_answer, asked_part, asks_part, asks_then, none_said, one_said}
 use Rattle.desktop_session.specs.Orders.{may_find_none}
 use Rattle.desktop_session.specs.Tellings.{number_of}
 use Rattle.session_parts.specs.Causes.{IsLater}

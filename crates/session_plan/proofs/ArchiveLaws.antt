@@ -7,7 +7,7 @@ use Rattle.pdb_values.specs.Contents.{ContentValue}
 use Rattle.pdb_values.specs.declared.record.Record.{Record}
 use Rattle.conduit_rules.specs.Contents.{same_content}
 use Rattle.record_merge.specs.Merging.{is_archived, one_copy_behind, settled_record}
-use Rattle.slow_mirror.proofs.NewsLaws.{split_at}
+use Rattle.mirrors.proofs.NewsLaws.{split_at}
 use Rattle.session_plan.specs.Archives.{Notes, archive_records, entries_of, entry_at, same_entry, with_entries, with_entry}
 use Rattle.session_plan.specs.declared.archive.EntryKey.{EntryKey}
 

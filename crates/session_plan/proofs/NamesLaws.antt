@@ -5,7 +5,7 @@ use Rattle.std.proofs.lemmas.Option.{slice_get_cases}
 use Rattle.std.specs.Prelude.{◌⊎◌, Some, None, slice_get}
 use Rattle.std.specs.Option.{option_map}
 use Rattle.session_plan.proofs.PlanWords.{DatabaseValue, DbHead, names_of, with_name, with_names}
-use Rattle.slow_mirror.proofs.NewsLaws.{split_at}
+use Rattle.mirrors.proofs.NewsLaws.{split_at}
 
 with_names-append : (first second names : List (List ℕ)) → with_names (first ++ second) names ≡ with_names second (with_names first names)
 with_names-append [] second names = refl

@@ -15,8 +15,8 @@ use Rattle.conduit_rules.proofs.ByIdLaws.{each_below-same}
 use Rattle.conduit_rules.proofs.PlanLaws.{at-each_below, at-append}
 use Rattle.record_merge.specs.Merging.{gone_record, merged_base, merged_rows, row_at, settled_record}
 use Rattle.record_merge.specs.Writes.{numbered}
-use Rattle.slow_mirror.specs.Entries.{ordered}
-use Rattle.slow_mirror.proofs.NewsLaws.{split_at}
+use Rattle.mirrors.specs.Entries.{ordered}
+use Rattle.mirrors.proofs.NewsLaws.{split_at}
 use Rattle.session_plan.proofs.SeenCountLaws.{map-each_below}
 use Rattle.session_plan.specs.Rows.{planned_base, planned_rows, row_entries, row_seen}
 

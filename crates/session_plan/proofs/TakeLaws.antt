@@ -9,7 +9,7 @@ use Rattle.pdb_values.specs.Heads.{holds_resources}
 use Rattle.pdb_values.specs.declared.record.Record.{Record}
 use Rattle.palm_device.specs.Records.{with_records}
 use Rattle.desk_store.specs.Changes.{IsDbChange, IsOf}
-use Rattle.slow_mirror.proofs.NewsLaws.{split_at}
+use Rattle.mirrors.proofs.NewsLaws.{split_at}
 use Rattle.desk_store.specs.declared.change.DbChange.{DbChange}
 use Rattle.session_plan.specs.Merges.{archive_of, beside}
 use Rattle.session_plan.specs.Takes.{change_of, changes_of, each_of}

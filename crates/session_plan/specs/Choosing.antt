@@ -8,7 +8,7 @@ use Rattle.conduit_rules.specs.Choices.{Choice, Sides, sides_of, choice_for}
 use Rattle.conduit_rules.specs.declared.action.Action.{Action}
 use Rattle.conduit_rules.specs.declared.action.Action.TheVariants.{Sync, Handheld, Desktop}
 use Rattle.conduit_rules.specs.declared.view.Seen.{Seen}
-use Rattle.fast_mirror.specs.Agreements.{agreed}
+use Rattle.mirrors.specs.Agreements.{agreed}
 use Rattle.session_plan.specs.Tasks.{Meeting, Task, records_of, slot_of}
 
 -- both sides agree

@@ -4,13 +4,13 @@ ghost use Rattle.conduit_rules.specs.ById.{id_bound};
 ghost use Rattle.conduit_rules.specs.declared.view.Seen.{Seen as Entry};
 ghost use Rattle.record_merge.specs.Merging.{gone_record, settled_record};
 ghost use Rattle.record_merge.specs.Writes.{numbered};
-ghost use Rattle.slow_mirror.specs.Entries.{AreBounded};
+ghost use Rattle.mirrors.specs.Entries.{AreBounded};
 ghost use Rattle.session_plan.specs.Rows as rows_of;
 
 use crate::archive::settled;
 use conduit_rules::{Plan, Seen, SeenState, View};
 use pdb_values::{Content, Record, RecordId};
-use slow_mirror::in_order;
+use mirrors::in_order;
 use std::alloc::{AllocError, Global};
 
 // A row, as an entry of a view.

@@ -19,13 +19,13 @@ use Rattle.dlp_commands.specs.Talks.{Talk}
 use Rattle.dlp_commands.specs.declared.link.LinkFault.{LinkFault}
 use Rattle.desktop_session.specs.Sessions.{SessionValue}
 use Rattle.desktop_session.specs.declared.fault.SessionFault.{SessionFault}
-use Rattle.fast_mirror.specs.Agreements.{agreed}
+use Rattle.mirrors.specs.Agreements.{agreed}
 use Rattle.conduit_rules.specs.declared.action.Action.{Action}
 use Rattle.conduit_rules.specs.declared.planned.Plan.{Plan}
 use Rattle.desk_store.specs.Shelves.{ShelvesValue}
 use Rattle.desk_store.specs.Views.{DeskValue, marks_in, shelves_in}
 use Rattle.desk_store.specs.Desks.{all_rows}
-use Rattle.slow_mirror.specs.News.{AreIdsOf, as_new, news_of}
+use Rattle.mirrors.specs.News.{AreIdsOf, as_new, news_of}
 use Rattle.sync_session.specs.Courses.{AfterReading, Prepares, ReadsAll}
 use Rattle.session_plan.specs.Fits.{AreOfSession, AreTakeable, IsTakeable, TakesPlan}
 use Rattle.sync_session.specs.Gains.{AreGained}

@@ -6,7 +6,7 @@ use Rattle.palm_device.specs.Devices.{Device}
 use Rattle.dlp_requests.specs.Forms as form
 use Rattle.dlp_commands.specs.DeviceSteps.{FormMayGive}
 use Rattle.session_parts.proofs.LinkWords.{Act, AsksNoId, acted, closing, removing, cleaning, resetting, putting, device_after}
-use Rattle.slow_mirror.specs.News.{AreFreeFor, AreIdsOf, purge_writes, puts}
+use Rattle.mirrors.specs.News.{AreFreeFor, AreIdsOf, purge_writes, puts}
 use Rattle.session_parts.specs.Given.{GetFreeIds}
 use Rattle.sync_session.specs.News.{purge_acts}
 use Rattle.sync_session.proofs.SaidLaws.{HoldsOfOpens, opened-all, writes-all}

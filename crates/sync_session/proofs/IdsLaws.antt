@@ -3,7 +3,7 @@ use Rattle.std.proofs.Common.{◌≡◌, refl, ap, ℕ, List, [], ◌∷◌, ◌
 use Rattle.std.proofs.lemmas.List.{map-append}
 use Rattle.sync_session.proofs.MeetingWords.{ContentValue, DatabaseValue, Meeting, Task, active, choice, adds_of, before_commit, requests, session}
 use Rattle.session_parts.proofs.LinkWords.{Act, text, closing, making, opening, putting}
-use Rattle.slow_mirror.specs.News.{as_new, puts}
+use Rattle.mirrors.specs.News.{as_new, puts}
 use Rattle.session_plan.specs.Heads.{made_head}
 use Rattle.session_plan.specs.Choosing.{add_count}
 use Rattle.sync_session.specs.News.{all_news, news_acts, news_by, opened_for, replaced, writes}

@@ -23,7 +23,7 @@ use Rattle.conduit_rules.specs.declared.action.Action.TheVariants.{Sync, Handhel
 use Rattle.conduit_rules.proofs.ContentLaws.{same_content-same}
 use Rattle.desktop_session.proofs.SaysLaws.{saying_none, saying_then}
 use Rattle.desktop_session.proofs.TellLaws.{said_device}
-use Rattle.slow_mirror.specs.News.{AreIdsOf, as_new, news_of, puts, purge_writes}
+use Rattle.mirrors.specs.News.{AreIdsOf, as_new, news_of, puts, purge_writes}
 use Rattle.sync_session.specs.Gains.{AreGained}
 use Rattle.sync_session.specs.Given.{AreDealtTo}
 use Rattle.session_parts.specs.Given.{GetFreeIds}

@@ -30,11 +30,11 @@ use Rattle.conduit_rules.specs.declared.action.Action.TheVariants.{Sync, Handhel
 use Rattle.conduit_rules.specs.declared.view.Seen.{Seen}
 use Rattle.conduit_rules.specs.declared.view.View.{View}
 use Rattle.desktop_session.specs.Orders.{CanOpen}
-use Rattle.slow_mirror.specs.Reads.{entries_told, slow_reads, slow_shown}
-use Rattle.slow_mirror.proofs.ShownLaws.{records_told, slow_shown-is}
-use Rattle.fast_mirror.specs.FastReads as fast
-use Rattle.fast_mirror.specs.FastReads.{fast_asks, fast_shown}
-use Rattle.fast_mirror.proofs.ViewLaws.{fast_reads-are, fast_shown-is}
+use Rattle.mirrors.specs.Reads.{entries_told, slow_reads, slow_shown}
+use Rattle.mirrors.proofs.ShownLaws.{records_told, slow_shown-is}
+use Rattle.mirrors.specs.FastReads as fast
+use Rattle.mirrors.specs.FastReads.{fast_asks, fast_shown}
+use Rattle.mirrors.proofs.ViewLaws.{fast_reads-are, fast_shown-is}
 use Rattle.session_parts.specs.declared.skip.Skip.TheVariants as skip
 use Rattle.sync_session.specs.Readings.{opened_reads, opened_shown, reads_by, reads_under, shown_by, shown_under}
 use Rattle.sync_session.specs.Reads.{opened, read_acts, reads}

@@ -22,7 +22,7 @@ use Rattle.dlp_commands.specs.DatabaseFunctions.{listed}
 use Rattle.pdb_values.specs.Slots.{slot_for}
 use Rattle.pdb_values.specs.declared.slot.Slot.{Slot}
 use Rattle.pdb_values.specs.declared.slot.Slot.TheVariants as slot
-use Rattle.fast_mirror.specs.Agreements.{agreed}
+use Rattle.mirrors.specs.Agreements.{agreed}
 use Rattle.std.proofs.lemmas.List.{length-map}
 use Rattle.session_parts.specs.declared.meeting.Met.{Met}
 use Rattle.session_parts.specs.declared.outcome.Outcome.{Outcome}

@@ -8,9 +8,9 @@ use Rattle.conduit_rules.specs.ById.{each_id, ids_below, id_bound}
 use Rattle.conduit_rules.specs.States.{BaseState, base_at, first, gone, no_base, row}
 use Rattle.session_parts.proofs.LinkWords.{Act, beginning, closing, counting, listing, listing_ids, opening, reading_at, reading_next, reading_of, reading_user}
 use Rattle.desktop_session.specs.Lists.{id_listings, id_parts, listings}
-use Rattle.slow_mirror.specs.Reads as slow
+use Rattle.mirrors.specs.Reads as slow
 use Rattle.sync_session.proofs.MeetingWords.{base_rows, is_fast, before_writes, listing_all, active, Meeting, Task, records_of}
-use Rattle.fast_mirror.specs.FastReads.{asks_of, fast_asks, other_reads}
+use Rattle.mirrors.specs.FastReads.{asks_of, fast_asks, other_reads}
 use Rattle.sync_session.specs.Reads.{opened, read_acts, reads}
 use Rattle.session_parts.proofs.RestLaws.{all-flat_map, all-replicate}
 use Rattle.desk_journal.proofs.StepLaws.{all_and}

@@ -22,7 +22,7 @@ use Rattle.desktop_session.specs.Acts.{Act}
 use Rattle.desktop_session.specs.Requests.{ending, marking}
 use Rattle.desktop_session.specs.Lasts.{IsByLastReply}
 use Rattle.desktop_session.specs.Sessions.{SessionValue}
-use Rattle.fast_mirror.specs.Agreements.{agreed}
+use Rattle.mirrors.specs.Agreements.{agreed}
 use Rattle.session_plan.specs.declared.job.Job.{Job}
 use Rattle.session_parts.specs.declared.meeting.Met.{Met}
 use Rattle.session_parts.specs.declared.outcome.Outcome.{Outcome}

@@ -2,7 +2,7 @@
 use Rattle.std.specs.Prelude.{◌≡◌, ℕ, List, drop, length, Option, IfSome}
 use Rattle.dlp_commands.specs.Talks.{Talk}
 use Rattle.conduit_rules.specs.declared.planned.Plan.{Plan}
-use Rattle.slow_mirror.specs.News.{AreFreeFor, AreIdsOf, news_of}
+use Rattle.mirrors.specs.News.{AreFreeFor, AreIdsOf, news_of}
 
 -- These are the ids of a plan's adds: those that were given behind its replacements, each to a
 -- record of its own, and, where a device is told, to none that had one at its turn.

@@ -6,7 +6,7 @@ use Rattle.pdb_values.specs.Databases.{DatabaseValue}
 use Rattle.conduit_rules.specs.Plans.{replaced_rows, purged_ids}
 use Rattle.desktop_session.specs.Acts.{Act}
 use Rattle.desktop_session.specs.Requests.{making, closing}
-use Rattle.slow_mirror.specs.News.{as_new, purge_writes, puts}
+use Rattle.mirrors.specs.News.{as_new, purge_writes, puts}
 use Rattle.session_plan.specs.Tasks.{Meeting, Task}
 use Rattle.session_plan.specs.Choosing.{add_count, choice, seen_held}
 use Rattle.session_plan.specs.Heads.{made_head}

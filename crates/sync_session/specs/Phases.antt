@@ -8,7 +8,7 @@ use Rattle.desktop_session.specs.Acts.{Act}
 use Rattle.conduit_rules.specs.declared.planned.Plan.{Plan}
 use Rattle.desktop_session.specs.Requests.{making, opening}
 use Rattle.desktop_session.specs.Says.{saying}
-use Rattle.slow_mirror.specs.News.{news_of, purge_writes, puts}
+use Rattle.mirrors.specs.News.{news_of, purge_writes, puts}
 use Rattle.session_plan.specs.declared.planned.Planned.{Planned}
 use Rattle.session_parts.specs.declared.skip.Skip.{Skip}
 use Rattle.sync_session.specs.Gains.{AreGained}

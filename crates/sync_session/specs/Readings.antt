@@ -10,8 +10,8 @@ use Rattle.desk_store.specs.Shelves.{ShelvesValue}
 use Rattle.desktop_session.specs.Acts.{Act}
 use Rattle.desktop_session.specs.Requests.{opening}
 use Rattle.desktop_session.specs.Says.{saying}
-use Rattle.slow_mirror.specs.Reads.{entries_of, slow_reads, slow_shown}
-use Rattle.fast_mirror.specs.FastReads.{fast_reads_of, fast_shown}
+use Rattle.mirrors.specs.Reads.{entries_of, slow_reads, slow_shown}
+use Rattle.mirrors.specs.FastReads.{fast_reads_of, fast_shown}
 use Rattle.session_plan.specs.declared.job.Job.{Job}
 use Rattle.session_parts.specs.declared.skip.Skip.{Skip}
 use Rattle.session_parts.specs.Spans.{nothing, within}

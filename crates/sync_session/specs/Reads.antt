@@ -2,8 +2,8 @@
 use Rattle.std.specs.Prelude.{ℕ, List, [], ◌∷◌, ◌++◌, length, if◌then◌else◌, is_none}
 use Rattle.desktop_session.specs.Acts.{Act}
 use Rattle.desktop_session.specs.Requests.{opening, closing}
-use Rattle.fast_mirror.specs.FastReads.{fast_asks}
-use Rattle.slow_mirror.specs.Reads.{slow_reads}
+use Rattle.mirrors.specs.FastReads.{fast_asks}
+use Rattle.mirrors.specs.Reads.{slow_reads}
 use Rattle.session_plan.specs.Tasks.{Meeting, Task, records_of}
 use Rattle.session_plan.specs.Choosing.{base_rows, is_fast}
 

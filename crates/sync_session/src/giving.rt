@@ -2,7 +2,7 @@
 ghost use Rattle.std.specs.Prelude.{◌≡◌, ◌+◌, ◌↔◌, ◌∷◌, ◌++◌, [], IfErr, IsTrue, OnOk, false, length};
 ghost use Rattle.desktop_session.specs.declared.fault.SessionFault.TheVariants as session;
 ghost use Rattle.desktop_session.specs.Requests.{making, marking, opening};
-ghost use Rattle.slow_mirror.specs.News.{news_of};
+ghost use Rattle.mirrors.specs.News.{news_of};
 ghost use Rattle.session_plan.specs.Heads as heads;
 ghost use Rattle.sync_session.specs.Phases.{GainsEach, GainsIds, gained, news_under, news_within, opened_news};
 ghost use Rattle.session_parts.specs.Spans.{Spans};
@@ -13,9 +13,9 @@ use crate::marking::begin;
 use conduit_rules::Plan;
 use desktop_session::{Linked, SessionFault};
 use dlp_commands::Link;
+use mirrors::send_news;
 use pdb_values::{Content, DbHead, DbName, RecordId};
 use session_plan::{Planned, made_head};
-use slow_mirror::send_news;
 use std::alloc::{AllocError, Global};
 
 /// Gives the handheld's database of a name what its plan says: the replacements, then the adds, whose ids are answered. The database

@@ -1,7 +1,7 @@
 // What a handheld loses once the desktop has committed.
 ghost use Rattle.std.specs.Prelude.{◌≡◌, false};
 ghost use Rattle.desktop_session.specs.Requests.{opening};
-ghost use Rattle.slow_mirror.specs.News.{purge_writes};
+ghost use Rattle.mirrors.specs.News.{purge_writes};
 ghost use Rattle.sync_session.specs.Phases.{purges_under};
 ghost use Rattle.session_parts.specs.Spans.{Spans, within};
 ghost use Rattle.session_parts.specs.Stretches.{SpansEach, done_each, says_nothing};
@@ -9,9 +9,9 @@ ghost use Rattle.session_parts.specs.Stretches.{SpansEach, done_each, says_nothi
 use conduit_rules::Plan;
 use desktop_session::{Linked, SessionFault};
 use dlp_commands::Link;
+use mirrors::purge_side;
 use pdb_values::DbName;
 use session_plan::Planned;
-use slow_mirror::purge_side;
 
 /// Takes away from the handheld's database of a name what its plan does not keep, one by one, then all records with the delete bit,
 /// and makes all records clean. The database is opened for it and closed. After a refusal it may be left open, and only `halt` may

@@ -14,9 +14,9 @@ use desk_store::Desk;
 use desktop_session::{Linked, SessionFault};
 use dlp_commands::Link;
 use hs_folders::Folder;
+use mirrors::read_slowly;
 use pdb_values::{DbName, Record};
 use session_plan::Job;
-use slow_mirror::read_side;
 use std::alloc::{AllocError, Global};
 
 /// Reads every record of the handheld's database of a name. The database is opened for it and closed. After a refusal it may be left
@@ -32,7 +32,7 @@ pub fn read_one<L: Link>(
         (ShowsName false name.now [] told) linked.old linked.new result }
 {
     let mut opened = linked.open(name)?;
-    let view = match read_side(alloc, &mut opened) {
+    let view = match read_slowly(alloc, &mut opened) {
         Ok(view) => view,
         Err(fault) => {
             opened.abandon();
@@ -57,7 +57,7 @@ pub fn read_changed<L: Link>(
         (ShowsName true name.now base.now told) linked.old linked.new result }
 {
     let mut opened = linked.open(name)?;
-    let view = match fast_mirror::read_side(alloc, &mut opened, base) {
+    let view = match mirrors::read_fast(alloc, &mut opened, base) {
         Ok(view) => view,
         Err(fault) => {
             opened.abandon();

@@ -6,7 +6,7 @@ use Rattle.std.specs.Prelude.{List, Option, ℕ}
 use Rattle.pdb_values.specs.Blocks.{block_of}
 use Rattle.dlp_replies.specs.ReplyReading.{reply_at}
 use Rattle.desktop_session.specs.Requests.{reading_app}
-use Rattle.slow_mirror.proofs.AskLaws.{asks_other, asks_refused}
+use Rattle.mirrors.proofs.AskLaws.{asks_other, asks_refused}
 use Rattle.category_mirror.specs.Blocks.{MergeValue, blocks_merge, written_block}
 use Rattle.category_mirror.proofs.FileLaws.{app_is, asked_only, asks_behind, block_said, filed_asks, unread_asks}
 use Rattle.std.specs.Global.{Vec}

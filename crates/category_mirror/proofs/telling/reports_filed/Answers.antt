@@ -1,6 +1,6 @@
 -- One report comes behind another.
 use Rattle.std.proofs.Common.{◌<◌, arith, length}
-use Rattle.slow_mirror.proofs.NewsLaws.{split_at}
+use Rattle.mirrors.proofs.NewsLaws.{split_at}
 use Rattle.desk_store.specs.Views.{shelves_in}
 use Rattle.category_mirror.specs.Courses.{reports_filed}
 use Rattle.category_mirror.proofs.ChangeLaws.{report_is, reports-step}

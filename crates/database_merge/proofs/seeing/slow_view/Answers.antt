@@ -1,10 +1,10 @@
 use Rattle.std.proofs.Common.{◌≡◌, ◌∙◌, IfOk, ap, map, subst}
 use Rattle.std.proofs.lemmas.List.{take_all}
 use Rattle.conduit_rules.specs.Views.{slow_seen}
-use Rattle.slow_mirror.specs.Entries.{AreBounded, ordered}
+use Rattle.mirrors.specs.Entries.{AreBounded, ordered}
 use Rattle.database_merge.proofs.SeenLaws.{bounded_more, bounded_seen, if_ok_any, seen_more}
 use Rattle.database_merge.proofs.seeing.slow_view.Goals as goal
-use Rattle.slow_mirror.proofs.ShownLaws.{ordered-slow}
+use Rattle.mirrors.proofs.ShownLaws.{ordered-slow}
 
 pub loop-item-preserved : goal.loop-item-preserved
 loop-item-preserved c =

@@ -1,6 +1,6 @@
 use Rattle.std.proofs.Common.{◌≡◌, map, take}
 use Rattle.conduit_rules.specs.Views.{slow_seen}
-use Rattle.slow_mirror.specs.Entries.{AreBounded}
+use Rattle.mirrors.specs.Entries.{AreBounded}
 use Rattle.database_merge.proofs.seeing.slow_view.Given as goal
 
 abbrev pub invariant-loop-item : goal.invariant-loop-item

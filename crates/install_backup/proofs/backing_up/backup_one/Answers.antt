@@ -4,7 +4,7 @@ use Rattle.std.proofs.Common.{[], ◌∷◌, rules}
 use Rattle.std.proofs.lemmas.Result.{err_from_is_err_and}
 use Rattle.pdb_values.specs.Heads.{holds_resources}
 use Rattle.desktop_session.specs.Requests.{opening_to_read}
-use Rattle.slow_mirror.specs.Reads.{entries_of}
+use Rattle.mirrors.specs.Reads.{entries_of}
 use Rattle.session_parts.proofs.LinkWords.{saying}
 use Rattle.session_parts.proofs.SpanLaws.{span_done, span_stopped, span_unclosed, span_unopened}
 use Rattle.install_backup.specs.BackupActs.{backup_under}

@@ -5,7 +5,7 @@ use Rattle.pdb_values.specs.declared.record.Record.{Record}
 use Rattle.dlp_replies.specs.ReplyReading.{reply_at}
 use Rattle.desktop_session.specs.Answers.{answer_by, record_of, said_in}
 use Rattle.desktop_session.specs.Lent.{lent_value}
-use Rattle.slow_mirror.proofs.EntryLaws.{lent_short, record_short}
+use Rattle.mirrors.proofs.EntryLaws.{lent_short, record_short}
 use Rattle.install_backup.proofs.CopyLaws.{lent_record}
 use Rattle.session_parts.proofs.CauseLaws.{later_refused}
 use Rattle.install_backup.proofs.copying.read_record.Goals as goal

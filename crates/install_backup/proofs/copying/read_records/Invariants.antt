@@ -1,6 +1,6 @@
 use Rattle.std.proofs.Common.{◌≡◌, IfSome}
 use Rattle.desktop_session.specs.Requests.{reading_at}
-use Rattle.slow_mirror.proofs.AskLaws.{SoFar}
+use Rattle.mirrors.proofs.AskLaws.{SoFar}
 use Rattle.install_backup.specs.BackupActs.{each_read}
 use Rattle.install_backup.specs.Copies.{records_told}
 use Rattle.install_backup.proofs.copying.read_records.Given as goal

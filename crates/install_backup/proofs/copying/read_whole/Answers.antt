@@ -9,9 +9,9 @@ use Rattle.palm_device.specs.Devices.{Device}
 use Rattle.dlp_replies.specs.ReplyReading.{reply_at}
 use Rattle.desktop_session.specs.Requests.{counting, reading_app, reading_sort}
 use Rattle.desktop_session.specs.Acts.{acted}
-use Rattle.slow_mirror.specs.Reads.{entries_of}
-use Rattle.slow_mirror.proofs.AskLaws.{asked_part}
-use Rattle.slow_mirror.proofs.ReadLaws.{count_from, count_told}
+use Rattle.mirrors.specs.Reads.{entries_of}
+use Rattle.mirrors.proofs.AskLaws.{asked_part}
+use Rattle.mirrors.proofs.ReadLaws.{count_from, count_told}
 use Rattle.install_backup.specs.BackupActs.{entry_reads}
 use Rattle.install_backup.specs.Copies.{blocked, with_entries}
 use Rattle.install_backup.proofs.CopyLaws.{app_same, asks_behind, block_said, copied_by, count_same, counted_asks, if_ok, sort_same, told_before}

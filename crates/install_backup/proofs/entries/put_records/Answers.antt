@@ -2,8 +2,8 @@
 use Rattle.std.proofs.Common.{◌<◌, refl}
 use Rattle.std.proofs.lemmas.Result.{err_from_is_err_and}
 use Rattle.pdb_values.specs.declared.record.Record.{Record}
-use Rattle.slow_mirror.proofs.AskLaws.{answered_none}
-use Rattle.slow_mirror.proofs.NewsLaws.{split_at}
+use Rattle.mirrors.proofs.AskLaws.{answered_none}
+use Rattle.mirrors.proofs.NewsLaws.{split_at}
 use Rattle.install_backup.specs.InstallActs.{put_record}
 use Rattle.install_backup.proofs.AskWords.{all_at, put_asked}
 use Rattle.install_backup.proofs.EachAct.{each_none, each_on, each_stop}

@@ -1,5 +1,5 @@
 use Rattle.std.proofs.Common.{◌≡◌, map, take}
-use Rattle.slow_mirror.proofs.AskLaws.{SoFar}
+use Rattle.mirrors.proofs.AskLaws.{SoFar}
 use Rattle.install_backup.specs.InstallActs.{put_record}
 use Rattle.install_backup.proofs.entries.put_records.Given as goal
 

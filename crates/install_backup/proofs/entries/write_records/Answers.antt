@@ -2,7 +2,7 @@
 use Rattle.std.proofs.Common.{[], ◌∷◌, map, refl}
 use Rattle.std.proofs.lemmas.Result.{err_from_is_err_and}
 use Rattle.session_parts.proofs.LinkWords.{resetting}
-use Rattle.slow_mirror.proofs.AskLaws.{all_said, asked_answer, asks_part, asks_then}
+use Rattle.mirrors.proofs.AskLaws.{all_said, asked_answer, asks_part, asks_then}
 use Rattle.install_backup.specs.InstallActs.{put_record}
 use Rattle.session_parts.proofs.CauseLaws.{later_answer}
 use Rattle.desktop_session.specs.Answers.{no_more}

@@ -1,8 +1,8 @@
 -- Resources that are put grow by one.
 use Rattle.std.proofs.Common.{refl}
 use Rattle.std.proofs.lemmas.Result.{err_from_is_err_and}
-use Rattle.slow_mirror.proofs.AskLaws.{answered_none}
-use Rattle.slow_mirror.proofs.NewsLaws.{split_at}
+use Rattle.mirrors.proofs.AskLaws.{answered_none}
+use Rattle.mirrors.proofs.NewsLaws.{split_at}
 use Rattle.install_backup.specs.InstallActs.{put_resource}
 use Rattle.install_backup.proofs.EachAct.{each_none, each_on, each_stop}
 use Rattle.session_parts.proofs.CauseLaws.{later_refused}

@@ -2,7 +2,7 @@
 use Rattle.std.proofs.Common.{◌++◌}
 use Rattle.std.proofs.lemmas.Result.{err_from_is_err_and}
 use Rattle.desktop_session.specs.Requests.{writing_app, writing_sort}
-use Rattle.slow_mirror.proofs.AskLaws.{all_said, asks_part, asks_then}
+use Rattle.mirrors.proofs.AskLaws.{all_said, asks_part, asks_then}
 use Rattle.install_backup.specs.InstallActs.{block_acts, entry_acts, fill_acts}
 use Rattle.install_backup.proofs.installing.fill.Goals as goal
 

@@ -1,7 +1,7 @@
 -- A database is taken away, and made and filled anew.
 use Rattle.std.proofs.Common.{refl}
 use Rattle.std.proofs.lemmas.Result.{err_from_is_err_and}
-use Rattle.slow_mirror.proofs.AskLaws.{answered_none}
+use Rattle.mirrors.proofs.AskLaws.{answered_none}
 use Rattle.desktop_session.specs.Requests.{making}
 use Rattle.session_parts.specs.Spans.{within}
 use Rattle.install_backup.specs.Installed.{installed_head}

@@ -1,7 +1,7 @@
 -- One database is backed up after another.
 use Rattle.std.proofs.Common.{◌∙◌, refl, arith}
 use Rattle.std.proofs.lemmas.Result.{err_from_is_err_and}
-use Rattle.slow_mirror.proofs.NewsLaws.{split_at}
+use Rattle.mirrors.proofs.NewsLaws.{split_at}
 use Rattle.install_backup.proofs.KeepLaws.{kept_all, kept_begin, kept_lost, kept_on, kept_stop}
 use Rattle.install_backup.proofs.keeping.backup_all.Goals as goal
 

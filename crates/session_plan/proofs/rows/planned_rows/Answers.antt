@@ -4,7 +4,7 @@ use Rattle.std.proofs.lemmas.List.{map-append}
 use Rattle.conduit_rules.specs.declared.view.Seen.{Seen}
 use Rattle.record_merge.specs.Merging.{settled_record}
 use Rattle.record_merge.specs.Writes.{numbered}
-use Rattle.slow_mirror.specs.Entries.{ordered}
+use Rattle.mirrors.specs.Entries.{ordered}
 use Rattle.session_plan.specs.Rows.{row_entries, row_seen}
 use Rattle.session_plan.proofs.RowLaws.{settled-ordered}
 use Rattle.session_plan.proofs.rows.planned_rows.Goals as goal

@@ -1,6 +1,6 @@
 use Rattle.std.proofs.Common.{◌≡◌, ◌++◌, map, take}
 use Rattle.record_merge.specs.Writes.{numbered}
-use Rattle.slow_mirror.specs.Entries.{AreBounded}
+use Rattle.mirrors.specs.Entries.{AreBounded}
 use Rattle.session_plan.specs.Rows.{row_seen}
 use Rattle.session_plan.proofs.rows.put_added.Given as goal
 

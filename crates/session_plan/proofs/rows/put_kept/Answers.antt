@@ -1,6 +1,6 @@
 -- What is kept, one row after another.
 use Rattle.std.proofs.Common.{take}
-use Rattle.slow_mirror.proofs.NewsLaws.{split_at}
+use Rattle.mirrors.proofs.NewsLaws.{split_at}
 use Rattle.session_plan.proofs.RowLaws.{rows_on}
 use Rattle.session_plan.proofs.rows.put_kept.Goals as goal
 

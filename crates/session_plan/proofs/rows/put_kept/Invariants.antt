@@ -1,5 +1,5 @@
 use Rattle.std.proofs.Common.{◌≡◌, ◌++◌, map, take}
-use Rattle.slow_mirror.specs.Entries.{AreBounded}
+use Rattle.mirrors.specs.Entries.{AreBounded}
 use Rattle.session_plan.specs.Rows.{row_seen}
 use Rattle.session_plan.proofs.rows.put_kept.Given as goal
 

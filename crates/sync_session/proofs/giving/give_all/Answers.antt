@@ -1,6 +1,6 @@
 -- News, one database after another.
 use Rattle.std.proofs.lemmas.Result.{err_from_is_err_and}
-use Rattle.slow_mirror.proofs.NewsLaws.{split_at}
+use Rattle.mirrors.proofs.NewsLaws.{split_at}
 use Rattle.session_parts.proofs.EachLaws.{each_lost, each_none, each_on, each_stopped}
 use Rattle.sync_session.proofs.giving.give_all.Goals as goal
 

@@ -3,11 +3,11 @@ use Rattle.std.proofs.Common.{◌≡◌, ◌+◌, length, refl, ◌∙◌, sym, 
 use Rattle.session_parts.proofs.SpanLaws.{span_none}
 use Rattle.sync_session.proofs.MeetingWords.{ContentValue, Plan, opened_news}
 use Rattle.session_parts.proofs.LinkWords.{Talk, opening}
-use Rattle.slow_mirror.specs.News.{as_new, news_of, puts}
+use Rattle.mirrors.specs.News.{as_new, news_of, puts}
 use Rattle.sync_session.specs.Gains.{AreGained}
 use Rattle.session_parts.specs.Spans.{within}
 use Rattle.sync_session.proofs.giving.give_old.Goals as goal
-use Rattle.slow_mirror.proofs.NewsLaws.{free_none}
+use Rattle.mirrors.proofs.NewsLaws.{free_none}
 
 none_put : (rows : List (ℕ × ContentValue)) (adds : List ContentValue) → length rows + length adds ≡ 0 → rows ++ as_new adds ≡ []
 none_put [] [] none = refl

@@ -2,7 +2,7 @@
 use Rattle.std.proofs.Common.{refl}
 use Rattle.std.proofs.lemmas.Result.{err_from_is_err_and}
 use Rattle.desktop_session.specs.Answers.{no_more}
-use Rattle.slow_mirror.proofs.AskLaws.{answered_none}
+use Rattle.mirrors.proofs.AskLaws.{answered_none}
 use Rattle.session_parts.proofs.CauseLaws.{later_refused}
 use Rattle.session_parts.proofs.EachLaws.{behind_none, behind_one}
 use Rattle.sync_session.proofs.giving.send_all.Goals as goal

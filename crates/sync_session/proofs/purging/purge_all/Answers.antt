@@ -1,6 +1,6 @@
 -- Purges, one database after another.
 use Rattle.std.proofs.lemmas.Result.{err_from_is_err_and}
-use Rattle.slow_mirror.proofs.NewsLaws.{split_at}
+use Rattle.mirrors.proofs.NewsLaws.{split_at}
 use Rattle.session_parts.proofs.EachLaws.{done_each-next, each_none, each_on, each_stopped}
 use Rattle.sync_session.proofs.purging.purge_all.Goals as goal
 

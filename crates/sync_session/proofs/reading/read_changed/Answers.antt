@@ -15,7 +15,7 @@ returns-in_err-opened g c =
 pub returns-in-Err : goal.returns-in-Err
 returns-in-Err g c =
     let opened = opened_first c.args.name.now c.in_ok-opened.ensures.asked c.in_ok-opened.ensures.handle in
-    let reply = c.read_side.new.db.linked.now.reply in
+    let reply = c.read_fast.new.db.linked.now.reply in
     record {
       spans = span_stopped g.met.L.Link.since_more _ [] opened (rw opened.told at c.in-Err.ensures.asks)
           (later_by_four _ _ (reply_at 0x2B reply) (reply_at 0x31 reply) (reply_at 0x1F reply) (reply_at 0x20 reply) _ c.in-Err.ensures.cause c.in-Err.ensures.last) (search rules);

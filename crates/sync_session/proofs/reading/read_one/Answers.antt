@@ -3,7 +3,7 @@ use Rattle.std.proofs.Common.{[], ◌∷◌, refl, rules}
 use Rattle.std.proofs.lemmas.Result.{err_from_is_err_and}
 use Rattle.dlp_replies.specs.ReplyReading.{reply_at}
 use Rattle.session_parts.proofs.LinkWords.{opening, saying}
-use Rattle.slow_mirror.specs.Reads.{entries_of, slow_reads}
+use Rattle.mirrors.specs.Reads.{entries_of, slow_reads}
 use Rattle.session_parts.proofs.CauseLaws.{later_by_two}
 use Rattle.session_parts.proofs.HandleLaws.{opened_first}
 use Rattle.session_parts.proofs.SpanLaws.{span_done, span_stopped, span_unclosed, span_unopened}
@@ -22,7 +22,7 @@ pub returns-in-Err : goal.returns-in-Err
 returns-in-Err g c =
     let opened = opened_first c.args.name.now c.in_ok-opened.ensures.asked c.in_ok-opened.ensures.handle in
     let told = saying (opening c.args.name.now ∷ []) (g.L.Link.talk c.args.linked.now.link) in
-    let reply = c.read_side.new.db.linked.now.reply in
+    let reply = c.read_slowly.new.db.linked.now.reply in
     record {
       spans = span_stopped g.met.L.Link.since_more (λ handle given. slow_reads handle (entries_of told handle)) [] opened
           (rw opened.told at c.in-Err.ensures.asks) (later_by_two _ _ (reply_at 0x2B reply) (reply_at 0x20 reply) _ c.in-Err.ensures.cause c.in-Err.ensures.last) (search rules);

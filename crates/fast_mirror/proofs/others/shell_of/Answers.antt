@@ -1,5 +1,0 @@
-use Rattle.slow_mirror.proofs.EntryLaws.{bounded_id}
-use Rattle.fast_mirror.proofs.others.shell_of.Goals as goal
-
-pub returns-clause-bounded : goal.returns-clause-bounded
-returns-clause-bounded c = bounded_id c.args.id (rw (← c.number.ensures.number) c.number.ensures.bound)

@@ -1,5 +1,0 @@
-pub mod Agreements
-pub mod FastReads
-pub mod Places
-pub mod SamePlans
-pub mod Shells

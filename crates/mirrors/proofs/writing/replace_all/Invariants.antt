@@ -1,0 +1,11 @@
+use Rattle.std.proofs.Common.{◌≡◌, take}
+use Rattle.mirrors.proofs.NewsLaws.{PutsSome}
+use Rattle.mirrors.proofs.writing.replace_all.Given as goal
+
+abbrev pub invariant-loop-entry : goal.invariant-loop-entry
+invariant-loop-entry g l = record {
+  reference : l.db.linked.ghost_name ≡ l.initial.db.linked.ghost_name;
+  handle : l.db.handle ≡ l.initial.db.handle;
+  puts : PutsSome g.L.Link.talk g.L.Link.since g.L.Link.fault g.L.Link.downs l.initial.db.handle
+      (take l.entry-index l.entries) l.initial.db.linked.now l.db.linked.now;
+}

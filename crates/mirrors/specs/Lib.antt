@@ -1,0 +1,9 @@
+pub mod Agreements
+pub mod Asks
+pub mod Entries
+pub mod FastReads
+pub mod News
+pub mod Places
+pub mod Reads
+pub mod SamePlans
+pub mod Shells

@@ -1,4 +1,0 @@
-pub mod Asks
-pub mod Entries
-pub mod News
-pub mod Reads
