@@ -1,21 +1,23 @@
 -- What a trace takes, and whom a session over a line doesn't blame.
 use Rattle.std.proofs.lemmas.Grind.{common_steps}
-use Rattle.std.proofs.Common.{arith, ◌≡◌, ◌⊎◌, ◌≤◌, ◌++◌, inl, inr, subst, sym, List, ℕ}
+use Rattle.std.proofs.Common.{arith, ◌≡◌, ◌∙◌, ◌≤◌, ◌++◌, ◌^◌, ap, subst, List, ℕ}
 use Rattle.std.specs.Option.{option_map}
-use Rattle.std.specs.Prelude.{Option, IfSome, Result}
+use Rattle.std.specs.Prelude.{◌-◌, Option}
+use Rattle.hs_folders.specs.Appends.{AppendsPrefix}
 use Rattle.hs_folders.proofs.Prefixes.{all_taken}
+use Rattle.folder_copies.proofs.CopyLaws.{rose_before}
 use Rattle.trace_text.specs.declared.frame.End.{End}
-use Rattle.call_parts.specs.Causes.{EndsAs, IsCutShort, IsUnsaid}
+use Rattle.call_parts.specs.Causes.{EndsAs, IsUnsaid}
 use Rattle.call_parts.specs.Refusals.{BlamesHandheld, BlamesSource}
 use Rattle.call_parts.specs.Sessions.{IsTalk, KeptSilent}
 use Rattle.hotsync_looks.specs.Told.{SinkTold}
 use Rattle.call_parts.specs.Told.{SidesTold}
-use Rattle.call_parts.specs.Traces.{TracesText}
+use Rattle.call_parts.specs.Traces.{TakesTrace, TracesText}
 use Rattle.call_parts.specs.declared.report.Report.{Report}
 use Rattle.call_parts.specs.declared.report.SessionEnd.{SessionEnd}
 use Rattle.call_parts.specs.declared.report.SessionEnd.TheVariants.{NotStarted}
 use Rattle.hotsync_looks.specs.declared.status.Status.{Status}
-use Rattle.hotsync_looks.specs.declared.status.Status.TheVariants.{Done, TraceWrite, OutWrite, NoMemory, InUse}
+use Rattle.hotsync_looks.specs.declared.status.Status.TheVariants.{NoMemory, InUse}
 use Rattle.call_parts.proofs.RetoldLaws.{by_end_both}
 
 -- ---- the trace

@@ -5,9 +5,8 @@ use calendar_export::{dates_text, tasks_text};
 use card_export::cards_text;
 use case_words::{bytes_at, number_at, short_in, word};
 use palm_records::{BrokenRecords, ExportFault, Privacy};
-use memo_import::{ImportFault, import_memos};
+use memo_texts::{ImportFault, import_memos, memos_text};
 use pdb_values::{Category, Content, Database, DbHead, DbName, FourCc, PalmDate, Record, RecordId};
-use record_export::memos_text;
 use std::alloc::{AllocError, Global};
 use table_export::{addresses_table, tasks_table};
 

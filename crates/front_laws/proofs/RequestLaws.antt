@@ -26,10 +26,12 @@ use Rattle.front_laws.specs.Sound.{IsSoundMeeting}
 
 -- ---- the session's requests
 
+-- those up to the commit, and those behind it
 pub parts-are : (meeting : Meeting) (given : List ℕ) → map text (before_commit meeting given) ++ map text (after_commit meeting) ≡ requests meeting
 unfolding session
 parts-are meeting given = sym (map-append text (before_commit meeting given) (after_commit meeting)) ∙ text-session meeting given
 
+-- some go out up to the commit that the readings before it don't have
 pub before-longer : (meeting : Meeting) (given : List ℕ) → length (map text (before_writes meeting)) < length (map text (before_commit meeting given))
 unfolding before_commit
 before-longer meeting given =
@@ -39,12 +41,14 @@ before-longer meeting given =
       length-append (map text (before_writes meeting)) (map text (begin_mark meeting ∷ all_news meeting (active meeting) given)),
     )
 
-prefix-more : {xs ys : List (List ℕ)} (zs : List (List ℕ)) → IsPrefix xs ys → IsPrefix xs (ys ++ zs)
+-- what begins a list begins a longer one, and is no longer than it
+pub prefix-more : {xs ys : List (List ℕ)} (zs : List (List ℕ)) → IsPrefix xs ys → IsPrefix xs (ys ++ zs)
 prefix-more {xs} zs prefix = grind (arith, append_assoc xs prefix.rest zs)
 
 pub prefix-length : {xs ys : List (List ℕ)} → IsPrefix xs ys → length xs ≤ length ys
 prefix-length {xs} prefix = let sum = sym (length-append xs prefix.rest) ∙ ap length prefix.is in omega (arith, sum)
 
+-- how many of those up to the commit write
 pub writes-before : (meeting : Meeting) (given : List ℕ)
     → length (filter changes (map text (before_commit meeting given))) ≡ writes_before_commit meeting
 unfolding writes_before_commit

@@ -8,8 +8,8 @@ use Rattle.palm_records.specs.declared.choice.Privacy.{Privacy}
 use Rattle.palm_records.specs.declared.choice.Privacy.TheVariants.{All, WithoutPrivate}
 use Rattle.palm_records.specs.declared.fault.ExportFault.{ExportFault}
 use Rattle.palm_records.specs.declared.fault.ExportFault.TheVariants as fault
-use Rattle.record_export.specs.Exports.{exported_memos, holds_memos}
-use Rattle.record_export.specs.Memos.{memos_text}
+use Rattle.memo_texts.specs.Exports.{exported_memos, holds_memos}
+use Rattle.memo_texts.specs.Memos.{memos_text}
 use Rattle.card_export.specs.Exports.{exported_cards, first_bad_address, holds_addresses}
 use Rattle.card_export.specs.Properties.{cards_text}
 use Rattle.calendar_export.specs.Exports.{exported, fault_of, is_of_kind, source_of}

@@ -9,9 +9,9 @@ use Rattle.file_text.specs.Listings.{full_text, show_text}
 use Rattle.pdb_files.specs.Files.{IsFileText, canonical}
 use Rattle.palm_records.specs.declared.fault.ExportFault.{ExportFault}
 use Rattle.palm_records.specs.declared.fault.ExportFault.TheVariants as export
-use Rattle.memo_import.specs.Databases.{import_in}
-use Rattle.memo_import.specs.declared.fault.ImportFault.{ImportFault}
-use Rattle.memo_import.specs.declared.fault.ImportFault.TheVariants as imports
+use Rattle.memo_texts.specs.Databases.{import_in}
+use Rattle.memo_texts.specs.declared.fault.ImportFault.{ImportFault}
+use Rattle.memo_texts.specs.declared.fault.ImportFault.TheVariants as imports
 use Rattle.trace_text.specs.TraceLines.{FrameValue}
 use Rattle.trace_check.specs.Judging.{IsVerdict}
 use Rattle.trace_check.specs.Readings.{IsBadLine, IsTraceReading}

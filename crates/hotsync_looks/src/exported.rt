@@ -11,7 +11,7 @@ use calendar_export::{dates_text, tasks_text};
 use card_export::cards_text;
 use palm_records::{BrokenRecords, ExportFault, Privacy};
 use pdb_values::{Database, PalmDate};
-use record_export::memos_text;
+use memo_texts::memos_text;
 use run_words::{Export, ExportForm};
 use std::alloc::Global;
 use table_export::{addresses_table, tasks_table};

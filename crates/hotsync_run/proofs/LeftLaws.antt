@@ -1,12 +1,11 @@
 -- What a session left of both sides, from what its call answered over a world.
-use Rattle.std.proofs.Common.{◌≡◌, ◌⊎◌, ◌∙◌, ◌^◌, ◌≤◌, ◌<◌, ap, append_assoc, refl, sym, subst, arith, inl, inr, ℕ, List, [], ◌∷◌, ◌++◌, length}
+use Rattle.std.proofs.Common.{◌≡◌, ◌∙◌, ap, refl, sym, subst, arith, inl, inr, ℕ, List, [], ◌∷◌, length}
 use Rattle.std.specs.Prelude.{Option, Some, None, IsErr, IsSome, Result, Ok, Err, filter, map, replicate}
 use Rattle.std.specs.Global.{Vec}
 use Rattle.std.specs.List.{flat_map}
-use Rattle.std.proofs.lemmas.List.{append-nil, length-append, map-append}
+use Rattle.std.proofs.lemmas.List.{append-nil, length-append}
 use Rattle.hs_folders.specs.FileMaps.{FileMap}
-use Rattle.hs_folders.specs.Moments.{EachMomentSince, Moments}
-use Rattle.hs_folders.proofs.MomentLaws.{moments_weaken}
+use Rattle.hs_folders.specs.Moments.{Moments}
 use Rattle.palm_device.specs.Devices.{Device}
 use Rattle.dlp_commands.specs.Changes.{changes, given_in}
 use Rattle.dlp_commands.specs.DeviceRuns.{Exchange, exchanged}
@@ -16,9 +15,6 @@ use Rattle.palm_device.specs.Bounds.{IsBounded}
 use Rattle.palm_device.specs.Handles.{no_handles}
 use Rattle.handheld_files.specs.Openings.{AreKept, Stands}
 use Rattle.handheld_files.proofs.BoundLaws.{opened-device}
-use Rattle.desk_store.specs.Bounds.{AreBounded}
-use Rattle.desk_store.specs.Shelves.{SlotValue}
-use Rattle.desk_store.proofs.BoundLaws.{bounded_at}
 use Rattle.desk_journal.specs.Overlays.{FinishesAs}
 use Rattle.desk_store.specs.Desks.{IsDesk}
 use Rattle.desktop_session.specs.Acts.{text}
@@ -29,25 +25,22 @@ use Rattle.desktop_session.specs.declared.fault.SessionFault.{SessionFault}
 use Rattle.pdb_values.specs.declared.user.UserInfo.{UserInfo}
 use Rattle.line_world.specs.Logs.{LogValue, no_log}
 use Rattle.line_world.specs.Worlds.{IsLog, WorldSince, WorldValue, world_talk}
-use Rattle.sync_session.proofs.IdsLaws.{text-before_commit, text-session}
+use Rattle.sync_session.proofs.IdsLaws.{text-session}
 use Rattle.session_plan.specs.Limits.{first_over}
 use Rattle.session_plan.specs.Losses.{first_loss}
 use Rattle.session_parts.specs.Given.{GetFreeIds}
-use Rattle.sync_session.specs.News.{all_news}
-use Rattle.session_plan.specs.Skips.{active}
 use Rattle.session_plan.specs.Merges.{merged_slots}
-use Rattle.sync_session.specs.Outcomes.{MergedSince, SessionEnds, StandsForSlots, requests_before_commit, seat_of}
+use Rattle.sync_session.specs.Outcomes.{SessionEnds, StandsForSlots, requests_before_commit, seat_of}
 use Rattle.session_plan.specs.Reports.{reports}
-use Rattle.sync_session.specs.Sessions.{adds_of, after_commit, before_commit, before_writes, requests, session, writes_before_commit, begin_mark}
+use Rattle.sync_session.specs.Sessions.{adds_of, after_commit, before_commit, before_writes, requests, session, writes_before_commit}
 use Rattle.session_parts.specs.Rests.{IsAtRest}
-use Rattle.session_plan.specs.Tasks.{Meeting, meeting_of, place_for}
-use Rattle.session_plan.specs.declared.wishes.Wishes.{Wishes}
+use Rattle.session_plan.specs.Tasks.{Meeting}
 use Rattle.session_parts.specs.declared.report.DbReport.{DbReport}
 use Rattle.session_parts.specs.declared.stop.Stop.{Stop}
 use Rattle.front_laws.specs.Sound.{IsSoundMeeting}
 use Rattle.front_laws.proofs.FrontLaws.{after-none, commit-ids, commit-told, session-ids, session-told}
 use Rattle.front_laws.proofs.MergeActs.{merged}
-use Rattle.front_laws.proofs.RequestLaws.{before-longer, no-limit, parts-are, prefix-length, prefix-more, stood_or_merged, writes-before}
+use Rattle.front_laws.proofs.RequestLaws.{no-limit, parts-are, prefix-length, prefix-more, stood_or_merged, writes-before}
 use Rattle.hotsync_run.specs.Ends.{EndedSession, SessionLeft, StoppedBefore, StoppedBehind}
 use Rattle.call_parts.specs.LineRuns.{exchanges_in, log_in, write_count}
 use Rattle.call_parts.specs.Closings.{left_databases, left_end}

@@ -1,9 +1,7 @@
 -- What is known of the session of a run stays, whatever becomes of its trace.
 use Rattle.std.proofs.lemmas.Grind.{common_steps}
-use Rattle.std.proofs.Common.{arith, ◌≡◌, ◌⊎◌, ◌≤◌, ◌++◌, inl, inr, subst, sym, List, ℕ}
-use Rattle.std.specs.Option.{option_map}
+use Rattle.std.proofs.Common.{arith, ◌≡◌, ◌⊎◌, inl, inr, subst, sym, List, ℕ}
 use Rattle.std.specs.Prelude.{Option, IfSome, Result}
-use Rattle.hs_folders.proofs.Prefixes.{all_taken}
 use Rattle.palm_device.specs.Devices.{Device}
 use Rattle.pdb_values.specs.declared.user.UserInfo.{UserInfo}
 use Rattle.desktop_session.specs.declared.fault.SessionFault.{SessionFault}
@@ -14,21 +12,14 @@ use Rattle.session_plan.specs.Limits.{first_over}
 use Rattle.session_plan.specs.Losses.{first_loss}
 use Rattle.sync_session.specs.Outcomes.{seat_of}
 use Rattle.session_plan.specs.Tasks.{Meeting}
-use Rattle.trace_text.specs.declared.frame.End.{End}
-use Rattle.call_parts.specs.Causes.{EndsAs, IsCutShort, IsUnsaid}
+use Rattle.call_parts.specs.Causes.{IsCutShort}
 use Rattle.hotsync_run.specs.Ends.{IsToldRefusal, ShowsMeeting, status_refused}
-use Rattle.call_parts.specs.Refusals.{BlamesHandheld, BlamesSource}
-use Rattle.call_parts.specs.Sessions.{IsTalk, KeptSilent}
 use Rattle.hotsync_run.specs.Talks.{BegunSession, TalkedFor}
-use Rattle.hotsync_looks.specs.Told.{SinkTold}
 use Rattle.call_parts.specs.Told.{SidesTold}
-use Rattle.call_parts.specs.Traces.{TracesText}
-use Rattle.call_parts.proofs.RetoldLaws.{IsRetold, StaysShown, by_end_both, had_retold}
+use Rattle.call_parts.proofs.RetoldLaws.{IsRetold, StaysShown, had_retold}
 use Rattle.call_parts.specs.declared.report.Report.{Report}
-use Rattle.call_parts.specs.declared.report.SessionEnd.{SessionEnd}
-use Rattle.call_parts.specs.declared.report.SessionEnd.TheVariants.{NotStarted}
 use Rattle.hotsync_looks.specs.declared.status.Status.{Status}
-use Rattle.hotsync_looks.specs.declared.status.Status.TheVariants.{Done, TraceWrite, OutWrite, NoMemory, InUse}
+use Rattle.hotsync_looks.specs.declared.status.Status.TheVariants.{Done, TraceWrite, OutWrite, NoMemory}
 
 -- ---- what a status shows of both sides
 

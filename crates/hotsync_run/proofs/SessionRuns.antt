@@ -1,8 +1,7 @@
 -- What is known of a run with a session, from before its folders were opened on.
-use Rattle.std.proofs.Common.{◌≡◌, ◌⊎◌, ◌∙◌, ◌+◌, ◌-◌, ◌^◌, ◌≤◌, ℕ, List, ◌++◌, inl, inr, refl, sym, subst, ap}
+use Rattle.std.proofs.Common.{◌≡◌, ◌⊎◌, ◌∙◌, ◌-◌, ◌^◌, ◌≤◌, List, inl, inr, refl, sym, subst, ap}
 use Rattle.std.specs.Prelude.{IfSome, Option}
 use Rattle.std.specs.Option.{option_map}
-use Rattle.hs_folders.specs.Appends.{AppendsPrefix}
 use Rattle.hs_folders.specs.FileMaps.{FileMap}
 use Rattle.hs_folders.specs.Moments.{EachMomentSince, Moments}
 use Rattle.hs_folders.proofs.MomentLaws.{moments_go_on, moments_weaken}
@@ -33,7 +32,7 @@ use Rattle.call_parts.specs.Scripts.{IsScripted}
 use Rattle.hotsync_run.specs.Talks.{DesktopRan, IsRunTalk, BegunSession, TalkedFor}
 use Rattle.hotsync_looks.specs.Told.{SinkTold, SourceTold}
 use Rattle.call_parts.specs.Told.{CallTold, FolderTold, SidesTold, sides_of}
-use Rattle.call_parts.specs.Traces.{TakesTrace, TracesReport}
+use Rattle.call_parts.specs.Traces.{TracesReport}
 use Rattle.call_parts.proofs.RetoldLaws.{by_end_then}
 use Rattle.call_parts.proofs.TraceLaws.{talk_not_in_use, talk_not_source, traced_from}
 use Rattle.call_parts.specs.declared.report.Report.{Report}

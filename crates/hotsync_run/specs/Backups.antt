@@ -1,16 +1,13 @@
 -- What holds of every backup: all objects before it, and all of them after it.
-use Rattle.std.specs.Prelude.{◌≡◌, ◌⊎◌, ⊤, Bool, ◌||◌, true, false, List, [], ◌++◌, length, map, Option, Some, IfSome, String, bytes_eq, string_bytes}
-use Rattle.std.specs.FinMap as finmap
-use Rattle.std.specs.List.{flat_map, list_any}
+use Rattle.std.specs.Prelude.{◌≡◌, ◌⊎◌, ⊤, false, List, [], ◌++◌, length, map, Some, IfSome}
+use Rattle.std.specs.List.{flat_map}
 use Rattle.std.specs.Option.{option_map}
-use Rattle.std.specs.declared.alloc.Global.{Global}
 use Rattle.hs_folders.specs.FileMaps.{FileMap}
 use Rattle.hs_folders.specs.Moments.{EachMomentSince}
 use Rattle.pdb_values.specs.Databases.{DatabaseValue}
 use Rattle.pdb_files.specs.Files.{entry_count}
 use Rattle.palm_device.specs.Devices.{Device}
 use Rattle.palm_device.specs.Handles.{no_handles}
-use Rattle.folder_files.specs.FileNames.{desktop_info_file, device_info_file, journal_file}
 use Rattle.handheld_files.specs.Openings.{HoldsAll, Stands}
 use Rattle.desk_journal.specs.Entries.{EntryValue}
 use Rattle.desk_journal.specs.Overlays.{put_all}
@@ -27,9 +24,9 @@ use Rattle.install_backup.specs.Backups.{HasSome, file_of}
 use Rattle.run_words.specs.Betweens.{Between}
 use Rattle.hotsync_looks.specs.Told.{SinkTold}
 use Rattle.hotsync_looks.specs.declared.status.Status.{Status}
-use Rattle.hotsync_looks.specs.declared.status.Status.TheVariants.{Limit, NewHandheld, NotBackupFolder, OtherUser, TooManyUsers}
+use Rattle.hotsync_looks.specs.declared.status.Status.TheVariants.{Limit, NewHandheld, OtherUser, TooManyUsers}
 use Rattle.call_parts.specs.LineRuns.{SaidAll, frames_in, log_in}
-use Rattle.call_parts.specs.Refusals.{HandheldRefuses, HasHandheld, IsDesktopFailure, TraceRefuses, is_desktop, is_handheld}
+use Rattle.call_parts.specs.Refusals.{HandheldRefuses, HasHandheld, TraceRefuses}
 use Rattle.call_parts.specs.Scripts.{HasScript, IsScripted, ScriptRefuses}
 use Rattle.call_parts.specs.Files.{FilesRefuse, StandsApart, is_synced}
 use Rattle.hotsync_run.specs.SessionCalls.{IsSessionCall, MayHaveSession, Paths, SessionCommand}

@@ -2,12 +2,10 @@
 -- of them after it.
 use Rattle.std.specs.Prelude.{◌≡◌, ◌⊎◌, ⊤, [], ◌++◌, length, None, Some, IfSome}
 use Rattle.std.specs.Option.{option_map}
-use Rattle.hs_folders.specs.Moments.{EachMomentSince}
 use Rattle.palm_device.specs.Devices.{Device}
 use Rattle.palm_device.specs.Handles.{no_handles}
-use Rattle.dlp_commands.specs.DeviceRuns.{DeviceRun, exchanged}
+use Rattle.dlp_commands.specs.DeviceRuns.{DeviceRun}
 use Rattle.handheld_files.specs.Openings.{HoldsAll, Stands}
-use Rattle.line_world.specs.Folders.{FilesRan, OthersStay, StoodAfterSome}
 use Rattle.line_world.specs.Logs.{texts}
 use Rattle.padp_end.specs.Outgoings.{said_text}
 use Rattle.slp_frames.specs.PacketScan.{scan}
@@ -30,7 +28,7 @@ use Rattle.call_parts.specs.Reports.{IsNotStarted}
 use Rattle.hotsync_run.specs.SessionCalls.{BlamesByCount, Paths}
 use Rattle.call_parts.specs.Stays.{StaysAsItWas}
 use Rattle.call_parts.specs.Stays.{WentWith}
-use Rattle.call_parts.specs.Told.{CallTold, FolderTold}
+use Rattle.call_parts.specs.Told.{CallTold}
 use Rattle.hotsync_run.specs.Undisturbed.{IsGoodHandheld, NoneFailed}
 use Rattle.call_parts.specs.declared.report.Report.{Report}
 use Rattle.call_parts.specs.declared.report.SessionEnd.TheVariants.{NotStarted}

@@ -1,10 +1,9 @@
 -- What holds of every run: all objects before it, and all of them after it.
 use Rattle.std.specs.Prelude.{List, Some}
 use Rattle.std.specs.Option.{option_map}
-use Rattle.hs_folders.specs.Moments.{EachMomentSince}
 use Rattle.trace_text.specs.TraceLines.{trace_text}
 use Rattle.line_script.specs.Rules.{RuleValue}
-use Rattle.desk_journal.specs.Overlays.{FinishesAs, finished}
+use Rattle.desk_journal.specs.Overlays.{finished}
 use Rattle.run_words.specs.Runs.{Run}
 use Rattle.session_plan.specs.Tasks.{Meeting}
 use Rattle.call_parts.specs.LineRuns.{frames_in}

@@ -12,9 +12,10 @@ ghost use Rattle.line_steps.specs.TalkHalting.{HaltsWithin, LineEnds};
 ghost use Rattle.line_steps.specs.Rests.{MayAnswer, MayAsk};
 ghost use Rattle.line_steps.specs.TalkTelling.{HasSaid, LineCounts, LineRecords, LineTells};
 
+use crate::line::Line;
 use crate::over::send_over;
+use crate::sending::Halt;
 use line_script::Script;
-use line_steps::{Halt, Line};
 
 /// The desktop sends the request behind so many, and the handheld takes it whole.
 pub fn ask(line: &mut Line, script: &Script, requests: usize, request: &[u8]) -> Result<(), Halt>

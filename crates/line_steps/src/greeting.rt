@@ -9,10 +9,12 @@ ghost use Rattle.line_steps.specs.TalkHalting.{LineEnds};
 ghost use Rattle.line_steps.specs.Rests.{MayAsk, MayGreet};
 ghost use Rattle.line_steps.specs.TalkTelling.{LineCounts, LineRecords, LineTells, greeted, wake};
 
+use crate::carrying::settle;
+use crate::line::Line;
 use crate::over::send_over;
+use crate::sending::Halt;
 use cmp_hello::{Hello, HelloKind, read_hello, write_hello};
 use line_script::Script;
-use line_steps::{Halt, Line, settle};
 use padp_link::Receiver;
 
 /// The transaction of the greetings.

@@ -13,8 +13,11 @@ ghost use Rattle.line_steps.specs.Telling.{IsNextTo, RecordsFrames, Talks};
 ghost use Rattle.line_steps.specs.Turning.{Turn};
 ghost use Rattle.line_steps.specs.TalkHalting.{HaltedOver, speaking};
 
+use crate::carrying::carry;
+use crate::half::{Half, Wire};
+use crate::sending::Halt;
+use crate::starting::{expect, start};
 use line_script::Script;
-use line_steps::{Half, Halt, Wire, carry, expect, start};
 
 /// The end `x` sends this message under this transaction, and the end `y` takes it whole.
 pub(crate) fn send_over(

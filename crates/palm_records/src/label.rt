@@ -3,7 +3,7 @@ ghost use Rattle.std.specs.Prelude.{◌≡◌};
 ghost use Rattle.std.specs.Option.{option_copied};
 ghost use Rattle.palm_records.specs.Choices as choices;
 
-use palm_records::category_label;
+use crate::category::category_label;
 use pdb_values::Category;
 
 /// The label of a category, where it isn't the one without a name.

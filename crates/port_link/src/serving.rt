@@ -9,6 +9,7 @@ ghost use Rattle.port_link.specs.Ends.{IsSudden};
 ghost use Rattle.port_link.specs.VigilScenes.{LeavesPort, scene_of};
 
 use crate::ends::port_end;
+use crate::entry::Entry;
 use crate::port_end::PortEnd;
 use crate::vigil::{PATIENCE, Vigil};
 use crate::vigil_log::Log;
@@ -17,7 +18,6 @@ use device_stream::{DeviceReport, MAX_SAID, Talk};
 use handheld_server::Server;
 use hs_folders::Folder;
 use port_line::Port;
-use port_link::Entry;
 use slp_frames::SlpReader;
 use std::alloc::Global;
 

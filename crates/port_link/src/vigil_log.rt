@@ -4,7 +4,7 @@ ghost use Rattle.slp_frames.specs.PacketValues.{lent_value};
 ghost use Rattle.port_link.specs.Logs.{EntryValue, log_entries};
 ghost use Rattle.port_link.specs.Logs as entry;
 
-use port_link::{Entry, HeardPacket};
+use crate::entry::{Entry, HeardPacket};
 use slp_frames::PacketLent;
 use std::alloc::{AllocError, Global};
 

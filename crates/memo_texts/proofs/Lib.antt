@@ -1,0 +1,14 @@
+pub mod BackLaws
+pub mod BlockLaws
+pub mod ByteLaws
+pub mod ExportLineLaws
+pub mod HeadLaws
+pub mod HeadReadLaws
+pub mod LabelLaws
+pub mod LineLaws
+pub mod MemoLaws
+pub mod PartLaws
+pub mod ReadingLaws
+pub mod ReturnLaws
+pub mod ShownLaws
+pub mod TextLaws

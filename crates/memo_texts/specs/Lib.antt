@@ -1,0 +1,10 @@
+pub mod Characters
+pub mod Databases
+pub mod ExportHeads
+pub mod Exports
+pub mod Faults
+pub mod Heads
+pub mod KeptMemos
+pub mod Lines
+pub mod Memos
+pub mod Readings

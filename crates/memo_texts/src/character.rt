@@ -1,0 +1,65 @@
+// Bytes of characters.
+ghost use Rattle.std.specs.Prelude.{◌≡◌, MatchResult, None, Some, chars};
+ghost use Rattle.memo_texts.specs.Characters.{byte_below, byte_of, bytes_of, line_bytes};
+
+use crate::fault::LineFault;
+use palm_records::char_of;
+use std::alloc::Global;
+use std::str;
+
+// The first byte that doesn't stand for a character of its own number.
+const LATIN: u8 = 0xA0;
+
+/// The bytes of a line in UTF-8.
+pub fn line_bytes(alloc: Global, line: &[u8]) -> Result<Vec<u8>, LineFault>
+    ensures { MatchResult result (λ bytes. line_bytes line.now ≡ Some bytes.items)
+        (λ fault. fault ≡ LineFault.BadForm → line_bytes line.now ≡ None) }
+{
+    match str::from_utf8(line) {
+        Ok(text) => text_bytes(alloc, text),
+        Err(_) => Err(LineFault::BadForm),
+    }
+}
+
+// The bytes of the characters of a text.
+fn text_bytes(alloc: Global, text: &str) -> Result<Vec<u8>, LineFault>
+    ensures { MatchResult result (λ bytes. bytes_of (chars text.now) ≡ Some bytes.items)
+        (λ fault. fault ≡ LineFault.BadForm → bytes_of (chars text.now) ≡ None) }
+{
+    let mut bytes = Vec::new(alloc);
+    for ch in text.chars() {
+        match byte_of(ch) {
+            Some(byte) => bytes.push(byte)?,
+            None => return Err(LineFault::BadForm),
+        }
+    }
+    Ok(bytes)
+}
+
+// The byte of a character, where it has one.
+#[tactic(auto, unfolding(crate::specs::Characters::byte_of))]
+fn byte_of(ch: char) -> Option<u8>
+    ensures { result ≡ byte_of ch }
+{
+    match ch {
+        '\u{2400}' => None,
+        '\u{240A}' => Some(b'\n'),
+        _ => byte_below(ch),
+    }
+}
+
+// The byte that stands for a character.
+fn byte_below(ch: char) -> Option<u8>
+    ensures { result ≡ byte_below 256 ch }
+{
+    let code = u32::from(ch);
+    if code < 0x100 && char_of(code as u8) == ch {
+        return Some(code as u8);
+    }
+    for byte in 0..LATIN {
+        if char_of(byte) == ch {
+            return Some(byte);
+        }
+    }
+    None
+}

@@ -1,4 +1,0 @@
-pub mod HeadLaws
-pub mod LineLaws
-pub mod MemoLaws
-pub mod TextLaws
