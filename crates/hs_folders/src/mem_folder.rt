@@ -10,11 +10,9 @@ ghost use Rattle.hs_folders.specs.Opens.{IsBlamedOpen};
 ghost use Rattle.hs_folders.specs.MemFolders.{calls_made, changes_made, failing_calls, past_moments};
 
 use crate::calls::Calls;
-use crate::changes::{Changes, change_to, tree_at};
+use crate::changes::{Changes, remove_file, replace_file, tree_at};
 use crate::faults::{FolderFault, FolderOpenFault};
-use crate::file_tree::{
-    FileTree, copy_file, copy_files, copy_names, has_file, put_file, take_file,
-};
+use crate::file_tree::{FileTree, copy_file, copy_files, copy_names, has_file, put_file};
 use crate::folder::Folder;
 use std::alloc::{AllocError, Global};
 
@@ -254,17 +252,7 @@ impl Folder for MemFolder {
         if self.calls.count() {
             return Err(FolderFault::Failed);
         }
-        match &mut self.changes {
-            Changes::Counted(count) => {
-                put_file(self.alloc, &mut self.files, name, bytes)?;
-                *count = count.saturating_add(1);
-            }
-            Changes::Kept(past) => {
-                let mut next = copy_files(&self.files)?;
-                put_file(self.alloc, &mut next, name, bytes)?;
-                change_to(past, &mut self.files, next)?;
-            }
-        }
+        replace_file(self.alloc, &mut self.changes, &mut self.files, name, bytes)?;
         Ok(())
     }
 
@@ -299,17 +287,7 @@ impl Folder for MemFolder {
         if !has_file(&self.files, name) {
             return Err(FolderFault::Missing);
         }
-        match &mut self.changes {
-            Changes::Counted(count) => {
-                take_file(&mut self.files, name);
-                *count = count.saturating_add(1);
-            }
-            Changes::Kept(past) => {
-                let mut next = copy_files(&self.files)?;
-                take_file(&mut next, name);
-                change_to(past, &mut self.files, next)?;
-            }
-        }
+        remove_file(&mut self.changes, &mut self.files, name)?;
         Ok(())
     }
 }
