@@ -1,7 +1,7 @@
 // A file of the system that takes the place of another one, whole.
 use crate::system_files::{TEMPORARY, sync_folder};
 use std::alloc::Global;
-use std::fs::{OpenFile, OpenOptions, Permissions};
+use std::fs::{DirEntry, OpenFile, OpenOptions, Permissions};
 use std::io::{ErrorKind, Write};
 use std::os::unix::fs::{OpenOptionsExt, PermissionsExt};
 use std::path::Path;
@@ -60,14 +60,25 @@ pub(crate) fn replaced_mode<R: Files>(rt: &R, path: Path<'_>) -> Option<u32> {
 // name that is not UTF-8 is passed over, as in the list of names.
 fn new_mode<R: Files>(rt: &R, alloc: Global, folder: &str) -> io::Result<u32> {
     for entry in fs::read_dir(&(rt, alloc), folder)? {
-        match entry {
-            Ok(entry) if is_private(rt, alloc, folder, entry.file_name())? => return Ok(PRIVATE),
-            Ok(_) => {}
-            Err(error) if error.kind() == ErrorKind::InvalidFilename => {}
-            Err(error) => return Err(error),
+        if is_private_entry(rt, alloc, folder, entry)? {
+            return Ok(PRIVATE);
         }
     }
     Ok(USUAL)
+}
+
+// Whether an entry of the folder is a file that is not readable to all.
+fn is_private_entry<R: Files>(
+    rt: &R,
+    alloc: Global,
+    folder: &str,
+    entry: io::Result<DirEntry<(&R, Global)>>,
+) -> io::Result<bool> {
+    match entry {
+        Ok(entry) => is_private(rt, alloc, folder, entry.file_name()),
+        Err(error) if error.kind() == ErrorKind::InvalidFilename => Ok(false),
+        Err(error) => Err(error),
+    }
 }
 
 // Whether a file of this name is not readable to all.

@@ -3,7 +3,7 @@ ghost use Rattle.std.specs.Prelude.{◌≢◌, ◌≤◌, All, IfOk, IsSorted, O
 ghost use Rattle.std.specs.String.{string_cmp};
 
 use std::alloc::Global;
-use std::fs::{DirEntry, File, OpenFile, TryLockError};
+use std::fs::{DirEntry, File, OpenFile, ReadDir, TryLockError};
 use std::io::ErrorKind;
 use std::path::Path;
 use std::rt::Files;
@@ -52,11 +52,26 @@ pub(crate) fn list_names<R: Files>(rt: &R, alloc: Global, folder: &str) -> io::R
     ensures few { IfOk result (λ names. vec_len names ≤ 4_294_967_295) }
 {
     let mut names = Vec::new(alloc);
-    for entry in fs::read_dir(&(rt, alloc), folder)? {
-        add_entry(alloc, &mut names, entry)?;
-    }
+    add_entries(alloc, &mut names, fs::read_dir(&(rt, alloc), folder)?)?;
     names.sort()?;
     Ok(names)
+}
+
+// Adds the names of all entries, but for that of the temporary file and those that are no text.
+fn add_entries<R: Files>(
+    alloc: Global,
+    names: &mut Vec<String>,
+    entries: ReadDir<(&R, Global)>,
+) -> io::Result<()>
+    requires no_temporary { All (λ name. string_bytes name ≢ codes "hotsync.tmp") names.old.items }
+    requires few { vec_len names.old ≤ 4_294_967_295 }
+    ensures no_temporary { All (λ name. string_bytes name ≢ codes "hotsync.tmp") names.new.items }
+    ensures few { OnOk result (vec_len names.new ≤ 4_294_967_295) }
+{
+    for entry in entries {
+        add_entry(alloc, names, entry)?;
+    }
+    Ok(())
 }
 
 // Adds the name of an entry, unless it is that of the temporary file or no text.
