@@ -4,6 +4,7 @@ ghost use Rattle.std.specs.Option.{option_map};
 ghost use Rattle.pdb_values.specs.Names.{name_fault};
 ghost use Rattle.pdb_values.specs.PalmDates.{read_wire};
 ghost use Rattle.dlp_args.specs.Views.{Gives};
+ghost use Rattle.dlp_args.specs.Cells.{Half, Run, Text, Word};
 ghost use Rattle.dlp_args.specs.Fields.{fields_in};
 ghost use Rattle.dlp_replies.specs.Checks.{date_or_zero, first_bad, is_date};
 ghost use Rattle.dlp_replies.specs.EntryLists.{entry};
@@ -56,18 +57,55 @@ fn entry_cells(bytes: &[u8]) -> Option<EntryCells<'_>>
     let (attributes, rest) = take_u16(rest)?;
     let (kind, rest) = take_4(rest)?;
     let (creator, rest) = take_4(rest)?;
-    let (version, rest) = take_u16(rest)?;
+    let dated = dated_cells(rest)?;
+    Some(EntryCells {
+        size,
+        attributes,
+        kind: FourCc(kind),
+        creator: FourCc(creator),
+        version: dated.version,
+        modnum: dated.modnum,
+        created: dated.created,
+        modified: dated.modified,
+        backup: dated.backup,
+        index: dated.index,
+        name: dated.name,
+    })
+}
+
+// The cells of an entry from its version on.
+#[derive(Clone, Copy)]
+struct DatedCells<'a> {
+    version: u16,
+    modnum: u32,
+    created: [u8; 8],
+    modified: [u8; 8],
+    backup: [u8; 8],
+    index: u16,
+    name: &'a [u8],
+}
+
+// The cells from the version on, which are all of the bytes.
+fn dated_cells(bytes: &[u8]) -> Option<DatedCells<'_>>
+    ensures { option_map (λ dated. (
+      dated.version,
+      (
+        dated.modnum,
+        (
+          dated.created,
+          (dated.modified, (dated.backup, (dated.index, (dated.name.now, tt)))),
+        ),
+      ),
+    )) result ≡ fields_in (Half ∷ Word ∷ Run 8 ∷ Run 8 ∷ Run 8 ∷ Half ∷ Text ∷ []) bytes.now }
+{
+    let (version, rest) = take_u16(bytes)?;
     let (modnum, rest) = take_u32(rest)?;
     let (created, rest) = take_8(rest)?;
     let (modified, rest) = take_8(rest)?;
     let (backup, rest) = take_8(rest)?;
     let (index, rest) = take_u16(rest)?;
     let name = text_of(rest)?;
-    Some(EntryCells {
-        size,
-        attributes,
-        kind: FourCc(kind),
-        creator: FourCc(creator),
+    Some(DatedCells {
         version,
         modnum,
         created,
