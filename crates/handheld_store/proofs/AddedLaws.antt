@@ -1,15 +1,13 @@
 -- The index of a database that has one more record.
-use Rattle.std.proofs.Common.{◌≡◌, ◌∙◌, ℕ, zero, suc, ◌<◌, Bool, true, not, List, [], ◌∷◌, ◌++◌, Option, Some, None, ap, get_or, length, nat_eq, slice_get, sym, subst}
+use Rattle.std.proofs.Common.{◌≡◌, ◌∙◌, ℕ, zero, suc, ◌<◌, Bool, List, [], ◌∷◌, ◌++◌, Option, Some, None, ap, get_or, length, slice_get, sym, subst}
 use Rattle.std.specs.Prelude.{IfSome, IsSomeAnd, find, option_and_then, position, remove}
-use Rattle.std.specs.List.{list_any}
-use Rattle.indexmap.specs.IndexSet.{insert_key}
 use Rattle.pdb_values.specs.Databases.{DatabaseValue}
 use Rattle.pdb_values.specs.NamedDatabases.{database_of}
 use Rattle.pdb_values.proofs.PlaceLaws.{find-position}
 use Rattle.palm_device.specs.Soundness.{ids_of}
 use Rattle.handheld_store.specs.Indexes.{AreIndexes, HasOneMore, IsIndexIn, is_of}
 use Rattle.handheld_store.specs.declared.index.Index.{Index}
-use Rattle.handheld_store.proofs.IndexLaws.{found, insert_by}
+use Rattle.handheld_store.proofs.IndexLaws.{found}
 use Rattle.handheld_files.proofs.FreshLaws.{get_some}
 
 -- one of the indexes is taken out
@@ -28,12 +26,10 @@ AreIndexes-behind databases (first ∷ indexes) index are is = (are.0, AreIndexe
 
 -- where there is memory for it, an index that has one id more
 pub AreIndexes-put : (databases : List DatabaseValue) (indexes : List Index) (index index' : Index) (id : ℕ)
-    → index'.name ≡ index.name → not (list_any (nat_eq id) index.ids.keys) ≡ true → index'.ids.keys ≡ insert_key nat_eq index.ids.keys id
-    → AreIndexes databases indexes
+    → index'.name ≡ index.name → index'.ids.keys ≡ index.ids.keys ++ id ∷ [] → AreIndexes databases indexes
     → IfSome (database_of index.name databases) (λ (database : DatabaseValue). ids_of database.records ≡ index.ids.keys ++ id ∷ [])
     → AreIndexes databases (indexes ++ index' ∷ [])
-AreIndexes-put databases indexes index index' id named fresh inserted are more =
-    let added : index'.ids.keys ≡ index.ids.keys ++ id ∷ [] = inserted ∙ insert_by index.ids.keys id (list_any (nat_eq id) index.ids.keys) fresh in
+AreIndexes-put databases indexes index index' id named added are more =
     AreIndexes-behind databases indexes index' are
     (subst (λ n. IfSome (database_of n databases) (λ (d : DatabaseValue). index'.ids.keys ≡ ids_of d.records)) (sym named)
     (by index.ids.keys index'.ids.keys id (database_of index.name databases) added more))

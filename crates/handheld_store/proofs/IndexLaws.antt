@@ -2,7 +2,6 @@
 use Rattle.std.proofs.Common.{◌≡◌, ℕ, suc, ◌+◌, ◌<◌, ◌≤◌, Bool, true, false, cond, not, List, [], ◌∷◌, ◌++◌, take, length, filter, position, refl, ap}
 use Rattle.std.proofs.Common.{sym, subst, ◌∙◌, arith, Option, Some, None, get_or, nat_eq, eq-eqb, add-one}
 use Rattle.std.specs.Prelude.{IfSome, find}
-use Rattle.std.specs.List.{list_any}
 use Rattle.std.specs.Str.{bytes_eq}
 use Rattle.std.proofs.lemmas.Bool.{eqb-true}
 use Rattle.std.proofs.lemmas.List.{map-append}
@@ -13,7 +12,6 @@ use Rattle.pdb_values.proofs.NamedLaws.{bytes_eq-is, database_of-name, database_
 use Rattle.pdb_values.proofs.PlaceLaws.{position-cons, position_found}
 use Rattle.palm_device.specs.Records.{place_of_id}
 use Rattle.palm_device.specs.Soundness.{ids_of}
-use Rattle.indexmap.specs.IndexSet.{insert_key}
 use Rattle.handheld_store.specs.Indexes.{AreIndexes, AreOthers, IsIndexIn, is_of}
 use Rattle.handheld_store.specs.declared.index.Index.{Index}
 use Rattle.handheld_files.proofs.KeptLaws.{take_next_at}
@@ -25,17 +23,11 @@ pub ids_next : (items : List Record) (k : ℕ) (item : Record)
     → k < length items → item ≡ get_or items k item → ids_of (take (suc k) items) ≡ ids_of (take k items) ++ item.id ∷ []
 ids_next items k item within here = ap ids_of (take_next_at items k item within here) ∙ map-append (λ (item : Record). item.id) (take k items) (item ∷ [])
 
-pub insert_by : (ids : List ℕ) (id : ℕ) (b : Bool) → not b ≡ true → cond b ids (ids ++ id ∷ []) ≡ ids ++ id ∷ []
-insert_by ids id true new = absurd cc
-insert_by ids id false new = refl
-
 -- the next id is put behind those before it
 pub ids_more : (items : List Record) (k : ℕ) (item : Record) (old new : List ℕ) → k < length items
-    → item ≡ get_or items k item → old ≡ ids_of (take k items) → not (list_any (nat_eq item.id) old) ≡ true → new ≡ insert_key nat_eq old item.id
-    → new ≡ ids_of (take (k + 1) items)
-ids_more items k item old new within here is fresh inserted =
-    inserted ∙ insert_by old item.id (list_any (nat_eq item.id) old) fresh
-    ∙ ap (λ ids. ids ++ item.id ∷ []) is ∙ sym (rw add-one (ids_next items k item within here))
+    → item ≡ get_or items k item → old ≡ ids_of (take k items) → new ≡ old ++ item.id ∷ [] → new ≡ ids_of (take (k + 1) items)
+ids_more items k item old new within here is added =
+    added ∙ ap (λ ids. ids ++ item.id ∷ []) is ∙ sym (rw add-one (ids_next items k item within here))
 
 -- one more of two lists of records with the same ids
 pub same_more : (ones others : List Record) (k : ℕ) (one other : Record) → k < length ones

@@ -47,6 +47,24 @@ pub fn write_file<F: Folder>(folder: &mut F, name: &str, bytes: &[u8]) -> Result
     Ok(())
 }
 
+/// Writes the file of a database.
+pub fn write_database_file<F: Folder>(
+    alloc: Global,
+    folder: &mut F,
+    database: &Database,
+) -> Result<(), StoreFault>
+    ensures written { OnOk result (F.contents folder.new ≡ option_map (λ held.
+        finmap.insert held (file_names.database_file database.now.head) (canonical database.now))
+        (F.contents folder.old)) }
+    ensures text { OnOk result (IsFileText database.now (canonical database.now)) }
+    ensures change { OneChange F.contents F.moments F.paths F.faults folder.old folder.new
+        result (IsErrOf result StoreFault.KeeperFault) }
+    ensures stops { stops result ≡ is_err result }
+{
+    let file = file_of(alloc, database)?;
+    write_file(folder, file.name.as_str(), &file.bytes)
+}
+
 /// Removes one file of the folder. One that is missing is removed already.
 #[tactic(auto, using(hs_folders::proofs::MomentLaws::no_moment, hs_folders::proofs::MomentLaws::one_change, handheld_files::proofs::ChangeLaws::missing_is_gone))]
 pub fn remove_file<F: Folder>(folder: &mut F, name: &str) -> Result<(), StoreFault>

@@ -79,6 +79,7 @@ fn add_index(alloc: Global, indexes: &mut Vec<Index>, database: &Database)
 }
 
 // The ids of records in their order, where they differ and memory serves.
+#[tactic(auto, using(crate::proofs::IndexLaws::ids_more))]
 fn ids_in(alloc: Global, items: &[Record]) -> Option<IndexSet<u32>>
     ensures { IfSome result (λ ids. ids.keys ≡ ids_of items.now) }
 {
@@ -86,13 +87,18 @@ fn ids_in(alloc: Global, items: &[Record]) -> Option<IndexSet<u32>>
         return None;
     };
     for place in 0..items.len() {
-        match ids.insert(items[place].id.number()) {
-            Ok(true) => {}
-            Ok(false) => return None,
-            Err(_) => return None,
+        if !is_added(&mut ids, items[place].id.number()) {
+            return None;
         }
     }
     Some(ids)
+}
+
+// Puts an id behind the others. The answer is whether it is new and memory serves.
+fn is_added(ids: &mut IndexSet<u32>, id: u32) -> bool
+    ensures { result ≡ true → ids.new.keys ≡ ids.old.keys ++ id ∷ [] }
+{
+    matches!(ids.insert(id), Ok(true))
 }
 
 /// Puts the id of a new record behind those of the database of this name, where it has an index and
@@ -135,11 +141,8 @@ fn put_more(indexes: &mut Vec<Index>, index: Index, id: u32)
         → HasIdMore databases index id → AreIndexes databases indexes.new.items }
 {
     let Index { name, mut ids } = index;
-    match ids.insert(id) {
-        Ok(true) => {
-            let _added = indexes.push(Index { name, ids });
-        }
-        Ok(false) | Err(_) => {}
+    if is_added(&mut ids, id) {
+        let _added = indexes.push(Index { name, ids });
     }
 }
 

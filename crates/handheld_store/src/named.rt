@@ -1,7 +1,10 @@
 // The databases of a store by their names, and their files.
 ghost use Rattle.std.specs.Prelude.{◌≡◌, ◌≤◌, IfOk, IfSome, IsErrOf, IsSomeAnd, None, OnErr, OnOk, Ok, Some, false, is_err, length, option_and_then, true};
-ghost use Rattle.std.specs.Option.{option_copied};
+ghost use Rattle.std.specs.FinMap as finmap;
+ghost use Rattle.std.specs.Option.{option_copied, option_map};
 ghost use Rattle.hs_folders.specs.Moments.{OneChange};
+ghost use Rattle.pdb_files.specs.Files.{IsFileText, canonical};
+ghost use Rattle.folder_files.specs.FileNames as file_names;
 ghost use Rattle.pdb_values.specs.Databases.{DatabaseValue};
 ghost use Rattle.pdb_values.specs.NamedDatabases as named;
 ghost use Rattle.pdb_values.specs.NamedDatabases.{replaced, with_new, without_named};
@@ -17,7 +20,7 @@ ghost use Rattle.handheld_store.specs.Stores.{HasHead};
 
 use crate::copies::{are_same, copy_of};
 use crate::fault::StoreFault;
-use crate::files::{file_of, remove_database_file, write_file};
+use crate::files::{file_of, remove_database_file, write_database_file, write_file};
 use crate::placed::write_record;
 use hs_folders::Folder;
 use palm_device::has_bit;
@@ -172,9 +175,31 @@ pub fn put_database<F: Folder>(
     if are_same(&databases[place], &database) {
         return Ok(());
     }
-    let file = file_of(alloc, &database)?;
-    write_file(folder, file.name.as_str(), &file.bytes)?;
-    databases[place] = database;
+    match replace_database(alloc, folder, &mut databases[place], database) {
+        Ok(()) => Ok(()),
+        Err(fault) => Err(fault),
+    }
+}
+
+// Puts a database in the place of another one, and writes its file.
+fn replace_database<F: Folder>(
+    alloc: Global,
+    folder: &mut F,
+    held: &mut Database,
+    database: Database,
+) -> Result<(), StoreFault>
+    ensures put { OnOk result (held.new ≡ database) }
+    ensures stays { OnErr result (held.new ≡ held.old) }
+    ensures written { OnOk result (F.contents folder.new ≡ option_map (λ files.
+        finmap.insert files (file_names.database_file database.head) (canonical database))
+        (F.contents folder.old)) }
+    ensures text { OnOk result (IsFileText database (canonical database)) }
+    ensures change { OneChange F.contents F.moments F.paths F.faults folder.old folder.new
+        result (IsErrOf result StoreFault.KeeperFault) }
+    ensures stops { stops result ≡ is_err result }
+{
+    write_database_file(alloc, folder, &database)?;
+    *held = database;
     Ok(())
 }
 

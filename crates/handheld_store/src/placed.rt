@@ -1,19 +1,15 @@
 // Records that are written where they stand, with the file of their database.
 ghost use Rattle.std.specs.Prelude.{◌≡◌, ◌<◌, ◌++◌, ◌∷◌, [], IfSome, IsErrOf, None, OnErr, OnOk, Some, false, is_err, length, slice_get, slice_set};
-ghost use Rattle.std.specs.FinMap as finmap;
-ghost use Rattle.std.specs.Option.{option_map};
 ghost use Rattle.hs_folders.specs.Moments.{OneChange};
 ghost use Rattle.pdb_values.specs.Heads.{holds_resources};
-ghost use Rattle.pdb_files.specs.Files.{IsFileText, canonical};
 ghost use Rattle.palm_device.specs.Records as records;
 ghost use Rattle.palm_device.specs.Records.{with_records};
-ghost use Rattle.folder_files.specs.FileNames as file_names;
 ghost use Rattle.handheld_store.specs.Files.{Follows, HasText};
 ghost use Rattle.handheld_store.specs.Refusals.{stops};
 
 use crate::copies::same_record;
 use crate::fault::StoreFault;
-use crate::files::{file_of, write_file};
+use crate::files::write_database_file;
 use hs_folders::Folder;
 use pdb_values::{Content, Database, Record, RecordId};
 use std::alloc::Global;
@@ -154,22 +150,4 @@ fn replace_record(database: &mut Database, place: usize, item: Record) -> Record
         Some(held) => mem::replace(held, item),
         None => item,
     }
-}
-
-// Writes the file of a database.
-fn write_database_file<F: Folder>(
-    alloc: Global,
-    folder: &mut F,
-    database: &Database,
-) -> Result<(), StoreFault>
-    ensures written { OnOk result (F.contents folder.new ≡ option_map (λ held.
-        finmap.insert held (file_names.database_file database.now.head) (canonical database.now))
-        (F.contents folder.old)) }
-    ensures text { OnOk result (IsFileText database.now (canonical database.now)) }
-    ensures change { OneChange F.contents F.moments F.paths F.faults folder.old folder.new
-        result (IsErrOf result StoreFault.KeeperFault) }
-    ensures stops { stops result ≡ is_err result }
-{
-    let file = file_of(alloc, database)?;
-    write_file(folder, file.name.as_str(), &file.bytes)
 }
