@@ -285,16 +285,10 @@ pub entries_are : (change : DeskChange) (place : ℕ) {after lent : List SlotVal
     → after ≡ with_commit change place slots → now ≡ change_entries change place slots
 entries_are change place slots is_given is_before is_now is_lent is_after = grind (arith, common_steps, nat_tests)
 
-pub done_when : {change : DeskChange} {place : ℕ} {slots after lent : List SlotValue} {given : List DbChange} → IsPlace slots place → IsDeskChange change
-    → MayBear slots place change.marks → given ≡ change.databases.items → AllByRecursion IsDbWritten given → lent ≡ after
-    → after ≡ with_commit change place slots → IsDesktopFile (marks_of lent) (desktop_text (marks_of lent)) → IsDone change place slots
-done_when at is may is_given written is_lent is_after text = record {
-  at = at;
-  is = is;
-  may = may;
-  written = subst (AllByRecursion IsDbWritten) is_given written;
-  text = subst (λ (s : List SlotValue). IsDesktopFile (marks_of s) (desktop_text (marks_of s))) (is_lent ∙ is_after) text;
-}
+pub done_when : {change : DeskChange} {place : ℕ} {slots : List SlotValue} → IsPlace slots place → IsDeskChange change
+    → MayBear slots place change.marks → AllByRecursion IsDbWritten change.databases.items
+    → IsDesktopFile (marks_of (with_commit change place slots)) (desktop_text (marks_of (with_commit change place slots))) → IsDone change place slots
+done_when at is may written text = record { at = at; is = is; may = may; written = written; text = text }
 
 -- what holds of what a desktop is seen as
 pub seen : {F : Type 0} (P : DeskValue F → Type 0) {inside outside : DeskValue F} → inside ≡ outside → P inside → P outside

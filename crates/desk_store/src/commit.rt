@@ -1,5 +1,6 @@
 // Carrying out a change.
 ghost use Rattle.std.specs.Prelude.{◌≡◌, ◌≤◌, ◌⊎◌, ◌++◌, ◌∷◌, [], IfOk, IfSome, IsErrOf, OnErr, OnOk, Some};
+ghost use Rattle.std.specs.List.{AllByRecursion};
 ghost use Rattle.hs_folders.specs.Causes.{HasCause};
 ghost use Rattle.hs_folders.specs.Moments.{EachMomentSince};
 ghost use Rattle.folder_files.specs.InfoFiles.{IsDesktopFile, desktop_text};
@@ -8,7 +9,7 @@ ghost use Rattle.desk_journal.specs.Entries.{entry_values};
 ghost use Rattle.desk_journal.specs.Overlays.{FinishesAs, StandsAs};
 ghost use Rattle.desk_journal.specs.Steps.{GoesThrough, GoesThroughAll};
 ghost use Rattle.desk_store.specs.Changes as changes;
-ghost use Rattle.desk_store.specs.Changes.{IsDeskChange, MayBear, steps_of, with_commit};
+ghost use Rattle.desk_store.specs.Changes.{IsDbWritten, IsDeskChange, MayBear, steps_of, with_commit};
 ghost use Rattle.desk_store.specs.Desks.{IsDesk, IsPlace};
 ghost use Rattle.desk_store.specs.Shelves.{marks_of as marks_in, new_slot, number_of};
 
@@ -66,11 +67,34 @@ pub(crate) fn write_change<F: Folder>(
         (IsErrOf result CommitFault.DeskFault) }
     ensures paths { F.paths folder.new ≡ F.paths folder.old }
 {
+    let (entries, after) = files_of_change(alloc, slots, place, newcomer, change)?;
+    commit_files(alloc, folder, entries)?;
+    Ok(after)
+}
+
+// The files that a change of the slot at this place writes, and the slots of the desktop after it.
+fn files_of_change(
+    alloc: Global,
+    slots: Vec<DeskSlot>,
+    place: usize,
+    newcomer: DeskSlot,
+    change: DeskChange,
+) -> Result<(Vec<Entry>, Vec<DeskSlot>), AllocError>
+    requires formed { AreSlots (marks_in slots.items) }
+    requires place { IsPlace slots.items place }
+    requires newcomer { newcomer ≡ new_slot (number_of slots.items) }
+    requires marks { MayBear slots.items place change.marks }
+    ensures entries { IfOk result (λ made. entry_values made.0.items
+        ≡ changes.change_entries change place slots.items) }
+    ensures slots { IfOk result (λ made. made.1.items ≡ with_commit change place slots.items) }
+    ensures written { OnOk result (AllByRecursion IsDbWritten change.databases.items) }
+    ensures text { OnOk result (IsDesktopFile (marks_in (with_commit change place slots.items))
+        (desktop_text (marks_in (with_commit change place slots.items)))) }
+{
     let mut entries = database_entries(alloc, place, &change.databases)?;
     let after = put_change(slots, place, newcomer, change)?;
     push_slots(alloc, &mut entries, &after)?;
-    commit_files(alloc, folder, entries)?;
-    Ok(after)
+    Ok((entries, after))
 }
 
 // Appends the information file.
