@@ -15,8 +15,8 @@ use crate::component::{Origin, Source, push_closing, push_journal, push_opening}
 use crate::date::push_event;
 use crate::kind::Kind;
 use crate::task::push_todo;
-use palm_records::{BrokenRecords, ExportFault, Privacy, is_exported, read_task, shown_label};
 use palm_events::read_event;
+use palm_records::{BrokenRecords, ExportFault, Privacy, is_exported, read_task, shown_label};
 use pdb_values::{Database, DbHead, DbName, PalmDate, Record};
 use std::alloc::{AllocError, Global};
 

@@ -7,8 +7,8 @@ ghost use Rattle.record_merge.specs.Merging.{AreBounded};
 ghost use Rattle.session_plan.specs.Tasks.{records_of};
 
 use conduit_rules::{Seen, SeenState, View};
-use pdb_values::{Database, Kind, Record};
 use mirrors::in_order;
+use pdb_values::{Database, Kind, Record};
 use std::alloc::{AllocError, Global};
 
 /// The records of a database that may not be there.

@@ -9,9 +9,9 @@ ghost use Rattle.table_export.specs.declared.kind.Kind.TheVariants as rows;
 
 use calendar_export::{dates_text, tasks_text};
 use card_export::cards_text;
+use memo_texts::memos_text;
 use palm_records::{BrokenRecords, ExportFault, Privacy};
 use pdb_values::{Database, PalmDate};
-use memo_texts::memos_text;
 use run_words::{Export, ExportForm};
 use std::alloc::Global;
 use table_export::{addresses_table, tasks_table};

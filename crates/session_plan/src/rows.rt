@@ -9,8 +9,8 @@ ghost use Rattle.session_plan.specs.Rows as rows_of;
 
 use crate::archive::settled;
 use conduit_rules::{Plan, Seen, SeenState, View};
-use pdb_values::{Content, Record, RecordId};
 use mirrors::in_order;
+use pdb_values::{Content, Record, RecordId};
 use std::alloc::{AllocError, Global};
 
 // A row, as an entry of a view.
