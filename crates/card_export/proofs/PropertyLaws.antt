@@ -1,9 +1,9 @@
 -- The bytes of lines that are written piece by piece.
 use Rattle.std.proofs.Common.{arith, ◌≡◌, ◌∙◌, ◌<◌, ◌==◌, ap, refl, sym, ℕ, zero, suc, Bool, true, false, List, [], ◌∷◌, ◌++◌, append_assoc, length}
-use Rattle.std.proofs.lemmas.Str.{encodes-IsAscii, encodes-append}
+use Rattle.std.proofs.lemmas.Str.{encodes-append}
 use Rattle.std.proofs.Math.Utf8.{encode}
 use Rattle.std.specs.Prelude.{codes, encode_utf8_all, if◌then◌else◌}
-use Rattle.std.specs.Str.{IsAscii, chars}
+use Rattle.std.specs.Str.{chars}
 use Rattle.palm_records.specs.Characters.{char_of}
 use Rattle.content_lines.specs.Lines.{escaped, lines_text}
 use Rattle.content_lines.proofs.TextLaws.{lines_text-more}
@@ -118,9 +118,6 @@ unfolding chars
 begin_chars = refl
 
 -- ---- ASCII
-
-pub ascii_text : (line : List ℕ) → IsAscii line → line ≡ encode_utf8_all line
-ascii_text line ascii = sym (encodes-IsAscii line ascii)
 
 pub shown_text : (line value : List ℕ) → line ≡ codes "FN:" ++ value_text value → line ≡ encode_utf8_all (property (codes "FN:") value)
 unfolding encode

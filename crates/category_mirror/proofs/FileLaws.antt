@@ -8,8 +8,8 @@ use Rattle.desktop_session.specs.Requests.{reading_app}
 use Rattle.session_parts.proofs.LinkWords.{Act, AsksOne, LinkFault, SessionFault, SessionValue, Talk, acted, answer_by, said_in, saying}
 use Rattle.mirrors.specs.Asks.{Asks}
 use Rattle.mirrors.proofs.AskLaws.{asked_part, asks_then, none_said, one_said, said_all, said_part}
-use Rattle.category_mirror.specs.Blocks.{MergeValue, blocks_merge, written_block}
-use Rattle.category_mirror.specs.FilingActs.{IsMergeTold, app_told, block_in, block_or_none, filed_under, writes_where}
+use Rattle.category_mirror.specs.Blocks.{blocks_merge, written_block}
+use Rattle.category_mirror.specs.FilingActs.{app_told, block_in, block_or_none, filed_under, writes_where}
 use Rattle.mirrors.proofs.ReadLaws.{grown_untold}
 
 -- a block that was read
@@ -27,11 +27,6 @@ pub app_is : (o : Option Talk) (handle : ℕ) (reply : List ℕ) (block : Option
     → block_in reply ≡ block → IfSome o (λ talk. app_told talk.device handle ≡ block)
 app_is None handle reply block told is = tt
 app_is (Some talk) handle reply block told is = sym (ap block_in told) ∙ is
-
-pub merge_told : (o : Option Talk) (handle : ℕ) (rows_app block : Option (List ℕ)) (merge : Option MergeValue) → IfSome o (λ talk. app_told talk.device handle ≡ block)
-    → merge ≡ blocks_merge block rows_app → IsMergeTold rows_app o handle merge
-merge_told None handle rows_app block merge told is = tt
-merge_told (Some talk) handle rows_app block merge told is = is ∙ ap (λ b. blocks_merge b rows_app) (sym told)
 
 saying_untold : (xs ys : List Act) → saying xs None ≡ saying ys None
 unfolding saying

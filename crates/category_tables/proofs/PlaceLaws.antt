@@ -49,10 +49,6 @@ pub relabelled-map : (entries others : List Entry) (place number : ℕ) (d e : E
 relabelled-map entries others place number d e here there =
     rw (map-set, get_or-map entry_value others number d no_entry there, get_or-map entry_value entries place e no_entry here) refl
 
-pub filled-map : (entries others : List Entry) (place number : ℕ) (d : Entry) → number < length others
-    → map entry_value (set entries place (get_or others number d)) ≡ set (map entry_value entries) place (entry_at (map entry_value others) number)
-filled-map entries others place number d there = rw (map-set, get_or-map entry_value others number d no_entry there) refl
-
 -- ---- a table that is filled from number 0 on
 
 blank : Entry

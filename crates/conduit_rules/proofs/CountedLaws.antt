@@ -51,9 +51,6 @@ some_map : {A B : Type 0} (g : A → B) (o : Option A) → is_some o ≡ is_some
 some_map g None = refl
 some_map g (Some a) = refl
 
-abbrev placed_now : {A : Type 0} → ℕ × Bor A → ℕ × A
-placed_now e = (e.0, e.1.now)
-
 -- the first of the id in front is what is in front
 in_front : {A : Type 0} (id : A → ℕ) (list : List A) (n i : ℕ) (es : List (ℕ × A)) (o : Option (ℕ × Bor A)) → IsAhead id list n es → n ≤ i → IsFrom id i es
     → option_map (λ e. (e.0, e.1.now)) o ≡ front_under id i es

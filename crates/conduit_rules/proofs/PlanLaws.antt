@@ -1,6 +1,6 @@
 -- The lists of a plan: their ids rise, what is replaced is kept, and what is gone or deleted isn't.
 use Rattle.std.proofs.Common.{◌≡◌, ℕ, zero, suc, ◌≤◌, ◌&&◌, ◌||◌, ◌==◌, List, [], ◌∷◌, ◌++◌, refl, ap, ◌∙◌, arith, Option, None, Bool}
-use Rattle.std.proofs.Common.{map, if◌then◌else◌, nat_lt, append-nil, rules, sym, true, false, Some}
+use Rattle.std.proofs.Common.{map, if◌then◌else◌, nat_lt, append-nil, rules}
 use Rattle.std.specs.List.{list_any}
 use Rattle.std.specs.Option.{option_or}
 use Rattle.std.proofs.lemmas.Grind.{common_steps}
@@ -9,8 +9,8 @@ use Rattle.std.proofs.lemmas.List.{map-append}
 use Rattle.std.proofs.lemmas.List.Folds.{list_any-append}
 use Rattle.pdb_values.specs.Contents.{ContentValue}
 use Rattle.conduit_rules.specs.ById.{id_bound, each_below, with_id, at}
-use Rattle.conduit_rules.specs.States.{SideState, nothing, live, archived, live_of}
-use Rattle.conduit_rules.specs.Plans.{replacement, lost, is_purged, kept_rows, replaced_rows, gone_rows, purged_ids}
+use Rattle.conduit_rules.specs.States.{SideState}
+use Rattle.conduit_rules.specs.Plans.{replacement, kept_rows, replaced_rows}
 use Rattle.conduit_rules.proofs.ByIdLaws.{each_below-zero, each_below-suc}
 
 -- rising from a number on, and below another
@@ -76,57 +76,9 @@ pub has-each_below : (p : ℕ → Bool) (n j : ℕ) → has j (each_below (where
 has-each_below p zero j = ap (has j) (each_below-zero (where_true p)) ∙ grind (arith, nat_tests)
 has-each_below p (suc n) j = grind (arith, common_steps, nat_tests, each_below-suc, list_any-append, has_one, has-each_below p n j)
 
-replaced_where : (b : Bool) (k : Option ContentValue) (h : SideState) (c : ContentValue) → (if b then replacement k h else None) ≡ Some c
-    → (if b then k else None) ≡ Some c
-replaced_where false k h c e = e
-replaced_where true None h c e = e
-replaced_where true (Some x) nothing c e = e
-replaced_where true (Some x) (live y) c e = grind (arith, e)
-replaced_where true (Some x) (archived y) c e = e
-
--- what is replaced is kept, with that content
-pub replaced_is_kept : (keep : ℕ → Option ContentValue) (handheld : ℕ → SideState) (i : ℕ) (c : ContentValue) → at i (replaced_rows keep handheld) ≡ Some c
-    → at i (kept_rows keep) ≡ Some c
-replaced_is_kept keep handheld i c e =
-    at-each_below keep id_bound i
-    ∙ replaced_where (nat_lt i id_bound) (keep i) (handheld i) c (sym (at-each_below (λ j. replacement (keep j) (handheld j)) id_bound i) ∙ e)
-
-gone_where : (b : Bool) (k : Option ContentValue) (h : SideState) (c : ContentValue) → (if b then lost k h else None) ≡ Some c → (if b then k else None) ≡ None
-gone_where false k h c e = refl
-gone_where true None h c e = refl
-gone_where true (Some x) h c e = absurd (cc)
-
--- what is gone isn't kept
-pub gone_is_not_kept : (keep : ℕ → Option ContentValue) (handheld : ℕ → SideState) (i : ℕ) (c : ContentValue) → at i (gone_rows keep handheld) ≡ Some c
-    → at i (kept_rows keep) ≡ None
-gone_is_not_kept keep handheld i c e =
-    at-each_below keep id_bound i
-    ∙ gone_where (nat_lt i id_bound) (keep i) (handheld i) c (sym (at-each_below (λ j. lost (keep j) (handheld j)) id_bound i) ∙ e)
-
-purged_where : (b : Bool) (k : Option ContentValue) (h : SideState) → (b && is_purged k h) ≡ true
-    → ((if b then k else None) ≡ None) × ((if b then lost k h else None) ≡ live_of h)
-purged_where false k h e = absurd (cc)
-purged_where true None nothing e = absurd (cc)
-purged_where true None (live x) e = (refl, refl)
-purged_where true None (archived x) e = absurd (cc)
-purged_where true (Some c) h e = absurd (cc)
-
--- what is deleted isn't kept, and is gone with the content of the live record
-pub purged_is_gone : (keep : ℕ → Option ContentValue) (handheld : ℕ → SideState) (i : ℕ) → has i (purged_ids keep handheld) ≡ true
-    → (at i (kept_rows keep) ≡ None) × (at i (gone_rows keep handheld) ≡ live_of (handheld i))
-purged_is_gone keep handheld i e =
-    let both = purged_where (nat_lt i id_bound) (keep i) (handheld i) (sym (has-each_below (λ j. is_purged (keep j) (handheld j)) id_bound i) ∙ e) in
-    (at-each_below keep id_bound i ∙ both.0, at-each_below (λ j. lost (keep j) (handheld j)) id_bound i ∙ both.1)
-
 -- the ids of each list rise
 pub kept_rise : (keep : ℕ → Option ContentValue) → IsRisingFrom 0 (ids_of (kept_rows keep)) id_bound
 kept_rise keep = rising-with_id keep id_bound
 
 pub replaced_rise : (keep : ℕ → Option ContentValue) (handheld : ℕ → SideState) → IsRisingFrom 0 (ids_of (replaced_rows keep handheld)) id_bound
 replaced_rise keep handheld = rising-with_id (λ i. replacement (keep i) (handheld i)) id_bound
-
-pub gone_rise : (keep : ℕ → Option ContentValue) (handheld : ℕ → SideState) → IsRisingFrom 0 (ids_of (gone_rows keep handheld)) id_bound
-gone_rise keep handheld = rising-with_id (λ i. lost (keep i) (handheld i)) id_bound
-
-pub purged_rise : (keep : ℕ → Option ContentValue) (handheld : ℕ → SideState) → IsRisingFrom 0 (purged_ids keep handheld) id_bound
-purged_rise keep handheld = rising-where (λ i. is_purged (keep i) (handheld i)) id_bound

@@ -1,5 +1,5 @@
 -- A plan depends on what the view's entries are, and on nothing else of it.
-use Rattle.std.proofs.Common.{◌≡◌, ◌⊎◌, ⊎_elim, inl, inr, ◌↔◌, ℕ, zero, suc, ◌==◌, List, [], ◌∷◌, refl, ap, ◌∙◌, sym, arith, Option, Some, None, Bool, true}
+use Rattle.std.proofs.Common.{◌≡◌, ◌⊎◌, ⊎_elim, ℕ, zero, suc, ◌==◌, List, [], ◌∷◌, refl, ◌∙◌, sym, arith, Option, Some, None, Bool, true}
 use Rattle.std.proofs.Common.{false, not}
 use Rattle.std.proofs.Common.{◌&&◌}
 use Rattle.std.proofs.Common.{if◌then◌else◌, nat_lt, option_to_list, rules}
@@ -25,40 +25,12 @@ abbrev pub IdsDiffer : List Seen → Type 0
 IdsDiffer [] = Unit {0}
 IdsDiffer (x ∷ view) = (first_seen x.id view ≡ None) × IdsDiffer view
 
--- what is found is an entry, of that id
-found_entry : (i : ℕ) (view : List Seen) (s : Seen) → first_seen i view ≡ Some s → IsEntry s view × (s.id ≡ i)
-found_entry i [] s e = absurd (cc)
-found_entry i (x ∷ view) s e = found_by (x.id == i) i x view s refl e (found_entry i view s)
-  where
-    found_by : (b : Bool) (i : ℕ) (x : Seen) (view : List Seen) (s : Seen) → (x.id == i) ≡ b → first_seen i (x ∷ view) ≡ Some s
-        → (first_seen i view ≡ Some s → IsEntry s view × (s.id ≡ i)) → IsEntry s (x ∷ view) × (s.id ≡ i)
-    found_by true i x view s is e rest =
-        let here : Some x ≡ Some s = grind (arith, is, e) in
-        let same : x ≡ s = cc in
-        (inl same, sym (ap (λ (y : Seen). y.id) same) ∙ grind (arith, nat_tests, is))
-    found_by false i x view s is e rest =
-        let later : first_seen i view ≡ Some s = grind (arith, is, e) in
-        (inr (rest later).0, (rest later).1)
-
 -- an entry is found under its id
 entry_found : (view : List Seen) (s : Seen) → IdsDiffer view → IsEntry s view → first_seen s.id view ≡ Some s
 entry_found [] s differ entry = absurd entry
 entry_found (x ∷ view) s differ entry =
     ⊎_elim (λ (here : x ≡ s). grind (arith, nat_tests, here))
     (λ (later : IsEntry s view). grind (arith, nat_tests, entry_found view s differ.1 later, differ.0)) entry
-
--- views of the same entries show the same
-pub view_held-set : (v w : List Seen) → IdsDiffer v → IdsDiffer w → ((s : Seen) → IsEntry s v ↔ IsEntry s w) → (i : ℕ) → view_held v i ≡ view_held w i
-view_held-set v w differ differ_too same i = ap seen_where (go (first_seen i v) (first_seen i w) refl refl)
-  where
-    go : (a b : Option Seen) → first_seen i v ≡ a → first_seen i w ≡ b → first_seen i v ≡ first_seen i w
-    go (Some s) b in_v in_w =
-        let entry = found_entry i v s in_v in
-        in_v ∙ sym (ap (λ j. first_seen j w) (sym entry.1) ∙ entry_found w s differ_too ((same s).0 entry.0))
-    go None (Some s) in_v in_w =
-        let entry = found_entry i w s in_w in
-        ap (λ j. first_seen j v) (sym entry.1) ∙ entry_found v s differ ((same s).1 entry.0) ∙ sym in_w
-    go None None in_v in_w = in_v ∙ sym in_w
 
 -- views that show the same make the same sides, and so the same choice and the same plan
 pub sides-same : (v w : List Seen) (rows base : List Record) (gone_counts : Bool) → ((i : ℕ) → view_held v i ≡ view_held w i)

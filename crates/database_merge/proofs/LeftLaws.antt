@@ -1,9 +1,8 @@
 -- What a plan makes of both sides is what a session leaves.
-use Rattle.std.proofs.Common.{◌≡◌, ◌∙◌, ◌+◌, ◌<◌, ◌≤◌, ap, refl, sym, subst, ℕ, suc, Bool, true, false, List, [], ◌∷◌, ◌++◌, append_assoc, arith, length, nat_lt}
+use Rattle.std.proofs.Common.{◌≡◌, ◌∙◌, ◌+◌, ◌≤◌, ap, refl, sym, subst, ℕ, suc, true, false, List, [], ◌∷◌, ◌++◌, append_assoc, arith, length, nat_lt}
 use Rattle.std.specs.Prelude.{Option, Some, None}
 use Rattle.std.specs.Option.{option_or}
 use Rattle.std.proofs.lemmas.Bool.Decides.{nat_tests}
-use Rattle.std.proofs.lemmas.Bool.{lt-ltb}
 use Rattle.pdb_values.specs.Contents.{ContentValue}
 use Rattle.pdb_values.specs.Databases.{DatabaseValue}
 use Rattle.pdb_values.specs.declared.record.Record.{Record}
@@ -25,8 +24,8 @@ use Rattle.session_plan.specs.Sizes.{is_over}
 use Rattle.session_plan.specs.Tasks.{records_of}
 use Rattle.session_plan.proofs.RowLaws.{base-merged, rows-merged}
 use Rattle.palm_device.specs.Blocks.{empty_database}
-use Rattle.database_merge.specs.Carrying.{IsCarried, IsCarriedOn, carried_by, carry_peak, plan_peak, plan_sizes}
-use Rattle.database_merge.specs.Faults.{is_full, sizes_by}
+use Rattle.database_merge.specs.Carrying.{IsCarried, IsCarriedOn, carried_by, plan_peak, plan_sizes}
+use Rattle.database_merge.specs.Faults.{sizes_by}
 use Rattle.database_merge.specs.Merges.{IsLeft, IsLeftOf, IsMerged, left_by}
 use Rattle.database_merge.specs.Seeing.{AreOpened, merge_choice, shown, sides, skip_of, writes}
 use Rattle.database_merge.specs.declared.both_sides.BothSides.{BothSides}
@@ -46,18 +45,6 @@ settled_ids records is = ids_are (ids_of records) (and_parts (list_all (λ (item
 fits_with : (p r b a : ℕ) → p ≤ 65535 → is_over (record { handhelds = 0; desktops = 0; records = 0; rows = r; base = b; archive = a }) ≡ false
     → is_over (record { handhelds = 0; desktops = 0; records = p; rows = r; base = b; archive = a }) ≡ false
 fits_with p r b a small is = let few : nat_lt 65535 p ≡ false = grind (arith, nat_tests, small) in rw few is
-
-over_with : (p r b a : ℕ) → is_over (record { handhelds = 0; desktops = 0; records = 0; rows = r; base = b; archive = a }) ≡ true
-    → is_over (record { handhelds = 0; desktops = 0; records = p; rows = r; base = b; archive = a }) ≡ true
-over_with p r b a is = by (nat_lt 65535 p) refl
-  where
-    by : (large : Bool) → nat_lt 65535 p ≡ large
-        → is_over (record { handhelds = 0; desktops = 0; records = p; rows = r; base = b; archive = a }) ≡ true
-    by true large = rw large refl
-    by false large = rw large is
-
-over_peak : (p r b a : ℕ) → 65535 < p → is_over (record { handhelds = 0; desktops = 0; records = p; rows = r; base = b; archive = a }) ≡ true
-over_peak p r b a large = rw (lt-ltb 65535 p large) refl
 
 length-archive : (es : List (ℕ × ContentValue)) → length (archive_records es) ≡ length es
 length-archive [] = refl
@@ -87,20 +74,6 @@ sizes_planned both wishes plan records is =
       base = sym keeps i + sym adds i + sym gone i;
       archive = (sym (length-archive (merged_archive (merge_choice both wishes) (entries_of (records_of both.archive)))) ∙ sym archive) i;
     }
-
-pub full_plan : (both : BothSides) (wishes : MergeWishes) (plan : Plan) → IsPlan wishes.action (sides both wishes) plan
-    → is_over (plan_sizes plan both.archive) ≡ true → is_full both wishes ≡ true
-full_plan both wishes plan is large =
-    ap is_over (sizes_planned both wishes plan (records_of both.handheld) is)
-    ∙ over_with (length (after (replaces plan.replace.items) (records_of both.handheld)) + length plan.adds.items)
-    (plan_sizes plan both.archive).rows (plan_sizes plan both.archive).base (plan_sizes plan both.archive).archive large
-
-full_peak : (both : BothSides) (wishes : MergeWishes) (plan : Plan) (before : DatabaseValue) → IsPlan wishes.action (sides both wishes) plan
-    → records_of both.handheld ≡ before.records → 65535 < plan_peak plan before → is_full both wishes ≡ true
-full_peak both wishes plan before is same large =
-    ap is_over (ap (λ records. sizes_by (merge_choice both wishes) (shown both wishes) records (records_of both.archive)) same
-    ∙ sizes_planned both wishes plan before.records is)
-    ∙ over_peak (plan_peak plan before) (plan_sizes plan both.archive).rows (plan_sizes plan both.archive).base (plan_sizes plan both.archive).archive large
 
 -- ---- the handheld
 
@@ -183,16 +156,3 @@ carried-merged both wishes plan all goes carried = record {
   goes_on = goes.goes_on;
   is = left_by_sides both.handheld both.rows both.base both.archive wishes plan all goes carried;
 }
-
-full_by_sides : (handheld rows base archive : Option DatabaseValue) (wishes : MergeWishes) (plan : Plan)
-    → Goes (record { handheld = handheld; rows = rows; base = base; archive = archive }) wishes plan
-    → 65535 < carry_peak (record { handheld = handheld; rows = rows; base = base; archive = archive }) plan
-    → is_full (record { handheld = handheld; rows = rows; base = base; archive = archive }) wishes ≡ true
-full_by_sides (Some h) rows base archive wishes plan goes large =
-    full_peak (record { handheld = Some h; rows = rows; base = base; archive = archive }) wishes plan h goes.plan_is refl large
-full_by_sides None (Some r) base archive wishes plan goes large =
-    full_peak (record { handheld = None; rows = Some r; base = base; archive = archive }) wishes plan (new_database (made_head r.head)) goes.plan_is refl large
-full_by_sides None None base archive wishes plan goes large = absurd (omega (arith, large))
-
-pub full_carried : (both : BothSides) (wishes : MergeWishes) (plan : Plan) → Goes both wishes plan → 65535 < carry_peak both plan → is_full both wishes ≡ true
-full_carried both wishes plan goes large = full_by_sides both.handheld both.rows both.base both.archive wishes plan goes large

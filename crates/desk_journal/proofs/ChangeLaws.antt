@@ -12,7 +12,7 @@ use Rattle.hs_folders.specs.Moments.{Moments}
 use Rattle.desk_journal.specs.declared.entry.Entry.{Entry}
 use Rattle.desk_journal.specs.Entries.{AreEntries, EntryValue, IsJournal, entry_value, entry_values, is_named}
 use Rattle.desk_journal.specs.Overlays.{put_all}
-use Rattle.desk_journal.specs.Steps.{GoesThrough, GoesThroughAll, changed_in, commit_steps, has_bytes, is_changed}
+use Rattle.desk_journal.specs.Steps.{GoesThroughAll, changed_in, commit_steps, has_bytes, is_changed}
 use Rattle.desk_journal.proofs.OverlayLaws.{get-put_all, last_of, same_name, same_name-other, same_name-true}
 use Rattle.std.proofs.lemmas.Slice.Eq.{bytes_eq-Decides}
 use Rattle.hs_folders.proofs.FileTrees.{same_files}
@@ -174,13 +174,6 @@ one_entry (entry ∷ []) some few is = ap (λ (e : Entry). entry_value e ∷ [])
 one_entry (entry ∷ other ∷ entries) some few is = absurd (omega arith)
 
 -- ---- where contents are told
-
-pub told_steps : (told : Option FileMap) (entries changed : List EntryValue) {after : Option FileMap} {old new : Moments} → AreChanged told entries changed
-    → GoesThrough (commit_steps changed told) told after old new
-    → IfSome told (λ held. GoesThrough (commit_steps (changed_in held entries) (Some held)) (Some held) after old new)
-told_steps None entries changed are it = tt
-told_steps (Some held) entries changed {after} {old} {new} are it =
-    subst (λ (e : List EntryValue). GoesThrough (commit_steps e (Some held)) (Some held) after old new) are it
 
 pub told_all : (told : Option FileMap) (entries changed : List EntryValue) (old new : Moments) → AreChanged told entries changed
     → IfSome told (λ held. GoesThroughAll (commit_steps changed (Some held)) old new)

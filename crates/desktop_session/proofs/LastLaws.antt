@@ -1,5 +1,5 @@
 -- A refusal is by the last reply of the talk.
-use Rattle.std.proofs.Common.{◌≡◌, refl, sym, ap, subst, ℕ, Bool, true, false, cond, List, [], ◌∷◌, ◌++◌}
+use Rattle.std.proofs.Common.{◌≡◌, refl, sym, ap, subst, ℕ, Bool, true, false, cond, List, [], ◌∷◌}
 use Rattle.std.specs.Prelude.{◌==◌, Option, Some, None, IfErr, IfSome, Result, Ok, Err}
 use Rattle.dlp_requests.specs.Forms.{Form}
 use Rattle.dlp_requests.specs.RequestTexts.{IsRequest}
@@ -66,16 +66,6 @@ module _ {L : Type 0} {talk : L → Option Talk} {since : L → L → Type 0} {f
   error_by (session.BadReply function broken) asked is own =
       asked_last (IsBroken function broken) asked is.0 (record { own = own; breaks = is.1 })
   error_by other asked is own = tt
-
--- a link's fault is none of a reply
-pub last_of_link : (talk : Option Talk) (now : LinkFault) → IsByLastReply talk (fault_of now)
-last_of_link talk link.Down = tt
-last_of_link talk link.NoMemory = tt
-
-pub last_failed : (talk : Option Talk) (fault : Option LinkFault) (cause : SessionFault)
-    → ◌≡◌ {A = Result (Unit {0}) SessionFault} (Err cause) (answer_by fault (Ok tt)) → IsByLastReply talk cause
-last_failed talk None cause is = absurd cc
-last_failed talk (Some now) cause is = let same : cause ≡ fault_of now = cc in rw same (last_of_link talk now)
 
 -- the cause of an answer
 cause_said : {A : Type 0} (function : ℕ) (take : ReplyValue → A) (read : Result ReplyValue ReplyFault) (cause : SessionFault)

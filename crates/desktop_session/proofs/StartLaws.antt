@@ -167,9 +167,6 @@ last_is_start device k last flags entries half is = last_by (slice_get device.da
 pub more_follow : (read : Result ReplyValue ReplyFault) (start next : ℕ) → next_start start read ≡ Some next → has_more read ≡ true
 more_follow read start next goes = grind (arith, nat_tests, common_steps)
 
-pub next_above : (read : Result ReplyValue ReplyFault) (start next : ℕ) → next_start start read ≡ Some next → start < next
-next_above read start next goes = grind (arith, nat_tests, common_steps)
-
 pub next_below : (read : Result ReplyValue ReplyFault) (start next : ℕ) → next_start start read ≡ Some next → next < 65536
 next_below read start next goes = grind (arith, nat_tests, common_steps)
 

@@ -61,10 +61,6 @@ abbrev name_in : ReplyValue → List ℕ
 name_in (ReadUserInfo user viewer pc good last name password) = name
 name_in other = []
 
-abbrev password_in : ReplyValue → List ℕ
-password_in (ReadUserInfo user viewer pc good last name password) = password
-password_in other = []
-
 one_ok : {first user viewer pc good last : ℕ} {name password bytes : List ℕ}
     → IsOne first user_info user_sizes user_checks user_said (ReadUserInfo user viewer pc good last name password) bytes
     → (user_name_of name ≡ Some name) × (password_of password ≡ Some password)

@@ -9,7 +9,6 @@ use Rattle.slp_frames.specs.PacketText.{PacketValue}
 use Rattle.slp_frames.specs.Streams.{IsDrained}
 use Rattle.device_stream.specs.Courses.{BeginsWith, HasTalked, Hears}
 use Rattle.device_stream.specs.Hands.{Hand}
-use Rattle.device_stream.specs.Takings.{HasTaken}
 use Rattle.device_stream.specs.declared.talk_end.TalkEnd.{TalkEnd}
 use Rattle.device_state.specs.Hearing.{HearsBytes, ReadsUpTo}
 use Rattle.palm_device.proofs.TellingLaws.{none_where}
@@ -27,15 +26,6 @@ empty_by [] test = refl
 empty_by (x ∷ xs) test = let none = eqb-true (length (x ∷ xs)) 0 (sym test) in absurd (omega (arith, none))
 
 -- ---- what was heard
-
--- one packet that was taken, and the bytes behind which what was said stands
-pub talked-one : {old new : Hand} {packet : PacketValue} {text before after : List ℕ} → HasTaken old packet text new → after ≡ before ++ text
-    → HasTalked old new (Some before) (Some after) (packet ∷ [])
-talked-one {new = new} {before = before} taken is = record {
-  said = taken.said;
-  talks = (taken.said, [], new, sym (append-nil taken.said), taken.takes, (refl, refl));
-  wrote = ap Some (is ∙ ap (λ (t : List ℕ). before ++ t) taken.text_is);
-}
 
 module _ {old new : Hand} {said : List ℕ} where
   said_behind_none : {packets : List PacketValue} → (talked : HasTalked old new (Some []) (Some said) packets) → said ≡ said_text talked.said

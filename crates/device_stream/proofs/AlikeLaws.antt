@@ -1,17 +1,16 @@
 -- Hands that are alike say the same, and a talk has one form of parts.
-use Rattle.std.proofs.Common.{◌≡◌, ℕ, suc, ◌+◌, ◌%◌, Bool, true, false, List, [], ◌∷◌, ◌++◌, length, nat_lt, replicate, refl, sym, ap, subst, ◌∙◌, Option, Some, arith}
+use Rattle.std.proofs.Common.{◌≡◌, ℕ, suc, ◌+◌, ◌%◌, Bool, true, false, List, [], ◌∷◌, ◌++◌, length, nat_lt, refl, sym, ap, subst, ◌∙◌, Some, arith}
 use Rattle.std.proofs.Common.{if◌then◌else◌}
 use Rattle.std.proofs.lemmas.Bool.{and_parts, ltb-true}
 use Rattle.std.proofs.lemmas.List.{length-append, length-replicate}
 use Rattle.padp_end.proofs.PartLaws.{end_of-same}
 use Rattle.padp_end.specs.Ends.{EndValue, end_begins, end_expects, end_takes}
 use Rattle.padp_end.specs.Outgoings.{OutgoingFragment}
-use Rattle.padp_end.specs.Parts.{are_end_parts, end_of}
+use Rattle.padp_end.specs.Parts.{are_end_parts}
 use Rattle.padp_end.specs.declared.heard.Heard.{Heard}
 use Rattle.padp_end.specs.declared.heard.Heard.TheVariants as heard
 use Rattle.padp_link.specs.Neighbours.{session_id}
-use Rattle.palm_device.specs.Devices.{Device, with_handles}
-use Rattle.palm_device.specs.declared.opened.Opened.{Opened}
+use Rattle.palm_device.specs.Devices.{Device}
 use Rattle.slp_frames.specs.PacketText.{PacketValue}
 use Rattle.dlp_commands.specs.DeviceSteps.{served}
 use Rattle.device_stream.proofs.CourseLaws.{talks-then}
@@ -205,27 +204,6 @@ Talks-again first apart made new packets later said more talks alike rest =
     record { other = again.other; talks = talks-then first packets said apart later more again.other talks again.talks; alike = again.alike }
 
 -- ---- parts
-
-abbrev no_texts : ℕ → List (List ℕ)
-no_texts number = replicate number []
-
--- a number of requests, and as many texts of no bytes, are in the same round
-next_of-replicate : (number : ℕ) (texts : List (List ℕ)) → number ≡ length texts % 254
-    → session_id (length (no_texts number) + 1) ≡ session_id (length texts + 1)
-next_of-replicate number texts is =
-    let few : length (no_texts number) % 254 ≡ length texts % 254 = omega (arith, length-replicate {A = List ℕ}) in
-    session_id-next (length (no_texts number)) ∙ ap (λ (r : ℕ). r + 1) few ∙ sym (session_id-next (length texts))
-
--- what a talk is taken apart into
-pub hand_of-alike : (hand : Hand) (parts : TalkParts) → end_of parts.end ≡ hand.end → parts.handles ≡ hand.device.handles
-    → parts.number ≡ length hand.performed % 254 → parts.greeted ≡ hand.greeted → parts.over ≡ hand.over → Alike hand (hand_of hand.device parts)
-hand_of-alike hand parts end handles number greeted over = record {
-  device_is = ap (λ (h : List (Option Opened)). with_handles hand.device h) handles;
-  end_is = end;
-  greeted_is = greeted;
-  over_is = over;
-  next_is = next_of-replicate parts.number hand.performed number;
-}
 
 pub hand_of-same : (device other : Device) (x y : TalkParts) → are_talk_parts x ≡ true → are_talk_parts y ≡ true
     → Alike (hand_of device x) (hand_of other y) → SameTalkParts x y

@@ -95,9 +95,6 @@ text_again : (text bytes : List ℕ) → IsTextCell text bytes → text_in bytes
 unfolding text_in
 text_again text bytes is = grind (arith, nat_tests, common_steps)
 
-not_empty : (b : ℕ) (bytes text : List ℕ) → IsTextCell text [] → (let none : List ℕ = [] in none) ≡ b ∷ bytes
-not_empty b bytes text is = grind (arith, nat_tests, common_steps)
-
 short_text_takes : (limit : ℕ) (bytes : List ℕ) {text : List ℕ} → short_text_in limit bytes ≡ Some text → IsTextCell text bytes × (length text ≤ limit)
 unfolding short_text_in
 short_text_takes limit bytes {text} e =

@@ -1,12 +1,11 @@
 -- The replies of a device fit into a message.
 use Rattle.std.proofs.lemmas.Bool.Decides.{nat_tests}
 use Rattle.std.proofs.lemmas.Grind.{common_steps}
-use Rattle.std.proofs.Common.{◌≡◌, ◌+◌, ◌*◌, ◌≤◌, ℕ, Bool, true, false, List, [], ◌∷◌, ◌++◌, length, refl, arith, length-append}
-use Rattle.std.specs.Prelude.{◌==◌, if◌then◌else◌}
+use Rattle.std.proofs.Common.{◌≡◌, ◌+◌, ◌*◌, ◌≤◌, ℕ, false, List, [], ◌∷◌, ◌++◌, length, refl, arith, length-append}
+use Rattle.std.specs.Prelude.{◌==◌}
 use Rattle.std.specs.List.{flat_map, list_any}
 use Rattle.std.specs.Int.{w32, to_be_bytes}
-use Rattle.pdb_values.specs.PalmDates.{wire_date, wire_of}
-use Rattle.pdb_values.specs.declared.civil.CivilTime.{CivilTime}
+use Rattle.pdb_values.specs.PalmDates.{wire_date}
 use Rattle.pdb_values.specs.declared.head.DbHead.{DbHead}
 use Rattle.dlp_args.specs.Cells.{HasNoZero}
 use Rattle.dlp_args.specs.Arguments.{arg_text}
@@ -42,10 +41,6 @@ pub resource_fits : (kind : List ℕ) (id index size : ℕ) (bytes : List ℕ) �
 resource_fits kind id index size bytes four short = grind (arith, nat_tests, common_steps)
 
 -- ---- dates, names and lists
-
-date_by : (b : Bool) (time : CivilTime) → length (if b then 0 ∷ 0 ∷ 0 ∷ 0 ∷ 0 ∷ 0 ∷ 0 ∷ 0 ∷ [] else wire_of time) ≡ 8
-date_by true time = refl
-date_by false time = refl
 
 named_length : (name : List ℕ) → length (name_text name) ≤ length name + 1
 named_length name = grind (arith, nat_tests, common_steps)

@@ -1,6 +1,6 @@
 -- How the files of a copy grow, name by name, to all that a folder holds.
 use Rattle.std.proofs.lemmas.Grind.{common_steps}
-use Rattle.std.proofs.Common.{◌≡◌, ◌⊎◌, ◌∙◌, ◌+◌, ◌<◌, ◌≤◌, inl, inr, ◌++◌, ◌∷◌, ℕ, zero, suc, Bool, true, false, cond, List, [], ap, arith, refl, sym, take, map, length, get_or, add-one, rules}
+use Rattle.std.proofs.Common.{◌≡◌, ◌∙◌, ◌+◌, ◌<◌, ◌≤◌, inl, inr, ◌++◌, ◌∷◌, ℕ, zero, suc, Bool, true, false, cond, List, [], ap, arith, refl, sym, take, map, length, get_or, add-one, rules}
 use Rattle.std.specs.Prelude.{◌||◌, IfOk, Err, Ok, Result, Option, Some, None, IfSome, String, is_some, min, string_bytes}
 use Rattle.std.specs.declared.alloc.Global.{Global}
 use Rattle.std.proofs.lemmas.Bool.Decides.{nat_tests}
@@ -16,7 +16,7 @@ use Rattle.std.specs.declared.cmp.Ordering.TheVariants.{Less, Equal, Greater}
 use Rattle.hs_folders.specs.FileMaps.{FileMap}
 use Rattle.hs_folders.specs.Moments.{Moments, OnlyRead}
 use Rattle.hs_folders.specs.Causes.{Rose}
-use Rattle.folder_copies.specs.Copies.{HoldsNamed, IsCopy, TellsPaths, is_named, with_file}
+use Rattle.folder_copies.specs.Copies.{HoldsNamed, IsCopy, is_named, with_file}
 
 -- no name yet
 pub named_begin : (held : FileMap) {copied : Option FileMap} → copied ≡ Some finmap.empty → HoldsNamed [] held copied
@@ -151,21 +151,6 @@ pub copied_as : (told : Option FileMap) (names : List (List ℕ)) (failed : Bool
     → (failed ≡ true → Rose before now) → IsCopy told before now (cond failed None copied)
 copied_as told names true copied before now listed of rose = inr (refl, rose refl)
 copied_as told names false copied before now listed of rose = inl (whole told names copied listed (of refl))
-
-pub unopened_as : (failed : Bool) (opened : Option (List (List ℕ))) (before now : ℕ) → (failed ≡ false → opened ≡ Some []) → (failed ≡ true → Rose before now)
-    → TellsPaths before now (cond failed None opened)
-unopened_as true opened before now is rose = inr (refl, rose refl)
-unopened_as false opened before now is rose = inl (is refl)
-
--- no failure of a copy is counted where it tells a path
-pub steady_as : (failed : Bool) (opened : Option (List (List ℕ))) (count : ℕ) → (cond failed None opened ≡ None) ⊎ (cond failed count 0 ≡ 0)
-steady_as true opened count = inl refl
-steady_as false opened count = inr refl
-
--- a failure, and what was done behind it
-pub calm_as : (failed : Bool) (count : ℕ) → count ≡ 0 → cond failed count 0 ≡ 0
-calm_as true count none = none
-calm_as false count none = refl
 
 -- two facts of what was answered make another
 pub both_answered : {A E : Type 0} (P Q R : A → Type 0) (answer : Result A E) → ((a : A) → P a → Q a → R a) → IfOk answer P → IfOk answer Q → IfOk answer R

@@ -5,7 +5,7 @@ use Rattle.pdb_values.specs.Databases.{DatabaseValue}
 use Rattle.pdb_values.specs.NamedDatabases.{database_of}
 use Rattle.pdb_values.proofs.PlaceLaws.{find-position}
 use Rattle.palm_device.specs.Soundness.{ids_of}
-use Rattle.handheld_store.specs.Indexes.{AreIndexes, HasOneMore, IsIndexIn, is_of}
+use Rattle.handheld_store.specs.Indexes.{AreIndexes, HasOneMore, is_of}
 use Rattle.handheld_store.specs.declared.index.Index.{Index}
 use Rattle.handheld_store.proofs.IndexLaws.{found}
 use Rattle.handheld_files.proofs.FreshLaws.{get_some}
@@ -17,27 +17,6 @@ AreIndexes-remove databases [] zero are = tt
 AreIndexes-remove databases [] (suc place) are = tt
 AreIndexes-remove databases (index ∷ indexes) zero are = are.1
 AreIndexes-remove databases (index ∷ indexes) (suc place) are = (are.0, AreIndexes-remove databases indexes place are.1)
-
--- one more is put behind them
-AreIndexes-behind : (databases : List DatabaseValue) (indexes : List Index) (index : Index)
-    → AreIndexes databases indexes → IsIndexIn databases index → AreIndexes databases (indexes ++ index ∷ [])
-AreIndexes-behind databases [] index are is = (is, tt)
-AreIndexes-behind databases (first ∷ indexes) index are is = (are.0, AreIndexes-behind databases indexes index are.1 is)
-
--- where there is memory for it, an index that has one id more
-pub AreIndexes-put : (databases : List DatabaseValue) (indexes : List Index) (index index' : Index) (id : ℕ)
-    → index'.name ≡ index.name → index'.ids.keys ≡ index.ids.keys ++ id ∷ [] → AreIndexes databases indexes
-    → IfSome (database_of index.name databases) (λ (database : DatabaseValue). ids_of database.records ≡ index.ids.keys ++ id ∷ [])
-    → AreIndexes databases (indexes ++ index' ∷ [])
-AreIndexes-put databases indexes index index' id named added are more =
-    AreIndexes-behind databases indexes index' are
-    (subst (λ n. IfSome (database_of n databases) (λ (d : DatabaseValue). index'.ids.keys ≡ ids_of d.records)) (sym named)
-    (by index.ids.keys index'.ids.keys id (database_of index.name databases) added more))
-  where
-    by : (ids ids' : List ℕ) (id : ℕ) (new : Option DatabaseValue) → ids' ≡ ids ++ id ∷ []
-        → IfSome new (λ (d : DatabaseValue). ids_of d.records ≡ ids ++ id ∷ []) → IfSome new (λ (d : DatabaseValue). ids' ≡ ids_of d.records)
-    by ids ids' id None added more = tt
-    by ids ids' id (Some new) added more = added ∙ sym more
 
 more_by : (ids : List ℕ) (id : ℕ) (was new : Option DatabaseValue) → IfSome was (λ (d : DatabaseValue). ids ≡ ids_of d.records)
     → IsSomeAnd was (λ (w : DatabaseValue). IfSome new (λ (d : DatabaseValue). ids_of d.records ≡ ids_of w.records ++ id ∷ []))

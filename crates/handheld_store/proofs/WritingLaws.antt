@@ -1,37 +1,21 @@
 -- Records that are written into the database of a name.
-use Rattle.std.proofs.Common.{◌≡◌, ◌∙◌, ◌<◌, ◌||◌, ◌++◌, ◌∷◌, [], ℕ, Bool, true, false, cond, List, Option, Some, None, ap, length, refl, sym}
-use Rattle.std.specs.Prelude.{IfSome, IsSomeAnd, is_none, option_and_then, ◌==◌}
+use Rattle.std.proofs.Common.{◌≡◌, ◌∙◌, ◌++◌, ◌∷◌, [], ℕ, false, List, Option, Some, None, ap, refl, sym}
+use Rattle.std.specs.Prelude.{IfSome, IsSomeAnd, is_none, option_and_then}
 use Rattle.std.proofs.lemmas.List.{map-append}
 use Rattle.pdb_values.specs.Contents.{ContentValue}
 use Rattle.pdb_values.specs.Databases.{DatabaseValue}
-use Rattle.pdb_values.specs.Heads.{holds_resources}
 use Rattle.pdb_values.specs.NamedDatabases.{database_of, replaced}
 use Rattle.pdb_values.specs.declared.record.Record.{Record}
 use Rattle.pdb_values.proofs.NamedLaws.{database_of-name}
-use Rattle.palm_device.specs.Records.{given_id, is_new, new_record, place_of_id, put_record}
+use Rattle.palm_device.specs.Records.{new_record, place_of_id, put_record}
 use Rattle.palm_device.specs.Soundness.{ids_of}
 use Rattle.palm_device.proofs.RecordLaws.{put_record_new}
-use Rattle.handheld_store.specs.Ids.{IsTakenOrFree}
 use Rattle.handheld_store.specs.Indexes.{AreIndexes, HasOneMore}
 use Rattle.handheld_store.specs.Placed.{Takes, with_record}
 use Rattle.handheld_store.specs.declared.index.Index.{Index}
 use Rattle.handheld_store.proofs.IndexLaws.{AreIndexes-same, others-replaced}
 use Rattle.handheld_store.proofs.KeptLaws.{database_of-own}
 use Rattle.handheld_store.proofs.PlacedLaws.{ids_placed}
-
-new_by : (given id : ℕ) (items : List Record) (b : Bool)
-    → cond b given id ≡ given → place_of_id given items ≡ None → (b || is_none (place_of_id id items)) ≡ true
-new_by given id items true is none = refl
-new_by given id items false is none = cc
-
--- an id of a written record is its own or, where that is 0, a free one; so a new record has room
-pub takes_given : (given id : ℕ) (database : DatabaseValue) → holds_resources database.head.attributes ≡ false → (is_new id database.records ≡ true
-    → length database.records < 65535) → given_id given id ≡ given → IsTakenOrFree given database.records → Takes given database
-takes_given given id database records room is good = record {
-  records = records;
-  room = λ none. room (new_by given id database.records (id == 0) is none);
-  free = good;
-}
 
 -- ---- the indexes, once a record is written
 

@@ -1,13 +1,13 @@
 -- An answer of a call that exports, in one value.
 use Rattle.std.proofs.Common.{◌≡◌, ap, refl, sym, ℕ, Bool, true, false, List, Err, Ok}
-use Rattle.std.specs.Prelude.{IfErr, IfOk, Option, None, Some, Result, if◌then◌else◌}
+use Rattle.std.specs.Prelude.{IfErr, IfOk, Option, None, Some, Result}
 use Rattle.palm_records.specs.Choices.{BadItem}
 use Rattle.palm_records.specs.declared.choice.BrokenRecords.{BrokenRecords}
 use Rattle.palm_records.specs.declared.choice.Privacy.{Privacy}
 use Rattle.palm_records.specs.declared.choice.BrokenRecords.TheVariants.{Kept, Refused}
 use Rattle.palm_records.specs.declared.fault.ExportFault.{ExportFault}
 use Rattle.palm_records.specs.declared.fault.ExportFault.TheVariants as fault
-use Rattle.hotsync_looks.specs.ExportTexts.{NoText, SaysNoText, if_held, unless_bad}
+use Rattle.hotsync_looks.specs.ExportTexts.{SaysNoText, if_held, unless_bad}
 
 -- what is said where a call exports what a database holds, if it does
 module _ {T : Type 0} (bytes : T → List ℕ) (text : List ℕ) where
@@ -41,8 +41,3 @@ pub refusal_says_by : {T : Type 0} (bytes : T → List ℕ) (text : Privacy → 
     → IfErr result (SaysNoText (if_held held (unless_bad asked (bad wanted) (text wanted))))
 refusal_says_by bytes text bad held given wanted told asked result is_wanted is_asked none kind found =
     rw (← is_wanted, ← is_asked) (refusal_says bytes (text given) held told (bad given) result none kind found)
-
--- of two kinds the second is looked at where the database does not hold the first
-pub other_text : {T : Type 0} (bytes : T → List ℕ) (held : Bool) (one other : Result (List ℕ) NoText) (result : Result T ExportFault) → held ≡ false
-    → IfOk result (λ t. other ≡ Ok (bytes t)) → IfOk result (λ t. (if held then one else other) ≡ Ok (bytes t))
-other_text bytes held one other result is says = rw is says

@@ -9,7 +9,6 @@ use Rattle.std.specs.Option.{option_map}
 use Rattle.std.specs.Str.{bytes_eq}
 use Rattle.std.proofs.lemmas.Bool.{cond-false}
 use Rattle.std.proofs.lemmas.Map.Text.{is_eq-slice_cmp}
-use Rattle.std.proofs.lemmas.Slice.Eq.{bytes_eq-Decides}
 use Rattle.hs_folders.specs.FileMaps.{FileMap}
 use Rattle.pdb_values.specs.Databases.{DatabaseValue}
 use Rattle.pdb_values.specs.Heads.{holds_resources}
@@ -29,10 +28,6 @@ use Rattle.front_laws.specs.Meetings.{IsActive}
 use Rattle.hotsync_run.specs.Kept.{IsFileOfName, IsLeftAlone, KeepsBytes, bytes_under}
 
 -- ---- one file
-
-apart-by : (x y : List ℕ) → (x ≡ y → ⊥) → (b : Bool) → bytes_eq x y ≡ b → bytes_eq x y ≡ false
-apart-by x y other true is = absurd (other ((bytes_eq-Decides x y).0 is))
-apart-by x y other false is = is
 
 kept-insert : (held : FileMap) (file bytes name : List ℕ) → (name ≡ file → ⊥) → finmap.get (finmap.insert held file bytes) name ≡ finmap.get held name
 kept-insert held file bytes name other =

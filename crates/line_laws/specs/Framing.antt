@@ -4,7 +4,7 @@ use Rattle.std.specs.Prelude.{◌≡◌, ℕ, zero, suc, ◌+◌, false, ◌&&�
 use Rattle.std.specs.List.{AllByRecursion}
 use Rattle.trace_text.specs.Fates.{FateValue, arrives, ends_run}
 use Rattle.trace_text.specs.Frames.{BearsFragment, fragment_in, is_abort, past_of}
-use Rattle.trace_text.specs.Past.{PastFrame, is_end}
+use Rattle.trace_text.specs.Past.{PastFrame}
 use Rattle.trace_text.specs.Proper.{AreNumbered}
 use Rattle.trace_text.specs.TraceLines.{FrameValue}
 use Rattle.trace_text.specs.declared.frame.End.{End}
@@ -39,9 +39,3 @@ PassesFrame X zero (frame ∷ frames) after =
     (frame.from ≡ X) × (after ≡ record frame { came = arrives frame.fate } ∷ frames)
 PassesFrame X (suc place) (frame ∷ frames) after =
     (rest : List FrameValue) × (after ≡ frame ∷ rest) × PassesFrame X place frames rest
-
--- it is one of the other end
-abbrev pub PassesOther : End → ℕ → List FrameValue → Type 0
-PassesOther X place [] = ⊥
-PassesOther X zero (frame ∷ frames) = is_end X frame.from ≡ false
-PassesOther X (suc place) (frame ∷ frames) = PassesOther X place frames

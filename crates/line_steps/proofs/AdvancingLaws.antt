@@ -106,9 +106,6 @@ pub advances_turned : {wire : Wire} {x y : Half} {new : Wire} {later_x later_y :
     → Advances wire y x new later_y later_x
 advances_turned it = record { own = it.other; other = it.own }
 
-pub advances_refl : {wire : Wire} {x y : Half} → Advances wire x y wire x y
-advances_refl = search rules
-
 pub advances_more : {a : Wire} {ax ay : Half} {b : Wire} {bx by : Half} {c : Wire} {cx cy : Half} → Advances a ax ay b bx by → Advances b bx by c cx cy
     → Advances a ax ay c cx cy
 advances_more first second = search rules

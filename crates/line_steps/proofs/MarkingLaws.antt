@@ -1,16 +1,10 @@
 -- A frame is marked: nothing else of it changes, nor of what is told of the line.
 use Rattle.line_steps.proofs.Names.{◌≡◌, ℕ, zero, suc, ◌⊎◌, ◌+◌, ◌<◌, ◌≤◌, true, List, [], ◌∷◌, length, map, Some, refl, sym, ap, subst, ◌∙◌, slice_get}
-use Rattle.line_steps.proofs.Names.{slice_set, Frame, add_frame, past_behind, piece_count, PastFrame, said, acked, at, Talk, frame_value, LineAt, measure, Half, Wire}
+use Rattle.line_steps.proofs.Names.{Frame, add_frame, past_behind, piece_count, PastFrame, said, acked, at, Talk, frame_value, LineAt, measure, Half, Wire}
 use Rattle.line_steps.proofs.Names.{Heard, marked, Marks, past_now, side_of, AllGo, Holds, AllTaken, Delivers, cursor_of, TellsTalk, Talks, Underway}
 use Rattle.line_steps.proofs.Names.{StillUnderway, work_left}
 
 -- ---- frames
-
-pub marked_set : (frames : List Frame) (n : ℕ) {frame : Frame} → slice_get frames n ≡ Some frame
-    → slice_set frames n (record frame { came = true }) ≡ marked n frames
-marked_set [] n here = absurd cc
-marked_set (first ∷ later) zero {frame} here = (let same : frame ≡ first = cc in ap (λ (f : Frame). record f { came = true } ∷ later) same)
-marked_set (first ∷ later) (suc n) here = ap (λ (fs : List Frame). first ∷ fs) (marked_set later n here)
 
 pub marked_at : (frames : List Frame) (n : ℕ) {frame : Frame} → slice_get frames n ≡ Some frame
     → slice_get (marked n frames) n ≡ Some (record frame { came = true })

@@ -21,11 +21,6 @@ position_more : {X : Type 0} (test : X → Bool) (xs : List X) (x : X)
 position_more test [] x = grind (arith, position-cons)
 position_more {X} test (y ∷ ys) x = grind (arith, position-cons, position_more test ys x, later)
 
-take_suc : {A : Type 0} (xs : List A) (k : ℕ) {x : A} → slice_get xs k ≡ Some x → take (suc k) xs ≡ take k xs ++ x ∷ []
-take_suc [] k is = cc
-take_suc (y ∷ ys) zero {x} is = let same : y ≡ x = cc in cc
-take_suc (y ∷ ys) (suc k) is = cc (take_suc ys k is)
-
 length_take : {A : Type 0} (xs : List A) (k : ℕ) {x : A} → slice_get xs k ≡ Some x → length (take k xs) ≡ k
 length_take [] k is = cc
 length_take (y ∷ ys) zero is = refl

@@ -26,12 +26,6 @@ pub is_key-same : (last : Option Key) (key : Key) → last ≡ Some key → is_k
 is_key-same None key is = absurd cc
 is_key-same (Some other) key is = grind (arith, common_steps, nat_tests)
 
-pub is_key-apart : (last : Option Key) (key : Key) → (last ≡ Some key → ⊥) → is_key last key ≡ false
-is_key-apart last key apart = elim (cases_Bool (is_key last key)) [
-  | inl same ↦ absurd (apart (is_key-true last key same))
-  | inr differ ↦ differ
-]
-
 -- ---- data
 
 -- a repeat is acknowledged

@@ -1,7 +1,7 @@
 -- The place of the first that passes a test.
 use Rattle.std.proofs.lemmas.Bool.Decides.{nat_tests}
 use Rattle.std.proofs.lemmas.Grind.{common_steps}
-use Rattle.std.proofs.Common.{◌≡◌, ℕ, zero, suc, ◌+◌, ◌<◌, ◌≤◌, Bool, true, false, cond, List, [], ◌∷◌, length, Some, None, slice_get, arith, refl}
+use Rattle.std.proofs.Common.{◌≡◌, ℕ, zero, suc, ◌+◌, ◌<◌, ◌≤◌, Bool, true, cond, List, [], ◌∷◌, length, Some, None, slice_get, arith, refl}
 use Rattle.std.specs.Prelude.{find, is_some, not, option_and_then, position, nat_lt}
 use Rattle.std.specs.List.{position_or_len}
 use Rattle.std.specs.Option.{option_map}
@@ -39,12 +39,6 @@ place_past test xs none = grind (arith, nat_tests, common_steps, prefix_len-le-l
 
 pub first_here : (b : Bool) (n : ℕ) → cond (not b) (1 + n) 0 ≡ 0 → b ≡ true
 first_here b n is = grind arith
-
-pub first_later : (b : Bool) (n k : ℕ) → cond (not b) (1 + n) 0 ≡ suc k → (b ≡ false) × (n ≡ k)
-first_later b n k is = grind arith
-
-pub past_later : (b : Bool) (n len : ℕ) → suc len ≤ cond (not b) (1 + n) 0 → (b ≡ false) × (len ≤ n)
-past_later b n len is = grind arith
 
 -- ---- a search in a longer list
 

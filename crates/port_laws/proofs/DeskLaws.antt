@@ -61,9 +61,6 @@ no_ends : {X : Type 0} (xs ys : List X) → xs ++ ys ≡ [] → xs ≡ []
 no_ends [] ys is = refl
 no_ends (x ∷ xs) ys is = absurd cc
 
-nil_left : {X : Type 0} (xs : List X) → [] ++ xs ≡ xs
-nil_left xs = refl
-
 -- bytes that can't be in a packet are dropped
 pub desk_drops : (stage : Stage) (end : EndValue) (held now : List ℕ) (palm : Palm) → Stands stage end held palm → Continues held [] now
     → Stands stage end now palm

@@ -3,11 +3,10 @@
 -- sent; the handheld knows a repeat, performs a whole request once and says its reply under the
 -- request's transaction until it is acknowledged; it answers as its device's table says, and
 -- changes by nothing but requests. It may break down at any request, which it leaves undone.
-use Rattle.std.specs.Prelude.{◌≡◌, ◌≤◌, ℕ, Bool, true, false, ◌&&◌, not, nat_eq, is_none, List, [], ◌∷◌, ◌++◌, length, Option, Some, None, if◌then◌else◌}
+use Rattle.std.specs.Prelude.{◌≡◌, ◌≤◌, ℕ, Bool, true, false, ◌&&◌, not, nat_eq, is_none, List, [], ◌∷◌, ◌++◌, length, Option, Some, None}
 use Rattle.port_laws.specs.Cables.{packets_of}
 use Rattle.device_stream.specs.Hands.{Hand, waited_by, with_end}
 use Rattle.device_stream.specs.Talks.{Takes}
-use Rattle.dlp_commands.specs.Talks.{Talk, fresh}
 use Rattle.padp_end.specs.Ends.{end_takes}
 use Rattle.padp_end.specs.Outgoings.{OutgoingFragment}
 use Rattle.padp_link.specs.Receivers.{is_awaited}
@@ -133,11 +132,6 @@ is_woken hand =
 -- and nothing is under way
 abbrev pub is_first : Palm → Bool
 is_first palm = is_woken palm.hand && is_nil palm.toward && is_nil palm.back && is_nil palm.part
-
--- what a link tells that begins over a port of which this is told
-abbrev pub first_talk : Option Palm → Option Talk
-first_talk None = None
-first_talk (Some palm) = if is_first palm then Some (fresh palm.hand.device) else None
 
 -- a palm that is told is a first one
 abbrev pub IsFirstTold : Option Palm → Type 0

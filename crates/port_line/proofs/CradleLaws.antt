@@ -74,12 +74,6 @@ ticks-waited {old} {new} text is text_is toward coming =
     moves-once (Repeats (ap (λ (h : Hand). palm_with h toward (with_packets coming (scan text))) is
     ∙ ap (λ (ps : List PacketValue). palm_with (waited_by old).1 toward (with_packets coming ps)) scanned_is))
 
-pub ticks-nothing : {old new : Hand} (text : List ℕ) → new ≡ old → text ≡ [] → Ticks old (scan text) new
-ticks-nothing {old} {new} text same none toward coming =
-    subst (λ (h : Hand). MovesOn (palm_with old toward coming) (palm_with h toward (with_packets coming (scan text)))) (sym same)
-    (subst (λ (c : ComingValue). MovesOn (palm_with old toward coming) (palm_with old toward c)) (sym (with-none coming text none))
-    (moves-itself (palm_with old toward coming)))
-
 -- ---- the cradle
 
 -- of what is said the first packets come, and the others are lost
@@ -142,19 +136,6 @@ gives_behind {hand} {toward} {bytes} {first} {was} {old} {new} moves loses part 
   part_open = gives.part_open;
   hand_is = refl;
   toward_is = refl;
-}
-
--- other things happened before
-pub gives_later : {bytes : List ℕ} {a b c : Palm} → MovesOn a b → Gives bytes b c → Gives bytes a c
-gives_later first gives = record {
-  between = gives.between;
-  moves = moves-then first gives.moves;
-  packets = gives.packets;
-  back_is = gives.back_is;
-  continues = gives.continues;
-  part_open = gives.part_open;
-  hand_is = gives.hand_is;
-  toward_is = gives.toward_is;
 }
 
 -- nothing comes

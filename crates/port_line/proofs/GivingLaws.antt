@@ -37,24 +37,6 @@ pub front-none : (packets : List PacketValue) → front_of 0 packets ≡ []
 front-none [] = refl
 front-none (packet ∷ later) = refl
 
-pub front-more : (given : ℕ) (packets more : List PacketValue) → (packets ≡ [] → given ≡ 0) → front_of given (packets ++ more) ≡ front_of given packets
-front-more given [] more none = ap (λ (n : ℕ). front_of n more) (none refl) ∙ front-none more
-front-more given (packet ∷ later) more none = refl
-
--- packets are put behind the others
-pub given-put : (given : ℕ) (packets more : List PacketValue) → IsGiven given packets → IsGiven given (packets ++ more)
-given-put given packets more is = record {
-  part_open = ap scan (front-more given packets more is.none) ∙ is.part_open;
-  none = λ nothing. is.none (nil-front packets nothing);
-} where
-  nil-front : (xs : List PacketValue) → (xs ++ more) ≡ [] → xs ≡ []
-  nil-front [] is = refl
-  nil-front (x ∷ xs) is = cc
-
--- nothing came of any
-pub given-nothing : (packets : List PacketValue) → IsGiven 0 packets
-given-nothing packets = record { part_open = ap scan (front-none packets); none = λ nothing. refl }
-
 -- ---- bytes of the first packet
 
 -- the rest of it comes

@@ -18,7 +18,7 @@ use Rattle.port_link.specs.Courses.{Course, Happens, Holds, HoldsNext, IsHeard, 
 use Rattle.port_link.specs.Desks.{Event, Awaits, Begins, Came, Read, desk_after, reacts}
 use Rattle.port_link.specs.Listening.{GoesThrough, is_over}
 use Rattle.port_link.specs.Logs.{EntryValue, entries_at, logged}
-use Rattle.port_link.proofs.TellLaws.{tells-failed, tells-nothing, tells-then, written-none, written-then}
+use Rattle.port_link.proofs.TellLaws.{tells-failed, tells-then, written-none, written-then}
 
 -- ---- what a reader holds
 
@@ -59,15 +59,6 @@ through-then awaited desk (first ∷ es) event through heard goes =
     (through.0, through.1, through-then awaited (reacts desk first).desk es event through.2 heard goes)
 
 -- ---- courses
-
-pub course-itself : (a : Scene) → Course [] None a a
-course-itself a = record {
-  holds = continues_start a.held;
-  given = written-none a.given;
-  desk = refl;
-  tells = tells-nothing a.taken a.log;
-  palms = refl;
-}
 
 pub course-then : {fault : Option PortFault} {a b c : Scene} {es fs : List Event} → Course es None a b → Course fs fault b c → Course (es ++ fs) fault a c
 course-then {fault} {a} {b} {c} {es} {fs} first next = record {

@@ -46,9 +46,6 @@ pub record Met (was : Hand) (end : EndValue) (held : List ℕ) (told : Option Pa
 pub met_waking : (was : Hand) (end : EndValue) (held : List ℕ) (told : Option Palm) → Stood (Waking was) end held told → Met was end held told
 met_waking was end held told stood = record { palm = stood.palm; told_is = stood.told_is; did = stood.stands.at.did }
 
-pub met_woken : (was : Hand) (end : EndValue) (held : List ℕ) (told : Option Palm) → Stood (Woken was) end held told → Met was end held told
-met_woken was end held told stood = record { palm = stood.palm; told_is = stood.told_is; did = stood.stands.at.waking.did }
-
 pub met_greeting : (was : Hand) (end : EndValue) (held : List ℕ) (told : Option Palm) → Stood (Greeting was) end held told → Met was end held told
 met_greeting was end held told stood = record { palm = stood.palm; told_is = stood.told_is; did = stood.stands.at.did }
 

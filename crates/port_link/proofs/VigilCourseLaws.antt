@@ -237,11 +237,6 @@ pub refused-sudden : (fault : PortFault) → IsSudden (end_of_port fault)
 refused-sudden port.Failed = tt
 refused-sudden port.NoMemory = tt
 
-pub over-sudden : (over : TalkEnd) → IsSudden (end_of_talk over)
-over-sudden talk.Ended = tt
-over-sudden talk.Aborted = tt
-over-sudden talk.BadHello = tt
-
 pub unserved-sudden : (fault : ServeFault) → IsSudden (end_of_fault fault)
 unserved-sudden serve.Keeper = tt
 unserved-sudden serve.NoMemory = tt

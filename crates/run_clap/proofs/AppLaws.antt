@@ -1,5 +1,5 @@
 -- The command of a form, made argument by argument.
-use Rattle.std.proofs.Common.{◌≡◌, ◌<◌, ◌≤◌, ◌+◌, ℕ, zero, suc, List, [], ◌∷◌, ◌++◌, length, map, drop, get_or, append-nil, append_assoc, refl, sym, ap, ◌∙◌, arith}
+use Rattle.std.proofs.Common.{◌≡◌, ◌+◌, List, [], ◌∷◌, ◌++◌, map, append-nil, append_assoc, refl, sym, ap, ◌∙◌}
 use Rattle.clap.specs.Words.{App, Rule, with_rule}
 use Rattle.run_clap.specs.Apps.{empty_app, flag_rule, form_app, form_rules, option_rule, plain_rule, with_rules}
 use Rattle.run_words.specs.Forms.{WordFormValue}
@@ -7,24 +7,6 @@ use Rattle.run_words.specs.Forms.{WordFormValue}
 pub with_rules-append : (app : App) (xs ys : List Rule) → with_rules app (xs ++ ys) ≡ with_rules (with_rules app xs) ys
 with_rules-append app [] ys = refl
 with_rules-append app (x ∷ xs) ys = with_rules-append (with_rule app x) xs ys
-
--- one more argument of the list
-pub with_rules_step : {X Y : Type 0} (f : Y → Rule) (g : X → Y) (xs : List X) (i : ℕ) (x : X) (app more : App) → i < length xs → x ≡ get_or xs i x
-    → more ≡ with_rule app (f (g x)) → with_rules more (map f (map g (drop (i + 1) xs))) ≡ with_rules app (map f (map g (drop i xs)))
-with_rules_step f g [] i x app more lt at is = absurd (omega arith)
-with_rules_step f g (y ∷ xs) zero x app more lt at is =
-    ap (λ (a : App). with_rules a (map f (map g xs))) (is ∙ ap (λ z. with_rule app (f (g z))) at)
-with_rules_step f g (y ∷ xs) (suc i) x app more lt at is =
-    let next : suc i + 1 ≡ suc (i + 1) = omega arith in
-    rw next (with_rules_step f g xs i x app more (omega arith) at is)
-
--- and none is left
-pub with_rules_end : {X Y : Type 0} (f : Y → Rule) (g : X → Y) (xs : List X) (i : ℕ) (app : App) → length xs ≤ i
-    → with_rules app (map f (map g (drop i xs))) ≡ app
-with_rules_end f g [] zero app le = refl
-with_rules_end f g [] (suc i) app le = refl
-with_rules_end f g (x ∷ xs) zero app le = absurd (omega arith)
-with_rules_end f g (x ∷ xs) (suc i) app le = with_rules_end f g xs i app (omega arith)
 
 -- the arguments come behind those that are there
 with_rules-are : (app : App) (xs : List Rule)

@@ -1,8 +1,8 @@
 -- What a session planned is what a desktop takes.
 use Rattle.std.proofs.lemmas.Bool.{and_parts}
-use Rattle.std.proofs.Common.{◌≡◌, ◌∙◌, ◌<◌, ◌≤◌, ◌-◌, ◌%◌, ap, refl, subst, ◌⊎◌, ℕ, zero, suc, Bool, true, false, List, [], ◌∷◌, ◌++◌}
+use Rattle.std.proofs.Common.{◌≡◌, ◌∙◌, ◌<◌, ◌≤◌, ◌-◌, ap, refl, subst, ℕ, zero, suc, Bool, true, false, List, [], ◌∷◌, ◌++◌}
 use Rattle.std.proofs.Common.{arith, length, map, get_or}
-use Rattle.std.specs.Prelude.{◌==◌, Option, Some, None, IfSome, if◌then◌else◌, is_none, is_some}
+use Rattle.std.specs.Prelude.{Option, Some, None, IfSome, if◌then◌else◌, is_none, is_some}
 use Rattle.std.specs.Global.{Vec}
 use Rattle.std.specs.List.{list_all}
 use Rattle.pdb_values.specs.Databases.{DatabaseValue}
@@ -10,11 +10,9 @@ use Rattle.pdb_values.specs.NamedDatabases.{NamesRise, comes_before, database_of
 use Rattle.pdb_values.specs.declared.head.DbHead.{DbHead}
 use Rattle.pdb_values.specs.declared.record.Record.{Record}
 use Rattle.conduit_rules.specs.declared.planned.Plan.{Plan}
-use Rattle.palm_device.specs.Blocks.{empty_database}
 use Rattle.desk_store.specs.Shelves.{ShelvesValue}
 use Rattle.desk_store.specs.declared.change.DbChange.{DbChange}
 use Rattle.session_plan.specs.Fits.{AreOfSession, AreTakeable, IsTakeable, Rise, TakesPlan, names_planned}
-use Rattle.session_plan.specs.Heads.{rows_head}
 use Rattle.session_plan.specs.Jobs.{job_of, jobs_of, names_with}
 use Rattle.session_plan.specs.PlannedLimits.{unskipped}
 use Rattle.session_plan.specs.Takes.{change_from, change_of, change_unless, changes_of, each_of, rows_begun}
@@ -52,13 +50,6 @@ pub takes-rows : (date : ℕ) (shelves : ShelvesValue) (one : Planned) (given : 
     → is_some one.job.skip ≡ false → database_of one.job.name shelves.rows ≡ Some rows → TakesPlan one.job.name one.plan given rows
 takes-rows date shelves one given rows takes active there =
     subst (λ o. IfSome (rows_begun date o one.job.handheld) (TakesPlan one.job.name one.plan given)) there (takes (none_where one.job.skip active))
-
-pub takes-head : (date : ℕ) (shelves : ShelvesValue) (one : Planned) (given : List ℕ) (head : DbHead) → IsTakeable date shelves one given
-    → is_some one.job.skip ≡ false → database_of one.job.name shelves.rows ≡ None → one.job.handheld ≡ Some head
-    → TakesPlan one.job.name one.plan given (empty_database (rows_head date head))
-takes-head date shelves one given head takes active none is =
-    subst (λ h. IfSome (rows_begun date None h) (TakesPlan one.job.name one.plan given)) is
-    (subst (λ o. IfSome (rows_begun date o one.job.handheld) (TakesPlan one.job.name one.plan given)) none (takes (none_where one.job.skip active)))
 
 -- ---- at a place
 

@@ -6,13 +6,13 @@ use Rattle.std.proofs.Math.Seq.{drop-length}
 use Rattle.std.proofs.lemmas.Bool.Decides.{nat_tests}
 use Rattle.std.proofs.lemmas.Bool.{cases_lt}
 use Rattle.std.proofs.lemmas.List.{drop_all, drop_more}
-use Rattle.std.specs.Prelude.{◌==◌, if◌then◌else◌, is_none, is_some, min, nat_lt, not, position}
+use Rattle.std.specs.Prelude.{if◌then◌else◌, is_none, is_some, min, nat_lt, not, position}
 use Rattle.std.specs.List.{position_or_len}
 use Rattle.session_plan.proofs.PlanWords.{ContentValue, ShelvesValue, Planned}
 use Rattle.pdb_values.proofs.PlaceLaws.{place_found, place_past}
 use Rattle.conduit_rules.specs.declared.view.Seen.{Seen}
 use Rattle.session_plan.specs.Limits.{with_one}
-use Rattle.session_plan.specs.PlannedLimits.{begins_with, entries_from, one_unless, over_planned, past_room, sizes_planned, unseen_count}
+use Rattle.session_plan.specs.PlannedLimits.{begins_with, entries_from, one_unless, over_planned, sizes_planned, unseen_count}
 use Rattle.session_plan.specs.Sizes.{is_over}
 use Rattle.desktop_session.proofs.GrowLaws.{take_whole}
 
@@ -160,27 +160,3 @@ unfolding over_planned
 over_end shelves planned k a b past = ap (over_planned shelves a b) (drop_all k planned past)
 
 -- ---- how many there are
-
-room_on : (planned : List Planned) (k : ℕ) (one : Planned) (room : ℕ) → k < length planned → one ≡ get_or planned k one
-    → past_room room (drop k planned)
-    ≡ (if is_some one.job.skip then past_room room (drop (k + 1) planned)
-    else (if room == 0 then Some one.job.name else past_room (room - 1) (drop (k + 1) planned)))
-room_on planned k one room below is = ap (past_room room) (drop_at planned k one below is)
-
--- one that is skipped takes no room
-pub room_passed : (planned : List Planned) (k : ℕ) (one : Planned) (room : ℕ) → k < length planned → one ≡ get_or planned k one
-    → is_none one.job.skip ≡ false → past_room room (drop (k + 1) planned) ≡ past_room room (drop k planned)
-room_passed planned k one room below is skips = sym (rw (room_on planned k one room below is, skipped one.job.skip skips) refl)
-
--- another one does
-pub room_taken : (planned : List Planned) (k : ℕ) (one : Planned) (room : ℕ) → k < length planned → one ≡ get_or planned k one
-    → is_none one.job.skip ≡ true → (room == 0) ≡ false → past_room (room - 1) (drop (k + 1) planned) ≡ past_room room (drop k planned)
-room_taken planned k one room below is active some = sym (rw (room_on planned k one room below is, not_skipped one.job.skip active, some) refl)
-
--- and where there is none it is that one
-pub room_full : (planned : List Planned) (k : ℕ) (one : Planned) (room : ℕ) → k < length planned → one ≡ get_or planned k one
-    → is_none one.job.skip ≡ true → (room == 0) ≡ true → past_room room (drop k planned) ≡ Some one.job.name
-room_full planned k one room below is active none = rw (room_on planned k one room below is, not_skipped one.job.skip active, none) refl
-
-pub room_end : (planned : List Planned) (k room : ℕ) → length planned ≤ k → past_room room (drop k planned) ≡ None
-room_end planned k room past = ap (past_room room) (drop_all k planned past)

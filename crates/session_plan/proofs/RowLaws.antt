@@ -3,7 +3,6 @@ use Rattle.std.proofs.Common.{◌≡◌, ◌∙◌, ◌<◌, ◌+◌, ◌==◌, 
 use Rattle.std.proofs.Common.{◌∷◌, ◌++◌, map, take, length, get_or, append_assoc, arith}
 use Rattle.std.proofs.lemmas.List.{length-take-le, map-append}
 use Rattle.std.specs.Prelude.{Option, Some, nat_lt, option_to_list, if◌then◌else◌}
-use Rattle.std.specs.Option.{option_or}
 use Rattle.session_plan.proofs.PlanWords.{ContentValue, IsPlan, Plan}
 use Rattle.pdb_values.specs.declared.record.Record.{Record}
 use Rattle.conduit_rules.specs.ById.{at, each_id, id_bound, with_id}
@@ -67,11 +66,6 @@ settled-ordered es =
     ∙ sym (map-each_below settled_record (λ i. with_id i (at i es)) id_bound)
 
 -- ---- from a plan
-
-at_by : {A : Type 0} (b : Bool) (x : A) (all first last : Option A) → all ≡ option_or first last
-    → (if b then Some x else all) ≡ option_or (if b then Some x else first) last
-at_by true x all first last later = refl
-at_by false x all first last later = later
 
 merged_at : (a : Action) (s : Sides) (plan : Plan) (given : List ℕ) (i : ℕ) → IsPlan a s plan → i < id_bound
     → with_id i (at i (row_entries plan given)) ≡ with_id i (row_at (choice_for a s) given i)

@@ -55,10 +55,6 @@ adds_of meeting = sum_by (add_count meeting) (active meeting)
 unfoldable pub requests : Meeting → List (List ℕ)
 requests meeting = map text (session meeting (replicate (adds_of meeting) 0))
 
--- those that write: the marks, and what databases get and lose
-unfoldable pub plan_writes : Meeting → List (List ℕ)
-plan_writes meeting = filter changes (requests meeting)
-
 -- how many of them stand before the desktop's commit
 unfoldable pub writes_before_commit : Meeting → ℕ
 writes_before_commit meeting =

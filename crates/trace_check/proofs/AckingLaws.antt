@@ -19,7 +19,7 @@ use Rattle.trace_check.specs.Acking.{numbered_value, data_came, answered_of, IsR
 use Rattle.trace_check.specs.declared.acking.Acks.{Acks}
 use Rattle.trace_check.specs.declared.came.DataCame.{DataCame}
 use Rattle.trace_check.proofs.CameLaws.{StandsIn, data_came-stand, data_came-numbered, reached-reaches, reaches-reached}
-use Rattle.trace_check.proofs.RepeatsLaws.{repeats-none, repeats-more}
+use Rattle.trace_check.proofs.RepeatsLaws.{repeats-more}
 
 -- ---- which are answered
 
@@ -163,11 +163,6 @@ pub record Acked (X Y : End) (came : ℕ → Bool) (data_frames : List DataCame)
   pub inside : acks.acked ≤ length data_frames
   pub acked : AcksAreFor Y came past (answered_of data_frames acks.acked)
   pub bear : AllByRecursion BearsFragment left
-
-pub acked-first : (X Y : End) (came : ℕ → Bool) (data_frames : List DataCame) (frames : List FrameValue) → AllByRecursion BearsFragment frames
-    → Acked X Y came data_frames frames 0 (record { repeats = record { handheld = None; desktop = None; newest = 0; count = 0 }; acked = 0 }) frames
-acked-first X Y came data_frames frames bear =
-    record { past = []; all = refl; short = omega arith; is = repeats-none; inside = omega arith; acked = refl; bear = bear }
 
 module _ (X Y : End) (came : ℕ → Bool) (data_frames : List DataCame) (frames : List FrameValue) where
   hears-on : (frame : PastFrame) (past : List PastFrame) (old new : Acks) → reverse data_frames ≡ data_came X came (past_of frames)

@@ -64,10 +64,6 @@ collected-last {X} {frames} frame {left} so adds =
     let none : left ≡ [] = so.ends.0 (abort-ends (fragment_in frame).kind frame.fate frame.bytes (aborts-by frame adds) so.bear.0.kind) in
     so.are ∙ ap (data_came X (came_in frames)) (sym (so.all ∙ (ap (λ p. past_behind p left) (adds so.past) ∙ ap (past_behind so.past) none)))
 
-pub collected-end : {X : End} {frames : List FrameValue} {place number late : ℕ} {data_frames : List DataCame}
-    → Collected X frames place number late data_frames [] → reverse data_frames ≡ data_came X (came_in frames) (past_of frames)
-collected-end {X} {frames} so = so.are ∙ ap (data_came X (came_in frames)) (sym so.all)
-
 -- a frame came where its mark says so
 pub came-at : (xs : List Frame) (place : ℕ) (x : Frame) → place < length xs → x ≡ get_or xs place x → came_in (map frame_value xs) (place + 1) ≡ x.came
 came-at xs place x inside is =

@@ -1,5 +1,5 @@
 -- The frames are numbered and bear their own fates; what is left of the first rule is that nothing stands behind one that ends the run.
-use Rattle.std.proofs.Common.{◌≡◌, ℕ, suc, ◌+◌, Bool, true, false, List, [], ◌∷◌, refl, sym, ap, ◌∙◌, arith}
+use Rattle.std.proofs.Common.{◌≡◌, ℕ, suc, ◌+◌, Bool, true, false, List, [], ◌∷◌, sym, ap, ◌∙◌, arith}
 use Rattle.std.specs.Prelude.{◌↔◌}
 use Rattle.trace_text.specs.Fates.{FateValue, ends_run}
 use Rattle.trace_text.specs.Proper.{AreNumbered}
@@ -37,9 +37,3 @@ end-first frames traced = (
   λ all. (λ none. absurd cc, numbered-end 1 (fates_in frames) frames all),
   λ last. end_by 1 (fates_in frames) frames traced last.1 (λ k. ap (fates_in frames) (let e : 1 + k ≡ suc k = omega arith in e)),
 )
-
-pub end-ended : (frame : FrameValue) (later : List FrameValue) → EndBehind true (frame ∷ later) → ⊥
-end-ended frame later last = let none = last.0 refl in cc
-
-pub end-goes : (frame : FrameValue) (later : List FrameValue) → EndBehind false (frame ∷ later) ↔ EndBehind (ends_run frame.fate frame.bytes) later
-end-goes frame later = (λ last. last.1, λ last. (λ none. absurd cc, last))

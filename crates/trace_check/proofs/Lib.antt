@@ -2,7 +2,6 @@ pub mod AckingLaws
 pub mod BearingLaws
 pub mod BothLaws
 pub mod CameLaws
-pub mod ClosingLaws
 pub mod CollectingLaws
 pub mod EndingLaws
 pub mod FateLaws

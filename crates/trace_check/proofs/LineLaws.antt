@@ -72,16 +72,8 @@ mark_first front false back a other true behind b is = let parts = parts-once is
 spaced : (front : List ℕ) → Without is_mark front → Without is_mark (front ++ codes " ")
 spaced front all = without-append is_mark front (codes " ") all (refl, tt)
 
-some_mark : (came : Bool) (front back : List ℕ) → Without is_mark (front ++ (mark_word came ++ back)) → ⊥
-some_mark true front back all = let no = (without-parts is_mark front (43 ∷ back) all).1.0 in absurd cc
-some_mark false front back all = let no = (without-parts is_mark front (45 ∷ back) all).1.0 in absurd cc
-
 regroup : (front mark back : List ℕ) → front ++ codes " " ++ mark ++ codes " " ++ back ≡ (front ++ codes " ") ++ (mark ++ (codes " " ++ back))
 regroup front mark back = simp append_assoc
-
-pub marked-none : (words : List ℕ) → Without is_mark words → (front : List ℕ) (came : Bool) (back : List ℕ) → IsMarked front came back words → ⊥
-marked-none words all front came back marks =
-    some_mark came (front ++ codes " ") (codes " " ++ back) (subst (Without is_mark) (marks.is ∙ regroup front (mark_word came) back) all)
 
 pub marked-parts : (words before : List ℕ) (sign : Bool) (behind : List ℕ) → Without is_mark before → words ≡ before ++ mark_word sign ++ behind
     → (front : List ℕ) (came : Bool) (back : List ℕ) → IsMarked front came back words → (before ≡ front ++ codes " ") × (sign ≡ came) × (behind ≡ codes " " ++ back)

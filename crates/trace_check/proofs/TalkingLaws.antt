@@ -19,27 +19,17 @@ use Rattle.line_laws.proofs.PastLaws.{is_end-same}
 use Rattle.trace_check.specs.Judging.{SayMessages}
 use Rattle.trace_check.specs.Messages.{messages_in, parts_in, talk_in, whole_count}
 use Rattle.trace_check.specs.Standings.{start, next, next_by, standing_behind, wholes_at}
-use Rattle.trace_check.specs.Speaking.{silent, SaysNext, IsSpeaker, SpeaksSo, HasFault}
+use Rattle.trace_check.specs.Speaking.{SaysNext, IsSpeaker, SpeaksSo, HasFault}
 use Rattle.trace_check.specs.Talking.{greeting_of, speaker_of, with_speaker, EndSays, Says, IsTalking, TalksSo, HasRoom}
 use Rattle.trace_check.specs.declared.speaker.Speaker.{Speaker}
 use Rattle.trace_check.specs.declared.standing.Standing.{Standing}
 use Rattle.trace_check.specs.declared.talking.Talking.{Talking}
 use Rattle.trace_check.proofs.GreetingLaws.{first-said, said-greets}
-use Rattle.trace_check.proofs.SpeakingLaws.{silent-speaker, silent-so, other-speaker, other-so, other-fault, next-says, says-next, so-before}
+use Rattle.trace_check.proofs.SpeakingLaws.{other-speaker, other-so, other-fault, next-says, says-next, so-before}
 use Rattle.trace_check.proofs.StandingLaws.{wholes_in-standing, said-first}
 use Rattle.trace_check.proofs.TalkLaws.{talk_in-messages}
 
 -- ---- at first
-
-pub silent-talking : (talking : Talking) → talking ≡ record { handheld = silent; desktop = silent; count = 0; fault = 0 } → IsTalking [] talking
-silent-talking talking is = subst (IsTalking []) (sym is) (record { speaker = both; count_is = refl; fault_is = refl })
-  where
-    both : (X : End) → IsSpeaker X [] (speaker_of X (record { handheld = silent; desktop = silent; count = 0; fault = 0 }))
-    both Handheld = silent-speaker Handheld
-    both Desktop = silent-speaker Desktop
-
-pub silent-talks : TalksSo []
-silent-talks = record { speaks = λ X. silent-so (greeting_of X) X; faults = tt }
 
 -- ---- one frame more
 
@@ -257,26 +247,11 @@ pub record Talked (frames : List FrameValue) (place : ℕ) (talking : Talking) (
   pub so : TalksSo past
   pub bear : AllByRecursion BearsFragment left
 
-pub talked-first : (frames : List FrameValue) (talking : Talking) → AllByRecursion BearsFragment frames → IsTalking [] talking → Talked frames 0 talking frames
-talked-first frames talking bear is = record { past = []; all = refl; short = omega arith; is = is; so = silent-talks; bear = bear }
-
 pub add-short : (frame : FrameValue) (past : List PastFrame) → length (add_frame frame past) ≤ length past + 1
 add-short frame past = elim (cases_Bool (is_abort (fragment_in frame).kind)) [
   | inl aborts ↦ omega (arith, ap length (cond-true (is_abort (fragment_in frame).kind) past (sent_in frame ∷ past) aborts))
   | inr goes ↦ omega (arith, ap length (cond-false (is_abort (fragment_in frame).kind) past (sent_in frame ∷ past) goes))
 ]
-
-pub talked-more : {frames : List FrameValue} {place : ℕ} {old new : Talking} {frame : FrameValue} {left : List FrameValue}
-    → (talked : Talked frames place old (frame ∷ left)) → IsTalking (add_frame frame talked.past) new → TalksSo (add_frame frame talked.past)
-    → Talked frames (place + 1) new left
-talked-more {frame} talked is so = record {
-  past = add_frame frame talked.past;
-  all = talked.all;
-  short = omega (arith, add-short frame talked.past, talked.short);
-  is = is;
-  so = so;
-  bear = talked.bear.1;
-}
 
 pub talked-not : {frames : List FrameValue} {place : ℕ} {old : Talking} {frame : FrameValue} {left : List FrameValue}
     → (talked : Talked frames place old (frame ∷ left)) → (TalksSo (add_frame frame talked.past) → ⊥) → SayMessages frames → ⊥

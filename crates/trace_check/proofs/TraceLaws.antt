@@ -42,10 +42,6 @@ goes-on bytes frames rest line behind frame number goes counted split says =
       few = omega (arith, goes.few, len, more);
     }
 
-pub goes-all : (bytes : List ℕ) (frames : List FrameValue) (rest : List ℕ) → Goes bytes frames rest → length rest ≡ 0 → IsTraceReading bytes (Ok frames)
-goes-all bytes frames [] goes none = (goes.traced, goes.is ∙ append-nil (trace_text frames))
-goes-all bytes frames (byte ∷ rest) goes none = absurd (omega (arith, none))
-
 bad-by : (bytes : List ℕ) (frames : List FrameValue) (rest : List ℕ) (number : ℕ) → Goes bytes frames rest → number ≡ length frames + 1 → 0 < length rest
     → ((frame : FrameValue) (later : List ℕ) → IsTraced number frame → rest ≡ frame_line frame ++ later → ⊥) → IsTraceReading bytes (Err (BadLine number))
 bad-by bytes frames rest number goes counted some bad =

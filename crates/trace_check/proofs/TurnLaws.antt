@@ -202,20 +202,6 @@ side_none X Y talk came = record {
   none zero inside = refl
   none (suc k) inside = absurd (omega arith)
 
-pub walk_begins : (frames : List FrameValue) → IsWalked frames 0 (record { handheld = no_side; desktop = no_side; repeat = 0 }) true true
-walk_begins frames = record {
-  past = [];
-  rest_is = refl;
-  counted = refl;
-  are = record {
-    handheld = side_none Handheld Desktop (talk_in frames) (came_in frames);
-    desktop = side_none Desktop Handheld (talk_in frames) (came_in frames);
-    repeat_is = refl;
-  };
-  knows_is = (λ it. (tt, tt), λ it. refl);
-  answers_is = (λ it. (tt, tt), λ it. refl);
-}
-
 says_behind : (X : End) (talk : Talk) (later : List FrameValue) (past : List PastFrame) → SaysMessages X talk (past_behind past later) → SaysMessages X talk past
 says_behind X talk [] past says = says
 says_behind X talk (frame ∷ later) past says = elim (cases_Bool (is_abort (fragment_in frame).kind)) [

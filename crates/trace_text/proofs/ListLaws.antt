@@ -1,11 +1,9 @@
 -- Lines of packets, one more at a time.
 use Rattle.std.proofs.Common.{◌≡◌, ℕ, suc, refl, List, [], ◌∷◌, ◌++◌, length, sym, ap, ◌∙◌}
-use Rattle.std.proofs.lemmas.List.{append-nil}
 use Rattle.std.specs.List.{AllZip}
 use Rattle.slp_frames.specs.PacketText.{PacketValue}
-use Rattle.slp_frames.specs.PacketScan.{scan}
 use Rattle.slp_frames.specs.Histories.{Continues}
-use Rattle.slp_frames.proofs.ScanLaws.{continues_append, continues_now}
+use Rattle.slp_frames.proofs.ScanLaws.{continues_append}
 use Rattle.trace_text.specs.PacketLines.{ShowsPacket}
 use Rattle.trace_text.specs.PacketLists.{IsShown, ShowsPackets, count_line, lines_text}
 
@@ -35,13 +33,6 @@ shown-packet taken held held' lines packet line shown step shows = record {
   each = each-append ShowsPacket shown.handed lines packet line shown.each shows;
   continues = step shown.handed shown.continues;
 }
-
--- the packets of all that was taken, where none is held
-pub shown-all : (taken held : List ℕ) (lines : List (List ℕ)) → IsShown taken lines held → scan held ≡ [] → AllZip ShowsPacket (scan taken) lines
-shown-all taken held lines shown none =
-    let all : scan taken ≡ shown.handed = continues_now taken held shown.handed shown.continues
-    ∙ ap (λ (ps : List PacketValue). shown.handed ++ ps) none ∙ append-nil shown.handed in
-    rw all shown.each
 
 -- the lines and their number
 pub shows_packets : (packets : List PacketValue) (lines : List (List ℕ)) (count : ℕ) (text : List ℕ)

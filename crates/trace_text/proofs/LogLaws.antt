@@ -136,17 +136,6 @@ count-in bytes number from [] within = omega (arith, within)
 count-in bytes number from (entry ∷ later) within =
     omega (arith, size-in bytes number entry within.1, count-in bytes (number + 1) entry.end later within.2, within.0)
 
--- a slice where a kind has none is none
-pub kind_slice : (kind : FateKind) (bytes : List ℕ) → kind_count kind (length bytes) ≡ length bytes → bytes ≡ kind_bytes kind bytes
-kind_slice kind.Ok bytes none = length_none bytes (sym none)
-kind_slice kind.Lost bytes none = length_none bytes (sym none)
-kind_slice kind.Late bytes none = length_none bytes (sym none)
-kind_slice (kind.Cut count) bytes none = length_none bytes (sym none)
-kind_slice (kind.Hit place) bytes none = refl
-kind_slice kind.Noise bytes none = refl
-kind_slice kind.Unplug bytes none = length_none bytes (sym none)
-kind_slice kind.Abort bytes none = length_none bytes (sym none)
-
 -- one that is marked
 pub frames_in-marked : (bytes : List ℕ) (number : ℕ) (entries : List Entry) (n : ℕ) {entry : Entry} → slice_get entries n ≡ Some entry
     → frames_in bytes number (slice_set entries n (record entry { came = true })) ≡ marked n (frames_in bytes number entries)
