@@ -15,6 +15,7 @@ use Rattle.category_mirror.specs.Sides.{heads_of, is_among}
 use Rattle.folder_files.proofs.ValueLaws.{or_first}
 use Rattle.desk_store.proofs.FindLaws.{or_true}
 use Rattle.session_plan.proofs.ArchiveLaws.{or_later}
+use Rattle.session_plan.proofs.RiseLaws.{at_place, at_place-cons}
 
 -- ---- each changed, under its name
 
@@ -72,14 +73,6 @@ pub head-named : (name : List ℕ) (databases : List DatabaseValue) → head_nam
 head-named name databases = find-map (λ (head : DbHead). bytes_eq head.name name) listed_of databases
 
 -- ---- names that are among others
-
--- a name at its place
-abbrev at_place : List ℕ → List (List ℕ) → List (List ℕ)
-at_place name names = insert names (position_or_len (λ other. comes_before name other) names) name
-
-at_place-cons : (name n : List ℕ) (names : List (List ℕ))
-    → at_place name (n ∷ names) ≡ cond (comes_before name n) (name ∷ n ∷ names) (n ∷ at_place name names)
-at_place-cons name n names = grind arith
 
 any-at_place : (test : List ℕ → Bool) (name : List ℕ) (names : List (List ℕ))
     → list_any test (at_place name names) ≡ (test name || list_any test names)

@@ -28,8 +28,8 @@ use Rattle.category_mirror.proofs.AlongLaws.{Along, IsStill, all_plain, along_la
 use Rattle.category_mirror.proofs.DoneLaws.{among_are, before_goes, end_goes, filed_closed, list_count, names_rise, session_goes}
 use Rattle.category_mirror.proofs.EvolveLaws.{AreFree, IsBehind, acts_are, acts_none, behind_next, behind_none, free_next, free_none, jobs_named, own_there, own_written, turn, whole}
 use Rattle.category_mirror.proofs.OneLaws.{acts_with, changed, closed_same, opens, read_same, wrote}
-use Rattle.desk_journal.proofs.StepLaws.{all_and}
 use Rattle.desktop_session.proofs.ListLaws.{listings_same}
+use Rattle.desk_journal.proofs.StepLaws.{all-append}
 
 module _ (filing : Filing) (rests : IsAtRest filing.device) where
   -- some of the databases are done, as many blocks were written, and the others are as they were
@@ -149,7 +149,7 @@ module _ (filing : Filing) (rests : IsAtRest filing.device) where
   unfolding listings
   listings_still zero = tt
   listings_still (suc count) =
-      all_and (IsStill filing.device) (listings count) (listing count ∷ []) (listings_still count)
+      all-append (IsStill filing.device) (listings count) (listing count ∷ []) (listings_still count)
       (record { quiet = refl; same = listing_same filing.device count }, tt)
 
   abbrev listed : List Act

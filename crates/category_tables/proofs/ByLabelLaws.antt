@@ -4,7 +4,6 @@ use Rattle.std.proofs.Common.{Bool, true, false, List, Option, None, Some, get_o
 use Rattle.std.proofs.Math.ListN.{set}
 use Rattle.std.proofs.lemmas.Bool.Decides.{nat_tests}
 use Rattle.std.proofs.lemmas.List.{length-set}
-use Rattle.std.proofs.lemmas.Slice.Eq.{bytes_eq-Decides}
 use Rattle.std.specs.Str.{bytes_eq}
 use Rattle.category_tables.specs.Tables.{CategoryValue, IsTable, TableValue, entry_at, has_label, is_used, no_entry}
 use Rattle.category_tables.specs.Merges.{MergingValue, by_label, filled, is_new, labelled, merging, of_id, of_label, rounds, unused}
@@ -14,6 +13,7 @@ use Rattle.category_tables.proofs.JoinedLaws.{all_joined, bears_found, ids_diffe
 use Rattle.category_tables.proofs.OwnedLaws.{bears, bears_not, labelled_used}
 use Rattle.category_tables.proofs.SetLaws.{IsFree, free_at, of_id-new, of_id-set, of_label-set}
 use Rattle.category_tables.proofs.Settled.{IsSettled, IsThere, id_at, label_at}
+use Rattle.pdb_values.proofs.NamedLaws.{bytes_eq-is}
 
 -- the entries alone
 abbrev pub table_with : List CategoryValue → TableValue
@@ -103,17 +103,13 @@ begun_placed handheld desktop m is joined = record {
 
 -- ---- a number that fills an unused entry
 
--- labels that are the same
-pub same_bytes : (xs ys : List ℕ) → bytes_eq xs ys ≡ true → xs ≡ ys
-same_bytes xs ys e = grind (arith, bytes_eq-Decides xs ys)
-
 -- no label is that of an entry without one
 not_same : (entry other : CategoryValue) → has_label entry ≡ false → has_label other ≡ true → bytes_eq entry.label other.label ≡ false
 not_same entry other none some = by_test (bytes_eq entry.label other.label) refl
   where
     by_test : (b : Bool) → bytes_eq entry.label other.label ≡ b → b ≡ false
     by_test true e =
-        let same = ap (λ (l : List ℕ). not (length l == 0)) (same_bytes entry.label other.label e) in
+        let same = ap (λ (l : List ℕ). not (length l == 0)) (bytes_eq-is entry.label other.label e) in
         let no = sym none ∙ same ∙ some in absurd cc
     by_test false e = refl
 
@@ -148,7 +144,7 @@ label_still desktop j i k p entries fills some used at =
   where
     of_test : (b : Bool) → bytes_eq (label_at desktop j) (label_at desktop k) ≡ b → b ≡ false
     of_test true e =
-        let same = same_bytes (label_at desktop j) (label_at desktop k) e in
+        let same = bytes_eq-is (label_at desktop j) (label_at desktop k) e in
         let no = sym fills.label ∙ ap (of_label entries) same ∙ at in absurd cc
     of_test false e = refl
 

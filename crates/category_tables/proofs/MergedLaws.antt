@@ -9,11 +9,12 @@ use Rattle.std.specs.Str.{bytes_eq}
 use Rattle.category_tables.specs.Tables.{CategoryValue, IsTable, TableValue, entry_at, has_label, is_renamed, is_used, no_entry}
 use Rattle.category_tables.specs.Merges.{MergingValue, greatest, kept, kept_at, merged_table, merging, of_id, of_label, places_of}
 use Rattle.category_tables.proofs.AgainLaws.{stays_settled}
-use Rattle.category_tables.proofs.ByLabelLaws.{labelled_at, merged_placed, same_bytes, table_with}
+use Rattle.category_tables.proofs.ByLabelLaws.{labelled_at, merged_placed, table_with}
 use Rattle.category_tables.proofs.JoinedLaws.{bears_found}
 use Rattle.category_tables.proofs.OwnedLaws.{labelled_used, own_id}
 use Rattle.category_tables.specs.Swaps.{IsSwapOf, swapped}
 use Rattle.category_tables.proofs.Settled.{AreSettled, IsMerged, IsSettled, IsThere, id_at, label_at}
+use Rattle.pdb_values.proofs.NamedLaws.{bytes_eq-is}
 
 -- ---- the greatest id
 
@@ -170,7 +171,7 @@ settled_used entries desktop j p some used (inl there) =
     labelled_used entries p bears.some ∙ bears.labelled
 settled_used entries desktop j p some used (inr (inl labelled)) =
     let at = position-Some (λ (entry : CategoryValue). bytes_eq entry.label (label_at desktop j)) entries p no_entry labelled.label in
-    let same = same_bytes (entry_at entries p).label (label_at desktop j) at.1 in
+    let same = bytes_eq-is (entry_at entries p).label (label_at desktop j) at.1 in
     let has = ap (λ (l : List ℕ). not (length l == 0)) same ∙ labelled_at desktop j some used in
     used_where (p == 0) (has_label (entry_at entries p)) has
   where

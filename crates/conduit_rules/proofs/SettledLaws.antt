@@ -1,13 +1,11 @@
 -- Once both sides are merged nothing is decided anew.
-use Rattle.std.proofs.Common.{◌≡◌, ◌⊎◌, ℕ, [], refl, ap, ◌∙◌, arith, Option, Some, None, subst, sym}
+use Rattle.std.proofs.Common.{◌≡◌, ◌⊎◌, ℕ, [], refl, arith, Option, Some, None}
 use Rattle.pdb_values.specs.Contents.{ContentValue}
 use Rattle.conduit_rules.specs.States.{SideState, nothing, live, archived, BaseState, no_base, row, gone}
 use Rattle.conduit_rules.specs.Fates.{Fate, fate}
-use Rattle.conduit_rules.specs.ById.{id_bound, with_id}
-use Rattle.conduit_rules.specs.Choices.{Sides, Choice, partner, choice}
-use Rattle.conduit_rules.specs.Plans.{replacement, lost, purged_at, replaced_rows, gone_rows, purged_ids}
+use Rattle.conduit_rules.specs.Choices.{Sides, partner, choice}
+use Rattle.conduit_rules.specs.Plans.{replaced_rows, gone_rows, purged_ids}
 use Rattle.conduit_rules.proofs.ByIdLaws.{each_below-none}
-use Rattle.conduit_rules.proofs.ContentLaws.{same_content-same}
 use Rattle.conduit_rules.proofs.TableLaws.{cell-settled, gone_cell-live, gone_cell-archived}
 use Rattle.conduit_rules.proofs.ChoiceLaws.{same_choice}
 use Rattle.std.proofs.lemmas.Grind.{common_steps}
@@ -20,7 +18,8 @@ IsSettled None no_base h d = h ≡ nothing
 IsSettled None (row b) h d = ⊥
 IsSettled None (gone b) h d = (h ≡ nothing) ⊎ ((h ≡ live b) ⊎ (h ≡ archived b))
 
-abbrev only : Option ContentValue → Fate
+-- what is kept, with nothing archived and nothing new
+abbrev pub only : Option ContentValue → Fate
 only k = record { keep = k; archive = []; news = None }
 
 gone_nothing : (b : ContentValue) (d : SideState) → fate (gone b) nothing d ≡ only None
@@ -35,27 +34,6 @@ pub choice-settled : (t : Sides) (keep : ℕ → Option ContentValue) → ((i : 
     → choice t ≡ record { keep = keep; archive = []; adds = [] }
 choice-settled t keep is no_live no_archived = grind (arith, common_steps, nat_tests, fate-settled, each_below-none)
 
--- both sides and the base agree under an id: a row that all have, or nothing at all
-abbrev pub IsAgreed : Option ContentValue → BaseState → SideState → SideState → Type 0
-IsAgreed (Some c) b h d = (b ≡ row c) × (h ≡ live c) × (d ≡ live c)
-IsAgreed None b h d = (b ≡ no_base) × (h ≡ nothing)
-
-settled_from : (k : Option ContentValue) (b : BaseState) (h d : SideState) → IsAgreed k b h d → IsSettled k b h d
-settled_from (Some c) b h d is = is
-settled_from None b h d is = subst (λ x. IsSettled None x h d) (sym is.0) is.1
-
-agreed_replacement : (k : Option ContentValue) (b : BaseState) (h d : SideState) → IsAgreed k b h d → replacement k h ≡ None
-agreed_replacement (Some c) b h d is = grind (arith, is.1, same_content-same c)
-agreed_replacement None b h d is = refl
-
-agreed_lost : (k : Option ContentValue) (b : BaseState) (h d : SideState) → IsAgreed k b h d → lost k h ≡ None
-agreed_lost (Some c) b h d is = refl
-agreed_lost None b h d is = grind (arith, is.1)
-
-agreed_purged : (k : Option ContentValue) (b : BaseState) (h d : SideState) (i : ℕ) → IsAgreed k b h d → purged_at k h i ≡ []
-agreed_purged (Some c) b h d i is = refl
-agreed_purged None b h d i is = grind (arith, is.1)
-
 -- nothing is replaced, archived, forgotten, added or deleted
 pub record IsEmptyPlan (s : Sides) : Type 0 where
   pub replace : replaced_rows (choice s).keep s.handheld ≡ []
@@ -63,28 +41,6 @@ pub record IsEmptyPlan (s : Sides) : Type 0 where
   pub gone : gone_rows (choice s).keep s.handheld ≡ []
   pub adds : (choice s).adds ≡ []
   pub purge : purged_ids (choice s).keep s.handheld ≡ []
-
-agreed_choice : (s : Sides) (keep : ℕ → Option ContentValue) → ((i : ℕ) → IsAgreed (keep i) (s.base i) (s.handheld i) (s.desktop i)) → s.loose_live ≡ []
-    → s.loose_archived ≡ []
-    → choice s ≡ record { keep = keep; archive = []; adds = [] }
-agreed_choice s keep is no_live no_archived =
-    choice-settled s keep (λ i. settled_from (keep i) (s.base i) (s.handheld i) (s.desktop i) (is i)) no_live no_archived
-
--- where both sides and the base agree, the plan is to keep what is there
-pub agreed_plan : (s : Sides) (keep : ℕ → Option ContentValue) → ((i : ℕ) → IsAgreed (keep i) (s.base i) (s.handheld i) (s.desktop i)) → s.loose_live ≡ []
-    → s.loose_archived ≡ [] → IsEmptyPlan s
-agreed_plan s keep is no_live no_archived =
-    let chosen = agreed_choice s keep is no_live no_archived in
-    record {
-      replace = ap (λ ch. replaced_rows (Choice.keep ch) s.handheld) chosen ∙ each_below-none (λ i. with_id i (replacement (keep i) (s.handheld i))) id_bound
-          (λ i. ap (with_id i) (agreed_replacement (keep i) (s.base i) (s.handheld i) (s.desktop i) (is i)));
-      archive = ap (λ ch. Choice.archive ch) chosen;
-      gone = ap (λ ch. gone_rows (Choice.keep ch) s.handheld) chosen ∙ each_below-none (λ i. with_id i (lost (keep i) (s.handheld i))) id_bound
-          (λ i. ap (with_id i) (agreed_lost (keep i) (s.base i) (s.handheld i) (s.desktop i) (is i)));
-      adds = ap (λ ch. Choice.adds ch) chosen;
-      purge = ap (λ ch. purged_ids (Choice.keep ch) s.handheld) chosen ∙ each_below-none (λ i. purged_at (keep i) (s.handheld i) i) id_bound
-          (λ i. agreed_purged (keep i) (s.base i) (s.handheld i) (s.desktop i) i (is i));
-    }
 
 -- gone rows left out
 abbrev pub without_gone : BaseState → BaseState

@@ -17,7 +17,7 @@ use Rattle.desk_journal.proofs.OverlayLaws.{ArePending, IsPending, bad_is, none_
 use Rattle.desk_journal.proofs.OverlayLaws.{pending_stays, plain_overlay, told_removed, written_there}
 use Rattle.desk_journal.proofs.ReadLaws.{journal_only}
 use Rattle.desk_journal.proofs.StandLaws.{finishes_stands}
-use Rattle.desk_journal.proofs.StepLaws.{all_and, all_weaken, each_replacement, none_put, through_each, through_either, through_last}
+use Rattle.desk_journal.proofs.StepLaws.{all_weaken, each_replacement, none_put, through_each, through_either, through_last, all-append}
 
 -- ---- one folder
 
@@ -60,7 +60,7 @@ take_front (x ∷ a) b = ap (λ (s : List _). x ∷ s) (take_front a b)
 pub journal_same : (entries : List EntryValue) (told : Option FileMap) → IsJournal entries → ArePending entries told
     → AllByRecursion (FinishesAs told) (journal_steps entries told)
 journal_same entries told form written =
-    all_and (FinishesAs told) (replacements entries told) (without_journal (option_map (put_all entries) told) ∷ [])
+    all-append (FinishesAs told) (replacements entries told) (without_journal (option_map (put_all entries) told) ∷ [])
     (subst (λ (t : Option FileMap). AllByRecursion (FinishesAs told) (replacements entries t)) (sym (none_put told))
     (each_replacement (FinishesAs told) [] entries told (λ a b is. front a b is)))
     (subst (FinishesAs told) (sym (told_removed entries told form written)) (told_finished entries told form written), tt)

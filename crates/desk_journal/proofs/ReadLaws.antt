@@ -13,13 +13,13 @@ use Rattle.std.proofs.lemmas.Bool.{ltb-false, le-ltb}
 use Rattle.std.proofs.lemmas.List.{append_assoc, append-nil, drop-drop, drop_at, take-append-drop, length-append, length-take, length-drop, get_or-drop}
 use Rattle.std.proofs.lemmas.Nat.{be_bytes_2, be_bytes_4, from_be_bytes-to_be_bytes_2, from_be_bytes-to_be_bytes_4}
 use Rattle.std.proofs.lemmas.Str.{IsUtf8-from_is_utf8, is_utf8-from_IsUtf8}
-use Rattle.folder_files.proofs.HexLaws.{bytes_is}
 use Rattle.folder_files.specs.FileNames.{is_kept_file}
 use Rattle.desk_journal.specs.declared.bad_journal.BadJournal.{BadJournal}
 use Rattle.desk_journal.specs.declared.entry.Entry.{Entry}
 use Rattle.desk_journal.specs.declared.fault.JournalFault.{JournalFault}
 use Rattle.desk_journal.specs.Entries.{AreEntries, EntryValue, IsEntry, IsJournal, entry_text, entry_values, is_named, journal_text, mark}
 use Rattle.desk_journal.specs.Reading.{Reads, data_at, entries_at, entry_at, journal_in, kept_in, name_at, or_left, placed, some_at}
+use Rattle.pdb_values.proofs.NamedLaws.{bytes_eq-is}
 
 -- ---- steps that did not fail
 
@@ -186,7 +186,7 @@ journal_found bytes {entries} fits e =
     let front = front_is _ _ _ e in
     let is = neither (ltb (length bytes) 6) (starts_with eqb bytes mark) front.0 in
     let long : 6 ≤ length bytes = ltb-false _ _ is.0 in
-    let marked : mark ≡ take 4 bytes = bytes_is mark (take 4 bytes) is.1 in
+    let marked : mark ≡ take 4 bytes = bytes_eq-is mark (take 4 bytes) is.1 in
     let number : List ℕ = take 2 (drop 4 bytes) in
     let two : length number ≡ 2 = omega (arith, length-take 2 (drop 4 bytes), length-drop 4 bytes) in
     let cut : bytes ≡ take 4 bytes ++ (number ++ drop 6 bytes) =

@@ -14,12 +14,10 @@ use Rattle.hs_folders.proofs.MomentLaws.{joined, unmoved}
 
 -- ---- lists
 
-all-append : {X : Type 0} (P : X → Type 0) (a b : List X) → AllByRecursion P a → AllByRecursion P b → AllByRecursion P (a ++ b)
+-- what holds of all of two lists holds of all of both
+pub all-append : {X : Type 0} (P : X → Type 0) (a b : List X) → AllByRecursion P a → AllByRecursion P b → AllByRecursion P (a ++ b)
 all-append P [] b all more = more
 all-append P (x ∷ a) b all more = (all.0, all-append P a b all.1 more)
-
-pub all_and : {X : Type 0} (P : X → Type 0) (a b : List X) → AllByRecursion P a → AllByRecursion P b → AllByRecursion P (a ++ b)
-all_and P a b all more = all-append P a b all more
 
 all_front : {X : Type 0} (P : X → Type 0) (a b : List X) → AllByRecursion P (a ++ b) → AllByRecursion P a
 all_front P [] b all = tt

@@ -20,6 +20,7 @@ use Rattle.pdb_values.proofs.NamedLaws.{bytes_eq-is, bytes_eq-own, comes_before-
 use Rattle.pdb_files.specs.Reading.{database_in}
 use Rattle.folder_files.specs.FileNames.{has_ending}
 use Rattle.desk_journal.proofs.OverlayLaws.{same_name, same_name-other, same_name-refl, same_name-true}
+use Rattle.desk_journal.proofs.StepLaws.{all-append}
 use Rattle.desk_store.specs.DeskFiles.{file_in, role_of, slot_file}
 use Rattle.desk_store.specs.Desks.{IsDesk, IsDeskOf, all_rows}
 use Rattle.desk_store.specs.Finds.{rows_count}
@@ -31,7 +32,6 @@ use Rattle.desk_store.proofs.OwnLaws.{database_is_own, good_database, same_file,
 use Rattle.desk_store.proofs.SlotListLaws.{marks-length, slot_at-any}
 use Rattle.std.proofs.lemmas.Grind.{common_steps}
 use Rattle.std.proofs.lemmas.Bool.Decides.{nat_tests}
-use Rattle.desk_journal.proofs.StepLaws.{all_and}
 
 pub is_true : (b : Bool) → T b → b ≡ true
 is_true true t = refl
@@ -103,14 +103,14 @@ other_slots : (slot other : ℕ) (name : List ℕ) (slots : List SlotValue) → 
     → AllByRecursion (λ file. same_name (slot_file slot Rows name) file ≡ false) (files_from other slots)
 other_slots slot other name [] less few = tt
 other_slots slot other name (first ∷ slots) less few =
-    all_and (λ file. same_name (slot_file slot Rows name) file ≡ false) (files_of other first.shelves.rows) (files_from (suc other) slots)
+    all-append (λ file. same_name (slot_file slot Rows name) file ≡ false) (files_of other first.shelves.rows) (files_from (suc other) slots)
     (other_rows slot other name first.shelves.rows less (omega arith)) (other_slots slot (suc other) name slots (omega arith) (omega arith))
 
 distinct-append : (xs ys : List (List ℕ)) → IsDistinct same_name xs → IsDistinct same_name ys
     → AllByRecursion (λ x. AllByRecursion (λ y. same_name x y ≡ false) ys) xs → IsDistinct same_name (xs ++ ys)
 unfolding IsDistinct
 distinct-append [] ys first later apart = later
-distinct-append (x ∷ xs) ys first later apart = (all_and (λ y. same_name x y ≡ false) xs ys first.0 apart.0, distinct-append xs ys first.1 later apart.1)
+distinct-append (x ∷ xs) ys first later apart = (all-append (λ y. same_name x y ≡ false) xs ys first.0 apart.0, distinct-append xs ys first.1 later apart.1)
 
 distinct_none : IsDistinct same_name []
 unfolding IsDistinct

@@ -16,6 +16,7 @@ use Rattle.folder_files.specs.FileNames.{desktop_info_file, is_kept_file}
 use Rattle.desk_journal.specs.Entries.{AreEntries, EntryValue, IsJournal, entry_values, is_named}
 use Rattle.desk_journal.specs.declared.entry.Entry.{Entry}
 use Rattle.desk_journal.proofs.OverlayLaws.{last_of, same_name, same_name-is, same_name-other}
+use Rattle.desk_journal.proofs.StepLaws.{all-append}
 use Rattle.desk_store.specs.DeskFiles.{file_in, slot_file}
 use Rattle.desk_store.specs.declared.role.Role.{Role}
 use Rattle.desk_store.specs.declared.role.Role.TheVariants.{Rows, Base, Archive}
@@ -32,7 +33,6 @@ use Rattle.pdb_values.specs.NamedDatabases.{NamesRise, comes_before}
 use Rattle.pdb_values.proofs.NamedLaws.{bytes_eq-is, bytes_eq-own}
 use Rattle.std.proofs.lemmas.Grind.{common_steps}
 use Rattle.std.proofs.lemmas.Bool.Decides.{nat_tests}
-use Rattle.desk_journal.proofs.StepLaws.{all_and}
 
 -- ---- each file
 
@@ -78,13 +78,13 @@ databases_files : {slots slot : ℕ} (changes : List DbChange) → IsSlot slots 
     → AllByRecursion (IsFile slots) (flat_map (db_entries slot) changes)
 databases_files [] at each written = tt
 databases_files {slots} {slot} (change ∷ changes) at each written =
-    all_and (IsFile slots) (db_entries slot change) (flat_map (db_entries slot) changes) (db_files at each.0 written.0)
+    all-append (IsFile slots) (db_entries slot change) (flat_map (db_entries slot) changes) (db_files at each.0 written.0)
     (databases_files changes at each.1 written.1)
 
 pub change_files : {slots slot : ℕ} (changes : List DbChange) {marks : List Marks} → IsSlot slots slot → AllByRecursion IsDbChange changes
     → AllByRecursion IsDbWritten changes → IsDesktopFile marks (desktop_text marks) → AllByRecursion (IsFile slots) (slot_entries slot changes marks)
 change_files {slots} {slot} changes at each written text =
-    all_and (IsFile slots) (flat_map (db_entries slot) changes) _ (databases_files changes at each written)
+    all-append (IsFile slots) (flat_map (db_entries slot) changes) _ (databases_files changes at each written)
     (record { short_name = omega arith; kept = refl; short_bytes = slots-short text; good = ap if_bad (slots_read slots text) }, tt)
 
 -- ---- the last file of a name

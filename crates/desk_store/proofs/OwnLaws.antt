@@ -22,6 +22,7 @@ use Rattle.folder_files.specs.FileNames.{journal_file, slot_prefix}
 use Rattle.folder_files.proofs.ValueLaws.{count_cases}
 use Rattle.desk_journal.specs.Overlays.{bad_of}
 use Rattle.desk_journal.specs.declared.bad_journal.BadJournal.{BadJournal}
+use Rattle.desk_journal.proofs.StepLaws.{all-append}
 use Rattle.desk_store.specs.DeskFiles.{broken_rule, by_role, file_in, if_journal, if_own, if_slot, is_own_file, other_in, own_slot, role_of}
 use Rattle.desk_store.specs.DeskFiles.{slot_file}
 use Rattle.desk_store.specs.Shelves.{if_bad}
@@ -30,7 +31,6 @@ use Rattle.desk_store.specs.declared.role.Role.{Role}
 use Rattle.desk_store.specs.declared.role.Role.TheVariants.{Rows, Base, Archive}
 use Rattle.std.proofs.lemmas.Grind.{common_steps}
 use Rattle.std.proofs.lemmas.Bool.Decides.{nat_tests}
-use Rattle.desk_journal.proofs.StepLaws.{all_and}
 
 -- ---- endings
 
@@ -72,7 +72,7 @@ stem_byte-no_dot byte = search (rules, plain_no_dot, digit_no_dot)
 
 stem-no_dot : (name : List ℕ) → AllByRecursion NotDot (stem_of name)
 stem-no_dot [] = tt
-stem-no_dot (byte ∷ name) = all_and NotDot (stem_byte byte) (stem_of name) (stem_byte-no_dot byte) (stem-no_dot name)
+stem-no_dot (byte ∷ name) = all-append NotDot (stem_byte byte) (stem_of name) (stem_byte-no_dot byte) (stem-no_dot name)
 
 number-no_dot : (number : ℕ) → number < 20 → AllByRecursion NotDot (115 ∷ decimal number)
 number-no_dot number few = (

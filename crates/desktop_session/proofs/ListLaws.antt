@@ -32,10 +32,12 @@ use Rattle.std.proofs.Common.{rules}
 
 -- ---- a request that only reads leaves the device as it is
 
-abbrev Same : Device → Device × ReplyValue → Type 0
+-- what was done left the device as it was
+abbrev pub Same : Device → Device × ReplyValue → Type 0
 Same device done = done.0 ≡ device
 
-outcome_same : {device : Device} (number : ℕ) (r : Trial) → IfDone (Same device) r → (outcome device number r).1 ≡ device
+-- a trial that leaves the device as it was does so with the reply that it makes
+pub outcome_same : {device : Device} (number : ℕ) (r : Trial) → IfDone (Same device) r → (outcome device number r).1 ≡ device
 outcome_same number r same = search (rules)
 
 list_keeps : (device : Device) (start : ℕ) → IfDone (Same device) (read_db_list device 0x80 0 start)
@@ -46,7 +48,8 @@ list_same : (device : Device) (start : ℕ) → (acted (listing start) device).1
 unfolding acted tried
 list_same device start = outcome_same 0x16 (read_db_list device 0x80 0 start) (list_keeps device start)
 
-ids_keep : (device : Device) (handle start : ℕ) → IfDone (Same device) (reads device handle (reading.RecordIds start 8000))
+-- a list of ids leaves the device as it was
+pub ids_keep : (device : Device) (handle start : ℕ) → IfDone (Same device) (reads device handle (reading.RecordIds start 8000))
 ids_keep device handle start = search (rules, done_then)
 
 pub ids_same : (device : Device) (handle start : ℕ) → (acted (listing_ids handle start) device).1 ≡ device

@@ -77,7 +77,7 @@ count_is device (suc (suc k)) proper some few more last =
     ]
 
 -- the head of a database, as it is listed
-abbrev head_of : DatabaseValue → DbHead
+abbrev pub head_of : DatabaseValue → DbHead
 head_of database = listed database.head
 
 heads_one : (o : Option DatabaseValue) {device : Device} (k : ℕ) → IsTellable device → k < 2 ^ 16 → slice_get device.databases k ≡ o

@@ -109,7 +109,8 @@ talked-stops {end} {a} {b} {c} {t} {u} {v} {ps} {qs} first next = record {
 
 -- ---- one packet
 
-same-hand : (hand : Hand) → DidNothing hand hand
+-- a hand that stays did nothing
+pub same-hand : (hand : Hand) → DidNothing hand hand
 same-hand hand = record { device_is = refl; performed_is = refl; replies_are = refl }
 
 -- a request that wasn't served

@@ -17,7 +17,7 @@ use Rattle.slp_frames.specs.PacketScan.{scan}
 use Rattle.slp_frames.specs.PacketText.{PacketValue}
 use Rattle.device_stream.specs.declared.device_end.DeviceEnd.{DeviceEnd}
 use Rattle.device_stream.specs.declared.device_end.DeviceEnd.TheVariants.{Ended, SourceRead, SinkWrite, Keeper, StreamEnded, StreamAborted, BadHello, TooLong, NoMemory}
-use Rattle.device_stream.proofs.CourseLaws.{wrote-then}
+use Rattle.device_stream.proofs.CourseLaws.{wrote-then, same-hand}
 use Rattle.device_stream.proofs.TakingLaws.{said_text-append}
 use Rattle.device_stream.specs.Courses.{BeginsWith, Breaks, Hears, IsOver, IsWithin, PerformsAny, Wrote}
 use Rattle.device_stream.specs.Ends.{IsSinkEnd}
@@ -67,9 +67,6 @@ no-more None count none both = tt
 no-more (Some left) count none both = both.0 none
 
 -- ---- between packets
-
-pub same-hand : (hand : Hand) → DidNothing hand hand
-same-hand hand = record { device_is = refl; performed_is = refl; replies_are = refl }
 
 module _ (left now : Option (List ℕ)) {told later : Option (List ℕ)} {bytes held : List ℕ} {old new : Hand} (hears : Hears bytes held old new told later)
     (read : left ≡ option_map (λ rest. bytes ++ rest) now) where

@@ -184,7 +184,8 @@ names_again names bytes is =
 abbrev Taken : (k : CellKind) → List ℕ → Cell k × List ℕ → Type 0
 Taken k bytes x = (text : List ℕ) × (bytes ≡ text ++ x.1) × IsCell k x.0 text x.1 × IsBytes x.1
 
-no_bytes : IsBytes []
+-- no bytes are bytes
+pub no_bytes : IsBytes []
 no_bytes i = omega arith
 
 -- what stands up to the end

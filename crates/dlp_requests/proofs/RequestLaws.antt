@@ -17,7 +17,7 @@ use Rattle.dlp_args.specs.Functions.{function_of}
 use Rattle.dlp_args.specs.Functions as functions
 use Rattle.dlp_args.specs.Cells.{CellKind}
 use Rattle.dlp_args.specs.Fields.{Fields, fields_in, fields_text, FieldsFit, ends_well}
-use Rattle.dlp_args.proofs.CellLaws.{map_some, fields_take, fields_again, fields_written}
+use Rattle.dlp_args.proofs.CellLaws.{map_some, fields_take, fields_again, fields_written, no_bytes}
 use Rattle.dlp_args.proofs.FunctionLaws.{number_is}
 use Rattle.dlp_requests.specs.declared.fault.RequestFault.{RequestFault}
 use Rattle.dlp_requests.specs.declared.request.Request.{Request}
@@ -128,9 +128,6 @@ IsBytes-back front back fits = subst IsBytes (drop_at front back (length front) 
 pub known_is : (number : ℕ) (o : Option Function) (f : Function) → known number o ≡ Ok f → o ≡ Some f
 known_is number None f e = absurd cc
 known_is number (Some g) f e = cc
-
-no_bytes : IsBytes []
-no_bytes i = omega arith
 
 argument_takes : (id : Option ℕ) (arguments : List Argument) (bytes content : List ℕ) → IsBytes bytes → ArgTexts arguments bytes
     → argument_bytes id arguments ≡ Ok content → HasArgument id content (length arguments ∷ bytes) × IsBytes content

@@ -8,11 +8,10 @@ use Rattle.std.specs.List.{position_or_len}
 use Rattle.std.specs.Option.{option_map}
 use Rattle.std.specs.Result.{result_ok}
 use Rattle.std.proofs.lemmas.Bool.{eqb-false, le-ltb, ne_eqb}
-use Rattle.std.proofs.lemmas.Slice.Eq.{bytes_eq-Decides}
 use Rattle.hex.specs.Hex.{IsBytes, decode_sized, encode_lower, encode_with, lower_digits}
 use Rattle.hex.specs.declared.error.FromHexError.{FromHexError}
 use Rattle.hex.proofs.HexLemmas.{decode_of-ok, decode_sized-encode_lower, decode_sized-ok, decode_sized-twice, length-encode_with}
-use Rattle.pdb_values.proofs.NamedLaws.{bytes_eq-other, bytes_eq-own}
+use Rattle.pdb_values.proofs.NamedLaws.{bytes_eq-other, bytes_eq-own, bytes_eq-is}
 use Rattle.folder_files.specs.Hexadecimal.{bytes_in, bytes_text, few_bytes_in}
 
 -- ---- steps that did not fail
@@ -37,9 +36,6 @@ chosen b x y z e = grind arith
 
 -- ---- equal bytes
 
-pub bytes_is : (xs ys : List ℕ) → bytes_eq xs ys ≡ true → xs ≡ ys
-bytes_is xs ys e = grind (arith, e, bytes_eq-Decides xs ys)
-
 -- ---- exactly so many bytes
 
 spelled : (text : List ℕ) (r : Result (List ℕ) FromHexError) (bytes : List ℕ)
@@ -49,7 +45,7 @@ spelled text (Err fault) bytes e = absurd cc
 spelled text (Ok found) bytes e =
     let test = test_some (bytes_eq (encode_lower found) text) (Some found) bytes e in
     let is : found ≡ bytes = some_is found bytes test.1 in
-    (ap (λ (b : List ℕ). let r : Result (List ℕ) FromHexError = Ok b in r) is, sym (bytes_is _ _ test.0) ∙ ap encode_lower is)
+    (ap (λ (b : List ℕ). let r : Result (List ℕ) FromHexError = Ok b in r) is, sym (bytes_eq-is _ _ test.0) ∙ ap encode_lower is)
 
 pub bytes_in-found : (count : ℕ) (text bytes : List ℕ) → bytes_in count text ≡ Some bytes → (text ≡ encode_lower bytes) × (length bytes ≡ count) × IsBytes bytes
 unfolding bytes_in
@@ -72,7 +68,7 @@ text_of_some bytes some = grind arith
 pub few_bytes_in-found : (text bytes : List ℕ) → few_bytes_in text ≡ Some bytes → (text ≡ bytes_text bytes) × IsBytes bytes
 unfolding few_bytes_in
 few_bytes_in-found text bytes e =
-    grind (arith, nat_tests, common_steps, chosen, some_is, bytes_is, guard_some, bytes_in-found, length-encode_with, eqb-false, text_of_some)
+    grind (arith, nat_tests, common_steps, chosen, some_is, bytes_eq-is, guard_some, bytes_in-found, length-encode_with, eqb-false, text_of_some)
 
 pub few_bytes_in-only : (bytes : List ℕ) → length bytes ≤ 40 → IsBytes bytes → few_bytes_in (bytes_text bytes) ≡ Some bytes
 unfolding few_bytes_in

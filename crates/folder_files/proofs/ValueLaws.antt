@@ -15,11 +15,11 @@ use Rattle.hex.specs.Hex.{IsBytes, encode_lower, lower_digits}
 use Rattle.hex.proofs.HexLemmas.{length-encode_with}
 use Rattle.pdb_values.specs.PalmDates.{read_wire}
 use Rattle.pdb_values.specs.Users.{password_of, user_name_of}
-use Rattle.pdb_values.proofs.NamedLaws.{bytes_eq-own}
+use Rattle.pdb_values.proofs.NamedLaws.{bytes_eq-own, bytes_eq-is}
 use Rattle.folder_files.specs.Hexadecimal.{IsWireDate, bytes_in, bytes_text, date_in, few_bytes_in}
 use Rattle.folder_files.specs.Lines.{ValueKind, Title, Number, Positive, Date, Name, Password, Count, Slot, Value, Says, slot_text}
 use Rattle.folder_files.specs.Reading.{behind, count_in, field_at, if_positive, number_in, slot_in, value_in}
-use Rattle.folder_files.proofs.HexLaws.{HasNoFeed, bind_some, bytes_is, bytes_in-found, bytes_in-only, bytes_text-no_feed, encode_lower-no_feed}
+use Rattle.folder_files.proofs.HexLaws.{HasNoFeed, bind_some, bytes_in-found, bytes_in-only, bytes_text-no_feed, encode_lower-no_feed}
 use Rattle.folder_files.proofs.HexLaws.{feed_past, few_bytes_in-found, few_bytes_in-only, guard_some, map_some, some_is, test_some}
 
 -- ---- line feeds and keys
@@ -32,7 +32,7 @@ pub behind_found : (key line text : List ℕ) → behind key line ≡ Some text 
 unfolding behind
 behind_found key line text e =
     let test = test_some (starts_with eqb line key) _ text e in
-    let front : key ≡ take (length key) line = bytes_is _ _ test.0 in
+    let front : key ≡ take (length key) line = bytes_eq-is _ _ test.0 in
     let back : drop (length key) line ≡ text = some_is _ _ test.1 in
     sym (take-append-drop (length key) line) ∙ (ap (λ (xs : List ℕ). xs ++ drop (length key) line) (sym front) ∙ ap (λ (xs : List ℕ). key ++ xs) back)
 

@@ -6,14 +6,14 @@ use Rattle.pdb_values.specs.Contents.{ContentValue}
 use Rattle.pdb_values.specs.Records.{is_live}
 use Rattle.pdb_values.specs.declared.record.Record.{Record}
 use Rattle.palm_device.specs.Records.{without_record, clean}
-use Rattle.conduit_rules.specs.States.{SideState, nothing, live, archived, held, first}
+use Rattle.conduit_rules.specs.States.{SideState, nothing, live, held, first}
 use Rattle.conduit_rules.specs.Plans.{is_purged, purged_ids}
 use Rattle.conduit_rules.proofs.AgreedLaws.{RowsDiffer}
 use Rattle.record_merge.specs.Merging.{AreShown, is_held_live}
 use Rattle.record_merge.specs.Writes.{Write, replace, add, purge, clean_up, reset, after}
 use Rattle.record_merge.proofs.AfterLaws.{finished, differ-filter, has-purged}
 use Rattle.record_merge.proofs.PutLaws.{without_record-nil, without_record-cons}
-use Rattle.record_merge.proofs.HeldLaws.{held-clean}
+use Rattle.record_merge.proofs.HeldLaws.{held-clean, held-cleaned}
 
 -- purges of ids that have no row, clean ups and resets alone
 abbrev pub AreClearing : (ℕ → Option ContentValue) → List Write → Type 0
@@ -56,15 +56,6 @@ held-without : (i : ℕ) (records : List Record) (j : ℕ) → RowsDiffer record
     → held (without_record i records) j ≡ (if j == i then nothing else held records j)
 held-without i [] j differ = grind (arith, without_record-nil i)
 held-without i (r ∷ records) j differ = grind (arith, without_record-cons i r records, held-without i records j differ.1)
-
-abbrev only_live : SideState → SideState
-only_live nothing = nothing
-only_live (live c) = live c
-only_live (archived c) = nothing
-
-held-cleaned : (records : List Record) (j : ℕ) → RowsDiffer records → held (filter is_live records) j ≡ only_live (held records j)
-held-cleaned [] j differ = refl
-held-cleaned (r ∷ records) j differ = grind (arith, held-cleaned records j differ.1)
 
 first-clean : (records : List Record) (j : ℕ) → first j records ≡ None → first j (map clean records) ≡ None
 first-clean [] j none = refl

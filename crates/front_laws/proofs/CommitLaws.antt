@@ -29,12 +29,12 @@ use Rattle.record_merge.proofs.AfterLaws.{finished, after-append, after-clearing
 use Rattle.record_merge.proofs.AgainLaws.{choice-merged_for, kept_zero}
 use Rattle.record_merge.proofs.HeldLaws.{held-rows, at-bounded}
 use Rattle.record_merge.proofs.PutLaws.{differ-ids}
-use Rattle.record_merge.proofs.ShownLaws.{bounded-none, live_held}
+use Rattle.record_merge.proofs.ShownLaws.{bounded-none, live_held, are-shown}
 use Rattle.record_merge.proofs.SettledLaws.{based-merged, based_two, at_zero, none_loose, first-zero}
 use Rattle.front_laws.specs.Repeats.{Finding, IsRead, EndAlike, ended, sides, chosen, shown, GotIds, clearing_done, left_behind_commit, left_at_end}
 use Rattle.front_laws.proofs.ClearLaws.{AreClearing, clearing-take, Fits, AllFit, fits-after, with_rows, rows-after, finished-rows}
 use Rattle.front_laws.proofs.GivenLaws.{FitsGiven, given-is, bounded-given, differ-given, purges-given, clearing-given}
-use Rattle.front_laws.proofs.NewsLaws.{whole-is, are_shown, ended_by}
+use Rattle.front_laws.proofs.NewsLaws.{whole-is, ended_by}
 use Rattle.record_merge.proofs.BothLaws.{no_contents}
 
 -- ---- what the next session chooses
@@ -186,8 +186,8 @@ records-again ch h given records ws now later differ bounded shows free are then
     let z = after (giving ch h given ++ ws) records in
     let x_differ = differ-given ch h given records differ in
     let x_bounded = bounded-given ch h given records bounded free in
-    let x_shown = are_shown (held x) x x_differ x_bounded (λ i r e. ap is_held_live (ap held_where e) ∙ live_held r) in
-    let z_shown = are_shown now z then_differ then_bounded (λ i r e. ap is_held_live (then_shows i ∙ ap held_where e) ∙ live_held r) in
+    let x_shown = are-shown (held x) x x_differ x_bounded (λ i r e. ap is_held_live (ap held_where e) ∙ live_held r) in
+    let z_shown = are-shown now z then_differ then_bounded (λ i r e. ap is_held_live (then_shows i ∙ ap held_where e) ∙ live_held r) in
     let none_free : GotFreeIds (kept_alone keep) now later z =
     subst (λ es. AreFree es (after (replaces (replaced_rows keep now)) z)) (sym (no_contents later)) tt in
     sym (whole-is (kept_alone keep) now later z then_differ then_bounded then_shows none_free)

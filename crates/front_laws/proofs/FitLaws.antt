@@ -39,7 +39,7 @@ use Rattle.front_laws.proofs.ReadyLaws.{AreSound, IsKept, are-kept, handheld-sou
 use Rattle.front_laws.proofs.SortedLaws.{all-below, all-flat_map, below_bound, found}
 use Rattle.front_laws.proofs.TaskActs.{IsReady}
 use Rattle.front_laws.proofs.WriteActs.{IsSorted}
-use Rattle.desk_journal.proofs.StepLaws.{all_weaken, all_and}
+use Rattle.desk_journal.proofs.StepLaws.{all_weaken, all-append}
 
 abbrev pub FitsOne : Act → Type 0
 FitsOne act = IsRequest act.asks
@@ -51,7 +51,7 @@ one : 1 < 2 ^ 8
 one = lit< tt
 
 fit-append : (xs ys : List Act) → Fit xs → Fit ys → Fit (xs ++ ys)
-fit-append xs ys first second = all_and FitsOne xs ys first second
+fit-append xs ys first second = all-append FitsOne xs ys first second
 
 fit-replicate : (n : ℕ) (act : Act) → FitsOne act → Fit (replicate n act)
 fit-replicate zero act fits = tt
@@ -153,7 +153,7 @@ fit-writes m t is given =
       arith,
       fit-puts (replicate (length (replacements m t)) 0 ++ given) (replacements m t ++ as_new (choice m t).adds),
       length (replacements m t),
-      all_and Puttable (replacements m t) (as_new (choice m t).adds),
+      all-append Puttable (replacements m t) (as_new (choice m t).adds),
       all_weaken IsReplacement Puttable (replacements m t),
       new_puttable (choice m t).adds is.adds,
     )

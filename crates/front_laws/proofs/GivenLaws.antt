@@ -5,16 +5,14 @@ use Rattle.std.specs.Option.{option_or}
 use Rattle.std.proofs.lemmas.Bool.Decides.{nat_tests}
 use Rattle.pdb_values.specs.Contents.{ContentValue}
 use Rattle.pdb_values.specs.declared.record.Record.{Record}
-use Rattle.palm_device.specs.Records.{put_record}
 use Rattle.conduit_rules.specs.ById.{id_bound, each_below, at}
 use Rattle.conduit_rules.specs.Choices.{Choice}
 use Rattle.conduit_rules.specs.Plans.{replacement, is_purged, purged_at, replaced_rows, purged_ids}
 use Rattle.conduit_rules.specs.States.{SideState, nothing, live, archived, held, held_where}
 use Rattle.conduit_rules.proofs.AgreedLaws.{RowsDiffer}
-use Rattle.conduit_rules.proofs.ByIdLaws.{id_bound-is, each_below-zero, each_below-suc, each_below-same}
+use Rattle.conduit_rules.proofs.ByIdLaws.{each_below-zero, each_below-suc, each_below-same}
 use Rattle.conduit_rules.proofs.ContentLaws.{same_content-is}
-use Rattle.conduit_rules.proofs.PlanLaws.{IsRisingFrom, replaced_rise, at-each_below}
-use Rattle.conduit_rules.proofs.PlanLaws.{ids_of as pair_ids}
+use Rattle.conduit_rules.proofs.PlanLaws.{replaced_rise, at-each_below}
 use Rattle.record_merge.specs.Merging.{row_under, AreBounded}
 use Rattle.record_merge.specs.Writes.{clean_up, reset, after, numbered, replaces, adding, purges, giving, clearing, AreFree, GotFreeIds}
 use Rattle.record_merge.proofs.AfterLaws.{after-append, after-replaces, after-adding_all, differ-put_all, free_before_all, apart-rising}
@@ -22,29 +20,9 @@ use Rattle.record_merge.proofs.HeldLaws.{over, not_over, held-put_all, at-free, 
 use Rattle.record_merge.proofs.PutLaws.{put_all}
 use Rattle.record_merge.proofs.ShownLaws.{bounded-none}
 use Rattle.front_laws.proofs.ClearLaws.{AreClearing}
-use Rattle.conduit_rules.proofs.RisingLaws.{rising_end}
-use Rattle.record_merge.proofs.BoundLaws.{bounded-put}
+use Rattle.record_merge.proofs.BoundLaws.{bounded-put_all, have-free, have-rising}
 
 -- ---- ids stay those of records
-
-abbrev HaveIds : List (ℕ × ContentValue) → Type 0
-HaveIds [] = Unit {0}
-HaveIds (e ∷ es) = (nat_lt e.0 id_bound ≡ true) × HaveIds es
-
-bounded-put_all : (es : List (ℕ × ContentValue)) (records : List Record) → HaveIds es → AreBounded records → AreBounded (put_all es records)
-bounded-put_all [] records have bounded = bounded
-bounded-put_all (e ∷ es) records have bounded = bounded-put_all es (put_record e.0 e.1 records) have.1 (bounded-put e.0 e.1 records have.0 bounded)
-
-have-rising : (low : ℕ) (es : List (ℕ × ContentValue)) → IsRisingFrom low (pair_ids es) id_bound → HaveIds es
-have-rising low [] rising = tt
-have-rising low (e ∷ es) rising = grind (arith, rising_end (suc e.0) id_bound (pair_ids es) rising.1, have-rising (suc e.0) es rising.1)
-
-have-free : (es : List (ℕ × ContentValue)) (now : List Record) → AreFree es now → HaveIds es
-have-free [] now free = tt
-have-free (e ∷ es) now free = (subst (λ n. nat_lt e.0 n ≡ true) (sym id_bound-is) (below e.0 free.0.bound), have-free es (put_record e.0 e.1 now) free.1)
-  where
-    below : (n : ℕ) → n ≤ 16777215 → nat_lt n (2 ^ 24) ≡ true
-    below n l = grind (arith, nat_tests, l)
 
 module _ (ch : Choice) (h : ℕ → SideState) (given : List ℕ) (records : List Record) where
   pub given-puts : after (giving ch h given) records ≡ put_all (numbered given ch.adds) (put_all (replaced_rows ch.keep h) records)

@@ -8,15 +8,14 @@ use Rattle.pdb_values.specs.Contents.{ContentValue}
 use Rattle.pdb_values.specs.declared.record.Record.{Record}
 use Rattle.conduit_rules.specs.ById.{id_bound, each_id, with_id}
 use Rattle.conduit_rules.specs.Choices.{Choice}
-use Rattle.conduit_rules.specs.Contents.{same_content}
 use Rattle.conduit_rules.specs.States.{SideState, nothing, live_of, archived_of, held}
 use Rattle.conduit_rules.specs.declared.action.Action.TheVariants.{Handheld}
 use Rattle.conduit_rules.proofs.ActionLaws.{handheld-is}
 use Rattle.conduit_rules.proofs.ByIdLaws.{each_below-zero}
-use Rattle.conduit_rules.proofs.ContentLaws.{same_content-is, same_content-same}
+use Rattle.conduit_rules.proofs.ContentLaws.{same_content-same}
 use Rattle.record_merge.specs.Merging.{row_under, merged_archive, is_archived, one_copy_behind}
 use Rattle.record_merge.specs.Writes.{Write, after, clearing}
-use Rattle.record_merge.proofs.ArchiveLaws.{copies-stand}
+use Rattle.record_merge.proofs.ArchiveLaws.{copies-stand, is_equal, same_entry}
 use Rattle.record_merge.proofs.PutLaws.{differ-ids}
 use Rattle.record_merge.proofs.StopLaws.{handheld-given}
 use Rattle.front_laws.specs.Repeats.{Finding, IsRead, EndAlike, ended, sides, chosen, shown, GotIds, news_done, clearing_done, left_among_news}
@@ -51,12 +50,6 @@ handheld-news x given later n read then_read =
     ap {A = Choice × ((ℕ → SideState) × List Record)} (λ p. ended_by p.0 p.1.0 later p.1.1 x.archive) (λ k. (same k, (shows k, records k)))
 
 -- ---- what stands in an archive isn't put there again
-
-abbrev is_equal : ℕ × ContentValue → ℕ × ContentValue → Bool
-is_equal x e = (x.0 == e.0) && same_content x.1 e.1
-
-same_entry : (x e : ℕ × ContentValue) → is_equal x e ≡ true → x ≡ e
-same_entry x e is = grind (arith, same_content-is x.1 e.1 (grind (arith, nat_tests, is)))
 
 -- each of these stands among the earlier ones or in the list
 abbrev AllAmong : List (ℕ × ContentValue) → List (ℕ × ContentValue) → List (ℕ × ContentValue) → Type 0

@@ -1,7 +1,6 @@
 -- What both sides hold under a name once all databases of a session are merged.
-use Rattle.std.proofs.Common.{arith, ◌≡◌, ◌⊎◌, ℕ, List, [], ◌∷◌, refl, ap, ◌∙◌, sym, Bool, true, false, cond, Option, Some, None, take, drop}
+use Rattle.std.proofs.Common.{arith, ◌≡◌, ◌⊎◌, ℕ, List, [], ◌∷◌, refl, ap, ◌∙◌, false, cond, Option, Some, None, take, drop}
 use Rattle.std.specs.Str.{bytes_eq}
-use Rattle.std.proofs.lemmas.Slice.Eq.{bytes_eq-Decides}
 use Rattle.pdb_values.specs.Databases.{DatabaseValue}
 use Rattle.pdb_values.specs.NamedDatabases.{database_of}
 use Rattle.pdb_values.proofs.NamedLaws.{bytes_eq-own, database_of-name, database_of-with_put}
@@ -11,6 +10,7 @@ use Rattle.session_plan.specs.Choosing.{choice, seen_held, add_count}
 use Rattle.session_plan.specs.Merges.{handheld_before, put_merged, merged_databases}
 use Rattle.session_plan.specs.Tasks.{Meeting, Task, task_of, slot_of}
 use Rattle.front_laws.specs.Meetings.{ids_dealt}
+use Rattle.sync_session.proofs.OnceLaws.{bytes_eq-swap}
 
 -- no task has this name
 abbrev pub NotNamed : List ℕ → List Task → Type 0
@@ -52,13 +52,6 @@ not_here : (t : Task) (name : List ℕ) (ts : List Task) → NotNamed name ts �
 not_here t name [] unnamed is = absurd is
 not_here t name (u ∷ ts) unnamed is = grind (arith, not_here t name ts unnamed.1)
 
-turned : (a b : List ℕ) → bytes_eq a b ≡ false → bytes_eq b a ≡ false
-turned a b is = by (bytes_eq b a) refl
-  where
-    by : (c : Bool) → bytes_eq b a ≡ c → bytes_eq b a ≡ false
-    by true same = absurd (let no_other : true ≡ false = sym (bytes_eq-own a) ∙ ap (bytes_eq a) (sym ((bytes_eq-Decides b a).0 same)) ∙ is in cc)
-    by false same = same
-
 pub own-changes : {m : Meeting} {put : Task → List ℕ → List DatabaseValue → List DatabaseValue}
     {own : Task → List ℕ → Option DatabaseValue → Option DatabaseValue}
     → PutsOwn m put own → (ts : List Task) (given : List ℕ) (databases : List DatabaseValue) (t : Task) → AreTasks m ts → IsTask t ts
@@ -72,7 +65,7 @@ own-changes {m} {put} {own} is (u ∷ ts) given databases t are there =
       take (add_count m u) given,
       drop (add_count m u) given,
       bytes_eq-own u.name,
-      turned t.name u.name,
+      bytes_eq-swap t.name u.name,
       not_here t u.name ts are.1,
       own-changes is ts (drop (add_count m u) given) (put u (take (add_count m u) given) databases) t are.2,
     )

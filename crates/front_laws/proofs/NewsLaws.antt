@@ -1,8 +1,7 @@
 -- The session after one that stopped among its replacements and adds ends at the merge under the ids of both.
-use Rattle.std.proofs.Common.{◌≡◌, ℕ, ◌+◌, length, ◌==◌, List, [], ◌∷◌, ◌++◌, refl, ap, ◌∙◌, sym, subst, arith, true, false, Bool, Option, Some, if◌then◌else◌}
+use Rattle.std.proofs.Common.{◌≡◌, ℕ, ◌+◌, length, ◌==◌, List, [], ◌∷◌, ◌++◌, refl, ap, ◌∙◌, sym, subst, arith, true, false, Bool, Option, if◌then◌else◌}
 use Rattle.std.proofs.Common.{drop, take-append-drop}
 use Rattle.pdb_values.specs.Contents.{ContentValue}
-use Rattle.pdb_values.specs.Records.{is_live}
 use Rattle.pdb_values.specs.declared.record.Record.{Record}
 use Rattle.conduit_rules.specs.Choices.{Choice, Sides, choice, sides_of}
 use Rattle.conduit_rules.specs.States.{SideState, nothing, held, first, BaseState, no_base, based_where}
@@ -12,12 +11,13 @@ use Rattle.conduit_rules.specs.declared.action.Action.TheVariants.{Sync}
 use Rattle.conduit_rules.specs.declared.view.Seen.{Seen}
 use Rattle.conduit_rules.proofs.AgreedLaws.{RowsDiffer}
 use Rattle.conduit_rules.proofs.SettledLaws.{choice-gone, without_gone, IfGone}
-use Rattle.record_merge.specs.Merging.{merged_rows, merged_base, merged_records, merged_archive, is_held_live, AreShown, AreBounded}
+use Rattle.record_merge.specs.Merging.{merged_rows, merged_base, merged_records, merged_archive, AreBounded}
 use Rattle.record_merge.specs.Stops.{sides_after, with_add, rest_of, AreOf}
 use Rattle.record_merge.specs.Writes.{Write, replace, add, purge, clean_up, reset, after, giving, clearing, whole, GotFreeIds}
 use Rattle.record_merge.proofs.AfterLaws.{after-all, after-append}
 use Rattle.record_merge.proofs.PutLaws.{differ-ids}
 use Rattle.record_merge.proofs.StopLaws.{sides-again, choice-after, of-take, writes-of, giving-of}
+use Rattle.record_merge.proofs.ShownLaws.{are-shown}
 use Rattle.front_laws.specs.Repeats.{Finding, IsRead, Ending, ended, chosen, shown, GotIds, news_done, given_by, left_among_news, NothingIfGone, NoneUnderGone}
 use Rattle.front_laws.specs.Repeats.{StopsAmongNews}
 use Rattle.front_laws.proofs.ResumeLaws.{Resumed, resume}
@@ -48,16 +48,9 @@ choice-counted view rows base records false shows free =
 
 -- ---- the writes make the merge
 
-abbrev pub LivesShow : (ℕ → SideState) → List Record → Type 0
-LivesShow h records = (i : ℕ) (r : Record) → first i records ≡ Some r → is_held_live (h i) ≡ is_live r
-
-pub are_shown : (h : ℕ → SideState) (records : List Record) → RowsDiffer records → AreBounded records → LivesShow h records → AreShown h records
-are_shown h [] differ bounded lives = tt
-are_shown h (x ∷ records) differ bounded lives = grind (arith, are_shown h records differ.1 bounded.1)
-
 pub whole-is : (ch : Choice) (h : ℕ → SideState) (given : List ℕ) (records : List Record) → RowsDiffer records → AreBounded records
     → ((i : ℕ) → h i ≡ held records i) → GotFreeIds ch h given records → after (whole ch h given) records ≡ merged_records ch h given records
-whole-is ch h given records differ bounded shows free = grind (arith, after-all ch h given records differ, are_shown h records differ bounded)
+whole-is ch h given records differ bounded shows free = grind (arith, after-all ch h given records differ, are-shown h records differ bounded)
 
 -- ---- one session after the other
 

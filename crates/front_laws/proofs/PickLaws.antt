@@ -4,26 +4,16 @@ use Rattle.std.proofs.Common.{◌≡◌, ◌⊎◌, ◌∙◌, ◌<◌, ◌≤�
 use Rattle.std.proofs.Common.{length, get_or, set}
 use Rattle.std.specs.Prelude.{Option, Some, None, position, ◌==◌, ◌&&◌, not, nat_lt, if◌then◌else◌}
 use Rattle.std.specs.Option.{option_map}
-use Rattle.std.proofs.lemmas.Bool.{eq-eqb, lt-ltb, le-ltb}
-use Rattle.std.proofs.lemmas.Bool.Decides.{nat_tests}
+use Rattle.std.proofs.lemmas.Bool.{lt-ltb, le-ltb}
 use Rattle.std.proofs.lemmas.List.{length-append}
-use Rattle.std.proofs.lemmas.List.Sums.{fails_before_first}
-use Rattle.std.specs.List.{position_or_len}
 use Rattle.std.proofs.lemmas.List.Quantifiers.{position-Some}
 use Rattle.pdb_values.specs.Slots.{slot_for}
 use Rattle.desk_store.specs.Desks.{place_of}
 use Rattle.pdb_values.proofs.PlaceLaws.{position-cons}
+use Rattle.sync_session.proofs.SeatLaws.{agreed, position-none}
+use Rattle.handheld_files.proofs.SettledLaws.{own_id}
 
 -- ---- the first place that passes
-
-is_own : (n : ℕ) → (n == n) ≡ true
-is_own n = eq-eqb n n refl
-
--- where none passes, each fails
-position_none : {X : Type 0} (p : X → Bool) (xs : List X) (d : X) → position p xs ≡ None → (k : ℕ) → k < length xs → p (get_or xs k d) ≡ false
-position_none p xs d none k inside =
-    let far : length xs ≤ position_or_len p xs = grind (arith, nat_tests, none) in
-    fails_before_first p xs k d (omega (arith, inside, far))
 
 -- what is put at a place passes, and nothing before it does
 position-set : {X : Type 0} (test : X → Bool) (xs : List X) (k : ℕ) (x d : X) → test x ≡ true → k < length xs
@@ -73,8 +63,8 @@ place-near users user add = grind (arith, place_in users user add, picks users u
 
 -- nothing stands before the first place
 first-set : (users : List ℕ) (user : ℕ) → position (λ other. other == user) (placed users 0 user) ≡ Some 0
-first-set [] user = grind (arith, [], is_own user)
-first-set (x ∷ users) user = grind (arith, [], lt-ltb 0 (length (x ∷ users)) (omega arith), is_own user)
+first-set [] user = grind (arith, [], own_id user)
+first-set (x ∷ users) user = grind (arith, [], lt-ltb 0 (length (x ∷ users)) (omega arith), own_id user)
 
 get-front : (xs ys : List ℕ) (i d : ℕ) → i < length xs → get_or (xs ++ ys) i d ≡ get_or xs i d
 get-front [] ys i d less = absurd (omega (arith, less))
@@ -88,14 +78,14 @@ found-again some (without is first) = absurd (let no : true ≡ false = sym is �
 found-again {users} {user} {place} some (known is there) =
     let at = position-Some (λ other. other == user) users place 0 there in
     ap (λ b. position (λ other. other == user) (set (if b then users else users ++ 0 ∷ []) place user)) (lt-ltb place (length users) at.0)
-    ∙ position-set (λ other. other == user) users place user 0 (is_own user) at.0 at.2
+    ∙ position-set (λ other. other == user) users place user 0 (own_id user) at.0 at.2
 found-again {users} {user} some (claims is none first) = grind (arith, placed users, first-set users user)
 found-again {users} {user} some (follows is none last) =
     subst (λ n. position (λ other. other == user) (placed users n user) ≡ Some n) (sym last)
     (ap (λ b. position (λ other. other == user) (set (if b then users else users ++ 0 ∷ []) (length users) user))
     (le-ltb (length users) (length users) (omega arith))
-    ∙ position-set (λ other. other == user) (users ++ 0 ∷ []) (length users) user 0 (is_own user) (omega (arith, length-append users (0 ∷ [])))
-    (λ i less. ap (λ (n : ℕ). n == user) (get-front users (0 ∷ []) i 0 less) ∙ position_none (λ other. other == user) users 0 none i less))
+    ∙ position-set (λ other. other == user) (users ++ 0 ∷ []) (length users) user 0 (own_id user) (omega (arith, length-append users (0 ∷ [])))
+    (λ i less. ap (λ (n : ℕ). n == user) (get-front users (0 ∷ []) i 0 less) ∙ position-none (λ other. other == user) users 0 none i less))
 
 pub user-again : (users : List ℕ) (user : ℕ) (add other : Bool) → (user == 0) ≡ false
     → place_in (placed users (place_in users user add) user) user other ≡ place_in users user add
@@ -109,10 +99,6 @@ none-again users user add = by (user == 0) refl
     by : (b : Bool) → (user == 0) ≡ b → place_in (placed users 0 user) user add ≡ 0
     by true is = place-none (placed users 0 user) user add is
     by false is = place-some (placed users 0 user) user add is (first-set users user)
-
--- the user that both sides agree on: the slot's, where the handheld has none and the slot has one
-abbrev pub agreed : ℕ → ℕ → ℕ
-agreed user own = if (user == 0) && not (own == 0) then own else user
 
 one_of : {n u a : ℕ} → a ≡ u → (n ≡ u) ⊎ (n ≡ a) → n ≡ u
 one_of same e = grind (arith, common_steps)

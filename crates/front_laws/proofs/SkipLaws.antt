@@ -4,7 +4,7 @@ use Rattle.std.proofs.lemmas.Bool.Decides.{nat_tests}
 use Rattle.std.proofs.Common.{◌≡◌, ℕ, List, ◌<◌, ◌%◌, bit_and, ◌||◌, ◌&&◌, refl, ap, ◌∙◌, arith, Bool, true, false, not, Option, Some, None, is_none, is_some}
 use Rattle.std.proofs.Common.{if◌then◌else◌}
 use Rattle.std.specs.Str.{bytes_eq}
-use Rattle.std.proofs.lemmas.Nat.{and_assoc, and_mod}
+use Rattle.std.proofs.lemmas.Nat.{and_assoc}
 use Rattle.pdb_values.specs.Databases.{DatabaseValue}
 use Rattle.pdb_values.specs.Heads.{holds_resources, is_read_only, is_stream}
 use Rattle.pdb_values.specs.declared.head.DbHead.{DbHead}
@@ -18,6 +18,7 @@ use Rattle.session_parts.specs.declared.skip.Skip.{Skip}
 use Rattle.session_parts.specs.declared.skip.Skip.TheVariants as skip
 use Rattle.front_laws.specs.Meetings.{IsLike, IsLikeFirst, StandsLike}
 use Rattle.folder_files.proofs.ValueLaws.{or_first}
+use Rattle.sync_session.proofs.FitLaws.{odd_mask}
 
 -- ---- a test of attributes
 
@@ -101,15 +102,6 @@ kept-stays m next name like is =
     (is_some u.base) like.has_handheld like.has_rows like.has_base t.action like.handheld like.rows is
 
 -- ---- heads that a session makes
-
-one_bit : (n : ℕ) → n < 2 → bit_and n 1 ≡ n
-one_bit n l = grind arith
-
-odd_mask : (a m : ℕ) → m % 2 ≡ 1 → bit_and a m % 2 ≡ a % 2
-odd_mask a m is = and_mod a m 1 ∙ ap (bit_and (a % 2)) is ∙ one_bit (a % 2) (mod-lt a)
-  where
-    mod-lt : (n : ℕ) → n % 2 < 2
-    mod-lt n = omega arith
 
 kept_bit : (k a m : ℕ) → bit_and m k ≡ k → bit_and (bit_and a m) k ≡ bit_and a k
 kept_bit k a m is = and_assoc k a m ∙ ap (bit_and a) is

@@ -10,7 +10,8 @@ use Rattle.desk_store.proofs.SlotListLaws.{place_there, slot_at-set_same}
 use Rattle.session_plan.specs.Merges.{merged_slot, merged_slots}
 use Rattle.session_plan.specs.Tasks.{Meeting, place_for, slot_of}
 use Rattle.session_plan.specs.Users.{agreed_user}
-use Rattle.front_laws.proofs.PickLaws.{agreed, both-again, place-any, place-near, place_in, placed}
+use Rattle.front_laws.proofs.PickLaws.{both-again, place-any, place-near, place_in, placed}
+use Rattle.sync_session.proofs.SeatLaws.{agreed}
 
 -- ---- the users
 

@@ -19,7 +19,7 @@ use Rattle.conduit_rules.specs.declared.view.Seen.{Seen}
 use Rattle.conduit_rules.proofs.ByIdLaws.{each_below-zero, each_below-suc}
 use Rattle.front_laws.proofs.PutActs.{IsReplacement}
 use Rattle.front_laws.proofs.WriteActs.{IsSorted}
-use Rattle.desk_journal.proofs.StepLaws.{all_and}
+use Rattle.desk_journal.proofs.StepLaws.{all-append}
 
 abbrev pub HasSorted : Record → Type 0
 HasSorted r = IsSorted r.content
@@ -39,11 +39,11 @@ IfBased (gone c) = IsSorted c
 pub all-flat_map : {A B : Type 0} (P : A → Type 0) (Q : B → Type 0) (f : A → List B) (xs : List A) → ((x : A) → P x → AllByRecursion Q (f x))
     → AllByRecursion P xs → AllByRecursion Q (flat_map f xs)
 all-flat_map P Q f [] each all = tt
-all-flat_map P Q f (x ∷ xs) each all = all_and Q (f x) (flat_map f xs) (each x all.0) (all-flat_map P Q f xs each all.1)
+all-flat_map P Q f (x ∷ xs) each all = all-append Q (f x) (flat_map f xs) (each x all.0) (all-flat_map P Q f xs each all.1)
 
 pub all-below : {A : Type 0} (P : A → Type 0) (f : ℕ → List A) (n : ℕ) → ((i : ℕ) → i < n → AllByRecursion P (f i)) → AllByRecursion P (each_below f n)
 all-below P f zero each = subst (AllByRecursion P) (sym (each_below-zero f)) tt
-all-below P f (suc n) each = grind (arith, each_below-suc f n, all_and P (each_below f n) (f n), all-below P f n)
+all-below P f (suc n) each = grind (arith, each_below-suc f n, all-append P (each_below f n) (f n), all-below P f n)
 
 pub found : {A : Type 0} (P : A → Type 0) (test : A → Bool) (xs : List A) → AllByRecursion P xs → IfSome (find test xs) P
 found P test [] all = tt
@@ -137,7 +137,7 @@ loose_for_sorted a xs all = grind (arith, common_steps)
 pub adds-sorted : (a : Action) {s : Sides} → AreSorted s → AllByRecursion IsSorted (choice_for a s).adds
 adds-sorted a {s} are =
     unpaired_sorted (λ c. count_of c (partners_for a s)) (offers_for a s)
-    (all_and IsSorted (loose_for a s.loose_live) (each_id (λ i. option_to_list (fate_for a s i).news)) (loose_for_sorted a s.loose_live are.loose)
+    (all-append IsSorted (loose_for a s.loose_live) (each_id (λ i. option_to_list (fate_for a s i).news)) (loose_for_sorted a s.loose_live are.loose)
     (all-below IsSorted (λ i. option_to_list (fate_for a s i).news) id_bound
     (λ i l. listed IsSorted (fate_for a s i).news (fate_news a (s.base i) (s.handheld i) (s.desktop i) (are.desktop i)))))
 

@@ -2,13 +2,12 @@
 use Rattle.std.proofs.Common.{◌≡◌, ℕ, suc, ◌+◌, ◌<◌, ◌≤◌, Bool, true, false, cond, List, [], ◌∷◌, ◌++◌, map, take, drop, length, refl, ap, sym, ◌∙◌, subst, inl}
 use Rattle.std.proofs.Common.{inr, arith, add-one, zero, get_or, rules}
 use Rattle.std.specs.List.{AllByRecursion}
-use Rattle.std.specs.Prelude.{Option, Some, None, IfErr, IfOk, IfSome, IsErrOf, MatchBool, Err, Ok, Result, String, count_by, string_bytes}
+use Rattle.std.specs.Prelude.{Option, Some, None, IfErr, IfOk, IfSome, MatchBool, Err, Ok, Result, String, count_by, string_bytes}
 use Rattle.std.specs.FinMap as finmap
 use Rattle.std.specs.declared.alloc.Global.{Global}
 use Rattle.std.proofs.Math.Seq.{split_at}
 use Rattle.std.proofs.lemmas.List.{map-append}
 use Rattle.std.proofs.lemmas.List.Sums.{sum_by-append}
-use Rattle.hs_folders.specs.Causes.{HasCause}
 use Rattle.hs_folders.specs.FileMaps.{FileMap}
 use Rattle.hs_folders.specs.Moments.{Moments, OnlyRead}
 use Rattle.pdb_values.specs.Databases.{DatabaseValue}
@@ -29,7 +28,6 @@ use Rattle.handheld_files.proofs.SettledLaws.{settled_as_opened}
 use Rattle.handheld_files.proofs.StandLaws.{as_opened-head, stand_added, stand_all, stand_missing, stand_none, stand_unread}
 use Rattle.std.proofs.lemmas.Grind.{common_steps}
 use Rattle.std.proofs.lemmas.Bool.Decides.{nat_tests}
-use Rattle.hs_folders.proofs.CauseLaws.{same_fault}
 
 -- the databases of files of these names
 pub record KeptSoFar (names : List (List ℕ)) (databases : List DatabaseValue) : Type 0 where
@@ -167,8 +165,3 @@ pub OnlyRead-trans : {F : Type 0} (contents : F → Option FileMap) (moments : F
 OnlyRead-trans contents moments paths faults old mid new first = search (rules)
 
 -- ---- causes
-
--- a call that was refused passes its cause on
-pub cause_on : {A B E : Type 0} (before mid now : ℕ) (fault other : E) → mid ≡ before → HasCause mid now (IsErrOf {T = A} (Err fault) other)
-    → HasCause before now (IsErrOf {T = B} (Err fault) other)
-cause_on before mid now fault other same cause = search (rules, same_fault)

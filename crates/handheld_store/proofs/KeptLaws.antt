@@ -23,7 +23,8 @@ use Rattle.handheld_files.proofs.ChangeLaws.{stands_put}
 use Rattle.handheld_store.specs.Files.{Follows}
 use Rattle.handheld_files.proofs.FreshLaws.{get_some}
 
-abbrev is_settled : DatabaseValue → Type 0
+-- the database's records are settled
+abbrev pub is_settled : DatabaseValue → Type 0
 is_settled database = are_settled database.records ≡ true
 
 -- ---- with a new one

@@ -1,5 +1,5 @@
 -- Records that are written where they stand, and taken back where the file failed.
-use Rattle.std.proofs.Common.{◌≡◌, ◌∙◌, ℕ, zero, suc, ◌<◌, ◌++◌, ◌∷◌, [], List, Option, Some, None, true, ap, get_or, inl, inr, length, refl, slice_get}
+use Rattle.std.proofs.Common.{◌≡◌, ◌∙◌, ℕ, zero, suc, ◌<◌, ◌++◌, ◌∷◌, [], List, Option, Some, None, ap, get_or, inl, inr, length, refl, slice_get}
 use Rattle.std.proofs.Common.{slice_set, subst, sym}
 use Rattle.std.specs.Prelude.{IfSome, IsSome, IsSomeAnd, is_some, option_and_then, remove}
 use Rattle.hs_folders.specs.FileMaps.{FileMap}
@@ -15,9 +15,8 @@ use Rattle.palm_device.specs.Records.{has_id, place_of_id, put_record, rewritten
 use Rattle.palm_device.specs.Soundness.{ids_of}
 use Rattle.palm_device.proofs.RecordLaws.{put_record_at}
 use Rattle.handheld_files.specs.Openings.{AreKept, Stands}
-use Rattle.handheld_files.specs.Settled.{are_settled}
 use Rattle.handheld_store.specs.Files.{Follows, HasText}
-use Rattle.handheld_store.proofs.KeptLaws.{AreKept-replaced, Stands-replaced, database_of-own, database_of-place}
+use Rattle.handheld_store.proofs.KeptLaws.{AreKept-replaced, Stands-replaced, database_of-own, database_of-place, is_settled}
 use Rattle.handheld_store.specs.Ids.{IsTakenOrFree}
 use Rattle.handheld_store.specs.Placed.{Takes, with_record}
 use Rattle.handheld_store.proofs.ListLaws.{map-set}
@@ -50,9 +49,6 @@ last_back item old mid last taken pushed is rest =
     rw (rest (ap is_some some), pushed, last_gone old.records item)
 
 -- ---- the database of a name
-
-abbrev pub is_settled : DatabaseValue → Type 0
-is_settled database = are_settled database.records ≡ true
 
 -- what is known where a database with the same head takes the place of the one of a name
 pub record Placed (name : List ℕ) (databases databases' : List DatabaseValue) (was new : DatabaseValue) : Type 0 where

@@ -87,7 +87,7 @@ fn ids_in(alloc: Global, items: &[Record]) -> Option<IndexSet<u32>>
         return None;
     };
     for place in 0..items.len() {
-        if !is_added(&mut ids, items[place].id.number()) {
+        if !insert_id(&mut ids, items[place].id.number()) {
             return None;
         }
     }
@@ -95,7 +95,7 @@ fn ids_in(alloc: Global, items: &[Record]) -> Option<IndexSet<u32>>
 }
 
 // Puts an id behind the others. The answer is whether it is new and memory serves.
-fn is_added(ids: &mut IndexSet<u32>, id: u32) -> bool
+fn insert_id(ids: &mut IndexSet<u32>, id: u32) -> bool
     ensures { result ≡ true → ids.new.keys ≡ ids.old.keys ++ id ∷ [] }
 {
     matches!(ids.insert(id), Ok(true))
@@ -141,7 +141,7 @@ fn put_more(indexes: &mut Vec<Index>, index: Index, id: u32)
         → HasIdMore databases index id → AreIndexes databases indexes.new.items }
 {
     let Index { name, mut ids } = index;
-    if is_added(&mut ids, id) {
+    if insert_id(&mut ids, id) {
         let _added = indexes.push(Index { name, ids });
     }
 }

@@ -58,7 +58,8 @@ pub record AreOpenedFor (words : Between) (before : CallTold) (source : SourceTo
   pub trace_taken : trace.taken ≡ before.trace.taken
   pub trace_later : before.trace.faults ≤ trace.faults
 
-abbrev both_told : FolderTold → FolderTold → SidesTold
+-- what both folders were told
+abbrev pub both_told : FolderTold → FolderTold → SidesTold
 both_told palm desk = record { palm = palm; desk = desk }
 
 -- what a session left, told from an earlier time on

@@ -34,6 +34,7 @@ use Rattle.hotsync_run.proofs.RefusedCalls.{refused_call}
 use Rattle.call_parts.proofs.RetoldLaws.{StaysShown, by_end_then}
 use Rattle.hotsync_run.proofs.RunLaws.{refused_not_done, retold_done, retold_served, traced_as}
 use Rattle.hotsync_run.proofs.SessionRuns.{AreOpened, spoke_from}
+use Rattle.hotsync_run.proofs.BackupRuns.{both_told}
 use Rattle.call_parts.proofs.TraceLaws.{traced_from}
 use Rattle.call_parts.proofs.TraceLaws.{talk_not_in_use, talk_not_source}
 use Rattle.call_parts.specs.declared.report.Report.{Report}
@@ -96,9 +97,6 @@ left_from {filing} {first} {before} {after} stays finished_is stood left = recor
   untouched = λ none. left.untouched none ∙ finished_is;
   unseated = left.unseated;
 }
-
-abbrev both_told : FolderTold → FolderTold → SidesTold
-both_told palm desk = record { palm = palm; desk = desk }
 
 module _ {words : Between} (before after : CallTold) {palm desk : FolderTold} {trace : SinkTold} {rules : List RuleValue} {device : Device}
     {slots : List SlotValue} {status : Status} {report : Report}

@@ -1,5 +1,5 @@
 -- What is known of a session that brings categories together, by what its call answered, and whatever is written of it.
-use Rattle.std.proofs.Common.{◌≡◌, ◌⊎◌, ◌∙◌, ap, append_assoc, arith, inl, inr, refl, subst, sym, ℕ, List, [], ◌∷◌, ◌++◌, length}
+use Rattle.std.proofs.Common.{◌≡◌, ◌⊎◌, ◌∙◌, ap, arith, inl, inr, refl, subst, sym, ℕ, List, [], ◌∷◌, ◌++◌, length}
 use Rattle.std.proofs.lemmas.List.{append-nil}
 use Rattle.std.specs.Prelude.{IfOk, IsErr, OnErr, Option, None, Some, Result, Ok, Err, filter}
 use Rattle.std.specs.Global.{Vec}
@@ -49,6 +49,7 @@ use Rattle.hotsync_looks.specs.declared.status.Status.{Status}
 use Rattle.category_mirror.specs.Sides.{filing_acts}
 use Rattle.install_backup.proofs.BackupOrder.{order-take}
 use Rattle.front_laws.specs.Answered.{IsAnsweredExchange}
+use Rattle.front_laws.proofs.RequestLaws.{prefix-more}
 use Rattle.hotsync_run.proofs.NeverLaws.{all-answered, all-talked, filing_never, plain_said, run-says}
 use Rattle.call_parts.proofs.SpokeLaws.{IsUnrefusedEnd}
 
@@ -59,12 +60,6 @@ quiet-end = count-is (ending ∷ [])
 
 quiet-rest : {rest : List (List ℕ)} → IsPrefix rest (text ending ∷ []) → length (filter changes rest) ≡ 0
 quiet-rest {rest} prefix = let few = prefix-count prefix in let none = quiet-end in omega (arith, few, none)
-
-prefix-longer : {xs ys : List (List ℕ)} (zs : List (List ℕ)) → IsPrefix xs ys → IsPrefix xs (ys ++ zs)
-prefix-longer {xs} zs prefix = record {
-  rest = prefix.rest ++ zs;
-  is = sym (append_assoc xs prefix.rest zs) ∙ ap (λ (l : List (List ℕ)). l ++ zs) prefix.is;
-}
 
 -- ---- a user without a slot
 
@@ -136,7 +131,7 @@ module _ {F D : Type 0} {contents : F → Option FileMap} {moments : F → Momen
       record { rest = []; is = append-nil new.log.issued ∙ logged.issued_are }
   begins_by (Err why) over (inl b) =
       let first = issued_begins old new (first_requests filing) silent closes.tells.log b.stops.only in
-      subst (λ (l : List (List ℕ)). IsPrefix new.log.issued l) (sym (requests-are filing)) (prefix-longer (text ending ∷ []) first)
+      subst (λ (l : List (List ℕ)). IsPrefix new.log.issued l) (sym (requests-are filing)) (prefix-more (text ending ∷ []) first)
   begins_by (Err why) over (inr b) = subst (λ (l : List (List ℕ)). IsPrefix new.log.issued l) (sym (requests-are filing)) (began b).issued_begins
 
   begins : IsPrefix new.log.issued asked

@@ -18,7 +18,7 @@ use Rattle.call_parts.specs.Refusals.{BlamesSource}
 use Rattle.hotsync_run.specs.SessionCalls.{SentNothing}
 use Rattle.call_parts.specs.Stays.{StaysAsItWas}
 use Rattle.call_parts.specs.Sessions.{KeptSilent}
-use Rattle.call_parts.specs.Told.{CallTold, FolderTold, SidesTold, sides_of}
+use Rattle.call_parts.specs.Told.{CallTold, FolderTold, sides_of}
 use Rattle.call_parts.specs.Traces.{TracesReport}
 use Rattle.hotsync_run.proofs.CallPrinted.{IsPrintable, call_printed}
 use Rattle.hotsync_run.proofs.InstallSpoke.{install_retold}
@@ -26,6 +26,7 @@ use Rattle.hotsync_run.proofs.RefusedRuns.{handheld_alone, trace_alone}
 use Rattle.call_parts.proofs.RetoldLaws.{StaysShown, by_end_then}
 use Rattle.hotsync_run.proofs.RunLaws.{retold_done, retold_served, traced_as}
 use Rattle.hotsync_run.proofs.SessionRuns.{spoke_from}
+use Rattle.hotsync_run.proofs.BackupRuns.{both_told}
 use Rattle.call_parts.proofs.TraceLaws.{traced_from}
 use Rattle.call_parts.proofs.TraceLaws.{talk_not_in_use, talk_not_source}
 use Rattle.call_parts.specs.declared.report.Report.{Report}
@@ -47,9 +48,6 @@ pub record AreOpenedFor (words : Between) (before : CallTold) (source : SourceTo
   pub trace_at_most : OpensGivenAtMost words.trace before.trace.paths trace.paths
   pub trace_taken : trace.taken ≡ before.trace.taken
   pub trace_later : before.trace.faults ≤ trace.faults
-
-abbrev both_told : FolderTold → FolderTold → SidesTold
-both_told palm desk = record { palm = palm; desk = desk }
 
 module _ {words : Between} (before after : CallTold) {palm : FolderTold} {trace : SinkTold} {device : Device} {database : DatabaseValue} {status : Status}
     {report : Report} (opened : AreOpenedFor words before after.source palm trace device database) (desk : after.desk ≡ before.desk) where

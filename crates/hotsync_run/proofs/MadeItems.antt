@@ -25,7 +25,7 @@ use Rattle.made_folders.specs.Sides.{letter_on, made_database, made_head, record
 use Rattle.made_folders.specs.declared.item.Item.{Item}
 use Rattle.made_folders.specs.declared.side.MadeSide.{MadeSide}
 use Rattle.made_folders.specs.declared.side.MadeSide.TheVariants.{Handheld}
-use Rattle.desk_journal.proofs.StepLaws.{all_and}
+use Rattle.desk_journal.proofs.StepLaws.{all-append}
 
 -- ---- items
 
@@ -41,7 +41,7 @@ each_record : (P : Record → Type 0) (side : MadeSide) (items : List Item) → 
     → AllByRecursion IsDrawn items → AllByRecursion P (records_on side items)
 each_record P side [] holds drawn = tt
 each_record P side (item ∷ items) holds drawn =
-    all_and P (option_to_list (record_on side item)) (records_on side items) (one (letter_on side item.kind)) (each_record P side items holds drawn.1)
+    all-append P (option_to_list (record_on side item)) (records_on side items) (one (letter_on side item.kind)) (each_record P side items holds drawn.1)
   where
     one : (letter : Option ℕ) → AllByRecursion P (option_to_list (option_map (record_with item) letter))
     one None = tt

@@ -23,7 +23,7 @@ use Rattle.desk_journal.specs.Entries.{EntryValue}
 use Rattle.desk_journal.specs.Overlays.{put_all}
 use Rattle.palm_device.specs.Devices.{Device}
 use Rattle.desktop_session.proofs.StopLaws.{does_then, fell_none, stops_more, stops_none, stops_then}
-use Rattle.desktop_session.proofs.WholeListLaws.{count_is, heads_are, more_is}
+use Rattle.desktop_session.proofs.WholeListLaws.{count_is, heads_are, more_is, head_of}
 use Rattle.desktop_session.specs.Answers.{answer_by, no_more, said_in, user_of}
 use Rattle.desktop_session.specs.Faults.{fault_of}
 use Rattle.desktop_session.specs.Greetings.{AnswersGreeting, begun_by, user_by, user_with}
@@ -49,7 +49,7 @@ use Rattle.install_backup.specs.declared.moved.Moved.{Moved}
 use Rattle.install_backup.specs.BackupActs.{backup_acts, backup_of}
 use Rattle.install_backup.specs.BackupEnds.{BackupEnds, BackupWent, Finishes, backup_front, next_of, read_of}
 use Rattle.install_backup.specs.Backups.{HasSome, IsBackupCause, KeepsSome, SaysCopied, backups_under, file_of, kept_moved, next_acts}
-use Rattle.install_backup.proofs.ReadWhole.{AreHeld, ReadsAll, acts_are, held_all, held_first, held_last, listed_of, reads_all}
+use Rattle.install_backup.proofs.ReadWhole.{AreHeld, ReadsAll, acts_are, held_all, held_first, held_last, reads_all}
 use Rattle.desk_journal.proofs.StepLaws.{none_put}
 use Rattle.desktop_session.proofs.ListLaws.{after_append, listings_same}
 
@@ -123,21 +123,21 @@ record SplitHeads (done rest : List DbHead) (databases : List DatabaseValue) : T
   kept : List DatabaseValue
   later : List DatabaseValue
   parts : kept ++ later ≡ databases
-  done_is : done ≡ map listed_of kept
-  rest_is : rest ≡ map listed_of later
+  done_is : done ≡ map head_of kept
+  rest_is : rest ≡ map head_of later
 
-split_heads : (done rest : List DbHead) (databases : List DatabaseValue) → done ++ rest ≡ map listed_of databases → SplitHeads done rest databases
+split_heads : (done rest : List DbHead) (databases : List DatabaseValue) → done ++ rest ≡ map head_of databases → SplitHeads done rest databases
 split_heads [] rest databases is = record { kept = []; later = databases; parts = refl; done_is = refl; rest_is = is }
 split_heads (head ∷ done) rest [] is = absurd cc
 split_heads (head ∷ done) rest (database ∷ databases) is =
-    let first : head ≡ listed_of database = cc in
-    let others : done ++ rest ≡ map listed_of databases = cc in
+    let first : head ≡ head_of database = cc in
+    let others : done ++ rest ≡ map head_of databases = cc in
     let more = split_heads done rest databases others in
     record {
       kept = database ∷ more.kept;
       later = more.later;
       parts = ap (λ (ds : List DatabaseValue). database ∷ ds) more.parts;
-      done_is = ap (λ (h : DbHead). h ∷ done) first ∙ ap (λ (hs : List DbHead). listed_of database ∷ hs) more.done_is;
+      done_is = ap (λ (h : DbHead). h ∷ done) first ∙ ap (λ (hs : List DbHead). head_of database ∷ hs) more.done_is;
       rest_is = more.rest_is;
     }
 
@@ -208,7 +208,7 @@ module _ {L F : Type 0} {talk : L → Option Talk} {since : L → L → Type 0} 
         let last = told_behind (λ d. (meets.count ≡ 65536) ⊎ (has_more (list_reply d (meets.count - 1)) ≡ false)) told.device (talk old) (tells_it is) meets.last in
         count_is told.device meets.count rests.proper meets.some meets.few more last
 
-    heads : met.heads.items ≡ map listed_of told.device.databases
+    heads : met.heads.items ≡ map head_of told.device.databases
     heads =
         told_behind (λ d. met.heads.items ≡ heads_listed d meets.count) told.device (talk old) (tells_it is) meets.heads
         ∙ heads_are told.device meets.count rests.proper (let all = all_listed in omega arith) meets.few
@@ -253,33 +253,33 @@ module _ {L F : Type 0} {talk : L → Option Talk} {since : L → L → Type 0} 
     now_tells : Tells told.device (talk some.now)
     now_tells = subst (Tells told.device) (sym kept_does.said) all.tells
 
-    next_stops : (rest : List DbHead) (later : List DatabaseValue) → rest ≡ map listed_of later → AreHeld told.device.databases later
+    next_stops : (rest : List DbHead) (later : List DatabaseValue) → rest ≡ map head_of later → AreHeld told.device.databases later
         → Stops talk since fault downs (map text (next_acts (talk some.now) rest some.next)) some.now went.now.link
         → Stops talk since fault downs (map text (next_of later)) some.now went.now.link
     next_stops [] [] same there stops = stops_more talk since fault downs [] (text ending ∷ []) some.now went.now.link stops
     next_stops [] (database ∷ later) same there stops = absurd cc
     next_stops (head ∷ rest) [] same there stops = absurd cc
     next_stops (head ∷ rest) (database ∷ later) same there stops =
-        let first : head ≡ listed_of database = cc in
+        let first : head ≡ head_of database = cc in
         let handle = first_is told.device (talk some.now) some.next.handle now_tells rests.closed some.first in
         subst (λ (acts : List Act). Stops talk since fault downs (map text acts) some.now went.now.link)
         (ap (λ (h : DbHead). backups_under (talk some.now) h some.next.handle some.next.given) first
-        ∙ ap (λ (n : ℕ). backups_under (talk some.now) (listed_of database) n some.next.given) handle
+        ∙ ap (λ (n : ℕ). backups_under (talk some.now) (head_of database) n some.next.given) handle
         ∙ acts_are told.device rests database there.0 (talk some.now) some.next.given now_tells)
         stops
 
-    next_does : (rest : List DbHead) (later : List DatabaseValue) → rest ≡ map listed_of later → AreHeld told.device.databases later → rest ≢ []
+    next_does : (rest : List DbHead) (later : List DatabaseValue) → rest ≡ map head_of later → AreHeld told.device.databases later → rest ≢ []
         → Does talk (next_acts (talk some.now) rest some.next) some.now went.now.link
         → (later ≢ []) × Does talk (next_of later) some.now went.now.link
     next_does [] later same there more does = absurd (more refl)
     next_does (head ∷ rest) [] same there more does = absurd cc
     next_does (head ∷ rest) (database ∷ later) same there more does =
-        let first : head ≡ listed_of database = cc in
+        let first : head ≡ head_of database = cc in
         let handle = first_is told.device (talk some.now) some.next.handle now_tells rests.closed some.first in (
           λ none. cc,
           subst (λ (acts : List Act). Does talk acts some.now went.now.link)
               (ap (λ (h : DbHead). backups_under (talk some.now) h some.next.handle some.next.given) first
-              ∙ ap (λ (n : ℕ). backups_under (talk some.now) (listed_of database) n some.next.given) handle
+              ∙ ap (λ (n : ℕ). backups_under (talk some.now) (head_of database) n some.next.given) handle
               ∙ acts_are told.device rests database there.0 (talk some.now) some.next.given now_tells)
               does,
         )
@@ -334,7 +334,7 @@ module _ {L F : Type 0} {talk : L → Option Talk} {since : L → L → Type 0} 
       cause = cause;
     }
 
-    none_later : (later : List DatabaseValue) → [] ≡ map listed_of later → later ≡ []
+    none_later : (later : List DatabaseValue) → [] ≡ map head_of later → later ≡ []
     none_later [] same = refl
     none_later (d ∷ later) same = absurd cc
 

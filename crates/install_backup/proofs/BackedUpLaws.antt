@@ -20,7 +20,6 @@ use Rattle.palm_device.specs.Devices.{Device}
 use Rattle.palm_device.proofs.BoundLaws.{AllByRecursion-get}
 use Rattle.dlp_commands.specs.DatabaseFunctions.{listed}
 use Rattle.dlp_commands.specs.DeviceSteps.{tried}
-use Rattle.dlp_commands.specs.Readings.{bit_if}
 use Rattle.desktop_session.specs.Acts.{acted}
 use Rattle.desktop_session.specs.Answers.{resource_of, said_in}
 use Rattle.desktop_session.specs.Lent.{lent_kind, record_lent, resource_lent}
@@ -33,6 +32,7 @@ use Rattle.desktop_session.proofs.TellLaws.{act_sayable, acted_reads}
 use Rattle.session_parts.specs.Rests.{IsAtRest}
 use Rattle.session_parts.proofs.RestLaws.{opened_on}
 use Rattle.mirrors.specs.Reads.{entries_told}
+use Rattle.mirrors.proofs.ShownLaws.{wire}
 use Rattle.install_backup.specs.BackupEnds.{read_of}
 use Rattle.install_backup.specs.BackedUp.{backed_up}
 use Rattle.install_backup.specs.Copies.{block_in, blocked, copied, each_told, is_gone, record_from, records_in, records_told, resources_in, resources_told, with_entries}
@@ -41,9 +41,6 @@ use Rattle.install_backup.proofs.ReadWhole.{base, base_here, counts, opens, prop
 use Rattle.desktop_session.proofs.OrderLaws.{got_at}
 
 -- ---- a record as it is lent
-
-abbrev wire : Bool → Bool → Bool → Bool → Bool → ℕ
-wire deleted dirty busy secret empty = bit_if 0x80 deleted + bit_if 0x40 dirty + bit_if 0x20 busy + bit_if 0x10 secret + bit_if 0x08 (deleted && not empty)
 
 wire_marks : (deleted dirty busy secret empty : Bool)
     → (is_gone (lent_kind (wire deleted dirty busy secret empty)) ≡ deleted) × (has_bit 0x40 (wire deleted dirty busy secret empty) ≡ dirty)

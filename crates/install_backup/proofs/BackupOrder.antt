@@ -28,7 +28,7 @@ use Rattle.install_backup.proofs.ArriveLaws.{Goes, goes_none, goes_one, goes_the
 use Rattle.install_backup.proofs.CopyLaws.{app_same, count_same, sort_same}
 use Rattle.install_backup.proofs.EachRead.{AllSame, at_same, resource_same}
 use Rattle.install_backup.proofs.ReadWhole.{AreHeld, base_here, held_all, opens}
-use Rattle.desk_journal.proofs.StepLaws.{all_and}
+use Rattle.desk_journal.proofs.StepLaws.{all-append}
 
 -- a beginning of acts that keep their order
 pub order-take : (n : ℕ) (acts : List Act) (device : Device) → AreInOrder acts device → AreInOrder (take n acts) device
@@ -151,14 +151,14 @@ listings_plain : (count : ℕ) → count ≤ 65536 → AllByRecursion IsPlain (l
 unfolding listings
 listings_plain zero few = tt
 listings_plain (suc count) few =
-    all_and IsPlain (listings count) (listing count ∷ []) (listings_plain count (omega (arith, few)))
+    all-append IsPlain (listings count) (listing count ∷ []) (listings_plain count (omega (arith, few)))
     ((list_fits count (omega (arith, few)), refl), tt)
 
 each_plain : (asks : ℕ → Act) (count : ℕ) → ((k : ℕ) → k < count → IsPlain (asks k)) → AllByRecursion IsPlain (each_read asks count)
 unfolding each_read
 each_plain asks zero each = tt
 each_plain asks (suc count) each =
-    all_and IsPlain (each_read asks count) (asks count ∷ []) (each_plain asks count (λ k below. each k (omega (arith, below))))
+    all-append IsPlain (each_read asks count) (asks count ∷ []) (each_plain asks count (λ k below. each k (omega (arith, below))))
     (each count (omega arith), tt)
 
 entries_plain : (b : Bool) (count : ℕ) → count ≤ 65535 → AllByRecursion IsPlain (entry_reads b 1 count)
@@ -175,7 +175,7 @@ backup_plain database bounded =
     let of_resources = holds_resources database.head.attributes in
     let few = few_of of_resources (length database.resources) (length database.records) bounded.whole.few_resources bounded.whole.few_records in (
       (open_fits 0x90 database.head.name (lit< tt) bounded.head.name, refl),
-      all_and IsPlain (backup_under of_resources (entry_count database) 1) (closing 1 ∷ []) (
+      all-append IsPlain (backup_under of_resources (entry_count database) 1) (closing 1 ∷ []) (
         (count_fits 1 (lit< tt), refl),
         ((app_fits 1 (lit< tt), refl), ((sort_fits 1 (lit< tt), refl), entries_plain of_resources (entry_count database) few)),
       ) ((close_fits 1 (lit< tt), refl), tt),
@@ -184,7 +184,7 @@ backup_plain database bounded =
 backups_plain : (databases : List DatabaseValue) → AllByRecursion IsBoundedDatabase databases → AllByRecursion IsPlain (flat_map backup_of databases)
 backups_plain [] bounded = tt
 backups_plain (database ∷ databases) bounded =
-    all_and IsPlain (backup_of database) (flat_map backup_of databases) (backup_plain database bounded.0) (backups_plain databases bounded.1)
+    all-append IsPlain (backup_of database) (flat_map backup_of databases) (backup_plain database bounded.0) (backups_plain databases bounded.1)
 
 pub backup_session_plain : (device : Device) → IsAtRest device → AllByRecursion IsPlain (backup_acts device)
 unfolding backup_acts
@@ -192,6 +192,6 @@ backup_session_plain device rests =
     let count : ℕ = max 1 (length device.databases) in
     let backups = flat_map backup_of device.databases in
     let few = rests.proper.sound.few in
-    all_and IsPlain greeting (listings count ++ (backups ++ ending ∷ [])) ((user_fits, refl), ((begin_fits, refl), tt))
-    (all_and IsPlain (listings count) (backups ++ ending ∷ []) (listings_plain count (omega (arith, few)))
-    (all_and IsPlain backups (ending ∷ []) (backups_plain device.databases rests.proper.bounded.databases) ((end_fits, refl), tt)))
+    all-append IsPlain greeting (listings count ++ (backups ++ ending ∷ [])) ((user_fits, refl), ((begin_fits, refl), tt))
+    (all-append IsPlain (listings count) (backups ++ ending ∷ []) (listings_plain count (omega (arith, few)))
+    (all-append IsPlain backups (ending ∷ []) (backups_plain device.databases rests.proper.bounded.databases) ((end_fits, refl), tt)))

@@ -18,7 +18,7 @@ use Rattle.install_backup.specs.Installed.{installed_head, installed_records}
 use Rattle.install_backup.specs.InstallActs as acts
 use Rattle.install_backup.specs.InstallActs.{entry_acts, fill_acts, install_one, installs_of, installs_under, is_installable}
 use Rattle.install_backup.proofs.GoneLaws.{deleting_keeps}
-use Rattle.desk_journal.proofs.StepLaws.{all_and}
+use Rattle.desk_journal.proofs.StepLaws.{all-append}
 
 app_keeps : (block : Option (List ℕ)) → AllByRecursion KeepsHandles (acts.block_acts writing_app 1 block)
 unfolding acted tried
@@ -60,15 +60,15 @@ entries_keep database = by (holds_resources database.head.attributes)
         (acts.record_acts 1 (installed_records database.records)))
     by true = resources_keep database.resources
     by false =
-        all_and KeepsHandles (map (acts.put_record 1) (installed_records database.records)) (resetting 1 ∷ [])
+        all-append KeepsHandles (map (acts.put_record 1) (installed_records database.records)) (resetting 1 ∷ [])
         (records_keep (installed_records database.records)) (reset_keeps, tt)
 
 fill_keeps : (database : DatabaseValue) (given : List ℕ) → AllByRecursion KeepsHandles (fill_acts database 1 given)
 unfolding fill_acts
 fill_keeps database given =
-    all_and KeepsHandles (acts.block_acts writing_app 1 database.app) (acts.block_acts writing_sort 1 database.sort ++ entry_acts 1 database)
+    all-append KeepsHandles (acts.block_acts writing_app 1 database.app) (acts.block_acts writing_sort 1 database.sort ++ entry_acts 1 database)
     (app_keeps database.app)
-    (all_and KeepsHandles (acts.block_acts writing_sort 1 database.sort) (entry_acts 1 database) (sort_keeps database.sort) (entries_keep database))
+    (all-append KeepsHandles (acts.block_acts writing_sort 1 database.sort) (entry_acts 1 database) (sort_keeps database.sort) (entries_keep database))
 
 one_closed : (database : DatabaseValue) → LeavesClosed (install_one database 1 [])
 unfolding install_one

@@ -38,7 +38,7 @@ use Rattle.install_backup.proofs.OthersLaws.{IsMine}
 use Rattle.install_backup.proofs.StayLaws.{one_mine, session_mine}
 use Rattle.install_backup.proofs.WholeLaws.{install_goes, installed_rests}
 use Rattle.palm_device.proofs.TellingLaws.{none_where}
-use Rattle.desk_journal.proofs.StepLaws.{all_and}
+use Rattle.desk_journal.proofs.StepLaws.{all-append}
 
 -- one that has room, or is passed over, and what is left for those behind it
 record OneGoes (device : Device) (database : DatabaseValue) (databases : List DatabaseValue) : Type 0 where
@@ -186,7 +186,7 @@ until_plain (database ∷ databases) held bounded =
         → AllByRecursion IsPlain (until_full databases held)
         → AllByRecursion IsPlain (cond b (cond c (install_one database 1 [] ++ until_full databases (with_installed database held)) (making_acts database))
         (until_full databases held))
-    by true true one more rest = all_and IsPlain (install_one database 1 []) (until_full databases (with_installed database held)) one more
+    by true true one more rest = all-append IsPlain (install_one database 1 []) (until_full databases (with_installed database held)) one more
     by true false one more rest = (one.0, (one.1.0, tt))
     by false c one more rest = rest
 

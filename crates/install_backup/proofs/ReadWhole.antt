@@ -7,7 +7,6 @@ use Rattle.pdb_values.specs.Databases.{DatabaseValue}
 use Rattle.pdb_values.specs.Heads.{holds_resources}
 use Rattle.pdb_values.specs.Names.{IsName}
 use Rattle.pdb_values.specs.NamedDatabases.{NamesRise, comes_before, database_of}
-use Rattle.pdb_values.specs.declared.head.DbHead.{DbHead}
 use Rattle.pdb_values.proofs.NamedLaws.{AllByRecursion-database_of, bytes_eq-own, comes_before-differs}
 use Rattle.dlp_replies.specs.ReplyValues as reply
 use Rattle.palm_device.specs.Blocks.{entry_count}
@@ -41,6 +40,7 @@ use Rattle.install_backup.specs.Backups.{SaysCopied, backups_under}
 use Rattle.install_backup.specs.Copies.{copied}
 use Rattle.install_backup.proofs.CopyLaws.{app_same, count_same, sort_same}
 use Rattle.desktop_session.proofs.ListLaws.{after_append, listings_same}
+use Rattle.desktop_session.proofs.WholeListLaws.{head_of}
 
 -- ---- each database of a list is that of its name
 
@@ -168,17 +168,14 @@ module _ (device : Device) (rests : IsAtRest device) (database : DatabaseValue) 
 
 -- ---- several
 
-abbrev pub listed_of : DatabaseValue → DbHead
-listed_of database = listed database.head
-
 pub record ReadsAll (told : Option Talk) (device : Device) (kept : List DatabaseValue) (ones : List Stretch) (wholes : List DatabaseValue) : Type 0 where
-  pub acts : each_acts backups_under told (map listed_of kept) ones ≡ flat_map backup_of kept
+  pub acts : each_acts backups_under told (map head_of kept) ones ≡ flat_map backup_of kept
   pub tells : Tells device (saying (flat_map backup_of kept) told)
   pub wholes_are : wholes ≡ map (read_of device) kept
 
 pub reads_all : (told : Option Talk) (device : Device) (kept : List DatabaseValue) (ones : List Stretch) (wholes : List DatabaseValue) → Tells device told
-    → IsAtRest device → AreHeld device.databases kept → AreFirst backups_under told (map listed_of kept) ones
-    → EachSays backups_under SaysCopied told (map listed_of kept) ones wholes → ReadsAll told device kept ones wholes
+    → IsAtRest device → AreHeld device.databases kept → AreFirst backups_under told (map head_of kept) ones
+    → EachSays backups_under SaysCopied told (map head_of kept) ones wholes → ReadsAll told device kept ones wholes
 reads_all told device [] [] [] tells rests held firsts said =
     record { acts = refl; tells = subst (Tells device) (sym (saying_none told)) tells; wholes_are = refl }
 reads_all told device (database ∷ kept) (one ∷ ones) (whole ∷ wholes) tells rests held firsts said =
@@ -188,7 +185,7 @@ reads_all told device (database ∷ kept) (one ∷ ones) (whole ∷ wholes) tell
     let now = tells_on device device (backup_of database) told tells (leaves device rests database held.0) in
     let later = reads_all (saying (backup_of database) told) device kept ones wholes now rests held.1 (rw is at firsts.1) (rw is at said.1) in
     record {
-      acts = ap (λ (acts : List Act). acts ++ each_acts backups_under (saying acts told) (map listed_of kept) ones) is
+      acts = ap (λ (acts : List Act). acts ++ each_acts backups_under (saying acts told) (map head_of kept) ones) is
           ∙ ap (λ (acts : List Act). backup_of database ++ acts) later.acts;
       tells = subst (Tells device) (saying_then (backup_of database) (flat_map backup_of kept) told) later.tells;
       wholes_are = ap (λ (w : DatabaseValue). w ∷ wholes) (whole_is device rests database held.0 told one.given whole tells (rw first at said.0))

@@ -27,7 +27,7 @@ use Rattle.install_backup.specs.InstallActs.{entry_acts, fill_acts, install_acts
 use Rattle.install_backup.proofs.InstalledLaws.{head-bounded}
 use Rattle.install_backup.proofs.OthersLaws.{IsMine, Keeps, OpenMine, keeps-front, none_open_mine}
 use Rattle.install_backup.proofs.RecordLaws.{installed-bounded, installed-numbered}
-use Rattle.desk_journal.proofs.StepLaws.{all_and}
+use Rattle.desk_journal.proofs.StepLaws.{all-append}
 
 numbered_fixed : (id : ℕ) → 0 < id → (id == 0) ≡ false
 numbered_fixed id some = grind (arith, nat_tests)
@@ -68,7 +68,7 @@ module _ (mine : List ℕ → Bool) where
           (cond b (map (acts.put_resource 1) database.resources) (acts.record_acts 1 (installed_records database.records)))
       by true = resources_mine database.resources bounded.resources
       by false =
-          all_and (IsMine mine) (map (acts.put_record 1) (installed_records database.records)) (resetting 1 ∷ [])
+          all-append (IsMine mine) (map (acts.put_record 1) (installed_records database.records)) (resetting 1 ∷ [])
           (records_mine (installed_records database.records) (installed-bounded database.records bounded.whole.few_records bounded.records)
           (installed-numbered database.records))
           ((reset_fits 1 (lit< tt), refl, tt), tt)
@@ -86,10 +86,10 @@ module _ (mine : List ℕ → Bool) where
             refl,
             is,
           ),
-          all_and (IsMine mine) (fill_acts database 1 []) (closing 1 ∷ [])
-              (all_and (IsMine mine) (acts.block_acts writing_app 1 database.app)
+          all-append (IsMine mine) (fill_acts database 1 []) (closing 1 ∷ [])
+              (all-append (IsMine mine) (acts.block_acts writing_app 1 database.app)
               (acts.block_acts writing_sort 1 database.sort ++ entry_acts 1 database) (app_mine database.app bounded.whole.short_app)
-              (all_and (IsMine mine) (acts.block_acts writing_sort 1 database.sort) (entry_acts 1 database)
+              (all-append (IsMine mine) (acts.block_acts writing_sort 1 database.sort) (entry_acts 1 database)
               (sort_mine database.sort bounded.whole.short_sort) (entries_mine database bounded)))
               ((close_fits 1 (lit< tt), refl, tt), tt),
         ),
@@ -100,7 +100,7 @@ module _ (mine : List ℕ → Bool) where
       → AllByRecursion (IsMine mine) (flat_map (λ (d : DatabaseValue). install_one d 1 []) databases)
   all_mine [] bounded are = tt
   all_mine (database ∷ databases) bounded are =
-      all_and (IsMine mine) (install_one database 1 []) (flat_map (λ (d : DatabaseValue). install_one d 1 []) databases)
+      all-append (IsMine mine) (install_one database 1 []) (flat_map (λ (d : DatabaseValue). install_one d 1 []) databases)
       (one_mine database bounded.0 are.0) (all_mine databases bounded.1 are.1)
 
   pub session_mine : (databases : List DatabaseValue) → AllByRecursion IsBoundedDatabase databases
@@ -108,8 +108,8 @@ module _ (mine : List ℕ → Bool) where
       → AllByRecursion (IsMine mine) (install_acts databases)
   unfolding install_acts installs_of
   session_mine databases bounded are =
-      all_and (IsMine mine) greeting (installs_of databases ++ ending ∷ []) ((user_fits, refl, tt), ((begin_fits, refl, tt), tt))
-      (all_and (IsMine mine) (installs_of databases) (ending ∷ [])
+      all-append (IsMine mine) greeting (installs_of databases ++ ending ∷ []) ((user_fits, refl, tt), ((begin_fits, refl, tt), tt))
+      (all-append (IsMine mine) (installs_of databases) (ending ∷ [])
       (all_mine (filter is_installable databases) (AllByRecursion-filter IsBoundedDatabase is_installable databases bounded) are)
       ((end_fits, refl, tt), tt))
 

@@ -4,12 +4,11 @@ use Rattle.line_laws.proofs.Names.{and_parts, and_from, Taken, piece_count, data
 use Rattle.line_laws.proofs.Names.{is_end, first, said, acked, at, IsDataOf, IsAckOf, is_data_of, End, EndTime, Apart, Follows, Side, Waiting, key_now, part_now}
 use Rattle.line_laws.proofs.Names.{CoreAt, data_frame, ack_frame, AckPends, Progress}
 use Rattle.line_laws.proofs.PastLaws.{said_data, add_new, said_ack, add_first, acked_ack, first_acked, ends_all}
-use Rattle.line_laws.proofs.CountLaws.{IsCopy, acked_ends}
+use Rattle.line_laws.proofs.CountLaws.{IsCopy, acked_ends, len}
 use Rattle.line_laws.proofs.StepLaws.{passes, repeats}
 use Rattle.line_laws.proofs.TakeLaws.{Accepting, acknowledged, matched, take_last_ack, take_ack, beginning, starts}
 use Rattle.line_laws.proofs.FaultLaws.{progress_push, progress_acked, progress_x}
 use Rattle.line_laws.proofs.TimeLaws.{ack_is_no_data, time_takes, time_passes, time_begins}
-use Rattle.line_laws.proofs.TickLaws.{len}
 
 -- data is no acknowledgement
 both_kinds : (X : End) {frame found : PastFrame} {older behind : List PastFrame} → frame ∷ older ≡ found ∷ behind → IsDataOf X frame → IsAckOf X found → ⊥

@@ -4,7 +4,7 @@ use Rattle.line_laws.proofs.Names.{inr, Key, ReceiverValue, faulted, late_of, da
 use Rattle.line_laws.proofs.Names.{RepeatBudget, HeldBudget, HeldUp, TryBudget, EndTime, Apart, Counts, Side, Waiting, key_now, part_now, CoreAt, data_frame, Progress}
 use Rattle.line_laws.proofs.Names.{IsBlocked}
 use Rattle.line_laws.proofs.PastLaws.{at_all, at_push}
-use Rattle.line_laws.proofs.CountLaws.{follows-length}
+use Rattle.line_laws.proofs.CountLaws.{follows-length, len}
 use Rattle.line_laws.proofs.StepLaws.{turned, again}
 use Rattle.line_laws.proofs.FaultLaws.{progress_sent, progress_push}
 use Rattle.line_laws.proofs.BudgetLaws.{count_pass, count_fail, four, above_tick, AfterTick, tick_first, tick_later}
@@ -120,9 +120,6 @@ module _ {X Y : End} {frame : PastFrame} {past : List PastFrame} {tick : ℕ} wh
 pub repeats_of : {X Y : End} {past : List PastFrame} {cx cy : ℕ} {x y : Side} {rx ry : ReceiverValue} {fx fy : Bool} {course : FrameCourse} → Apart X Y
     → CoreAt X Y past cx cy x y rx ry fx fy → Waiting x → Repeats X Y (data_frame X (key_now x) ((part_now x).bytes) course) past
 repeats_of apart core waits = grind (arith, common_steps)
-
-pub len : {s t : List Key} → s ≡ t → length s ≡ length t
-len e = ap length e
 
 -- nothing is held at the tick
 none_held : (slack : ℕ) (X Y : End) (past : List PastFrame) (cx cy : ℕ) → HeldBudget slack X Y past cx cy (length past)

@@ -3,12 +3,12 @@ use Rattle.line_laws.proofs.Names.{◌≡◌, ℕ, zero, suc, ◌+◌, ◌*◌, 
 use Rattle.line_laws.proofs.Names.{Key, late_of, data_comes, newest, FrameCourse, PastFrame, is_end, said, acked, at, is_data_of, End, Handheld, Desktop, load, RepeatBudget}
 use Rattle.line_laws.proofs.Names.{HeldBudget, TryBudget, EndTime, Apart, Counts, Side, Waiting, data_frame, ack_frame, DataPends, AckPends, Progress}
 use Rattle.line_laws.proofs.PastLaws.{said_data-other, acked_data, said_ack, acked_ack-other}
-use Rattle.line_laws.proofs.CountLaws.{follows-length}
+use Rattle.line_laws.proofs.CountLaws.{follows-length, len}
 use Rattle.line_laws.proofs.FaultLaws.{progress_sent, progress_push, progress_x, progress_y, is_data-frame}
 use Rattle.line_laws.proofs.BudgetLaws.{count_pass, count_fail, four}
 use Rattle.line_laws.proofs.LoadLaws.{load_push, load_sent, load_turned, load_moves, load_takes, queued_push, queued_moves, first_step, held_up-step}
 use Rattle.line_laws.proofs.LoadLaws.{held_up-moves, held_moves, held_step}
-use Rattle.line_laws.proofs.TickLaws.{len, late_from}
+use Rattle.line_laws.proofs.TickLaws.{late_from}
 
 -- ---- tries
 

@@ -10,13 +10,14 @@ use Rattle.pdb_values.specs.declared.record.Record.{Record}
 use Rattle.conduit_rules.specs.ById.{with_id}
 use Rattle.conduit_rules.specs.Choices.{partner}
 use Rattle.conduit_rules.specs.Contents.{same_content}
-use Rattle.conduit_rules.specs.Fates.{Fate, cell, fate}
+use Rattle.conduit_rules.specs.Fates.{cell, fate}
 use Rattle.conduit_rules.specs.Plans.{purged_at, replacement}
 use Rattle.conduit_rules.specs.States.{BaseState, SideState, based_where, held_where, is_row, live, nothing}
 use Rattle.conduit_rules.specs.Views.{IsHonestUnder, slow_seen, unread_where}
 use Rattle.conduit_rules.specs.declared.view.Seen.{Seen}
 use Rattle.conduit_rules.proofs.ContentLaws.{same_content-same}
 use Rattle.conduit_rules.proofs.TableLaws.{cell-settled}
+use Rattle.conduit_rules.proofs.SettledLaws.{only}
 use Rattle.made_folders.specs.Sides.{record_with, text_of}
 use Rattle.made_folders.specs.declared.item.Item.{Item}
 use Rattle.made_folders.specs.declared.side.MadeSide.{MadeSide}
@@ -41,9 +42,6 @@ content_with letter item = record { category = 0; secret = false; bytes = text_o
 abbrev pub kept_on : Item → Option ContentValue
 kept_on item = if (item.kind == 5) || (item.kind == 8) then Some (content_with 104 item) else if item.kind == 6 then Some (content_with 100 item)
     else if nat_lt item.kind 5 then Some (content_with 114 item) else None
-
-abbrev pub only : Option ContentValue → Fate
-only k = record { keep = k; archive = []; news = None }
 
 other_letter : (letter other : ℕ) (item : Item) → (letter == other) ≡ false → same_content (content_with letter item) (content_with other item) ≡ false
 unfolding same_content

@@ -18,6 +18,7 @@ use Rattle.conduit_rules.specs.Views.{IsHonest, IsHonestUnder, fast_seen, view_h
 use Rattle.conduit_rules.specs.declared.action.Action.TheVariants.{Sync}
 use Rattle.conduit_rules.specs.declared.view.Seen.{Seen}
 use Rattle.conduit_rules.proofs.ViewLaws.{first-id, view_held-fast}
+use Rattle.conduit_rules.proofs.SettledLaws.{only}
 use Rattle.made_folders.specs.Items.{generator_of, made}
 use Rattle.made_folders.specs.Sides.{letter_on, record_with, records_on, text_of}
 use Rattle.made_folders.specs.declared.item.Item.{Item}
@@ -25,7 +26,7 @@ use Rattle.made_folders.specs.declared.side.MadeSide.TheVariants.{Base, Desktop,
 use Rattle.made_folders.proofs.ItemLaws.{length-items_from}
 use Rattle.made_folders.specs.MadeMerges.{IsMadeMerge, made_choice, made_sides, made_view, was_received}
 use Rattle.made_folders.specs.Numbers.{AreMade, item_at, kinds, known_on}
-use Rattle.made_folders.proofs.CellLaws.{base_on, facts, held_on, kept_on, only, seen_on}
+use Rattle.made_folders.proofs.CellLaws.{base_on, facts, held_on, kept_on, seen_on}
 use Rattle.made_folders.proofs.EachLaws.{but_kinds, each_nothing, each_of, filter_each, of_kind, of_kinds}
 use Rattle.made_folders.proofs.LooseLaws.{AreBased, loose_archived, loose_made, mate_contents, new_contents, new_unpaired, no_mate}
 use Rattle.made_folders.proofs.NumberLaws.{drawn_are_made, first_on, item_at-before}

@@ -14,9 +14,7 @@ use Rattle.memo_texts.specs.Lines.{lines_in}
 use Rattle.memo_texts.specs.Readings.{ReadingValue, memos_from, with_bytes, with_text}
 use Rattle.memo_texts.proofs.ReadingLaws.{memos_from-line}
 use Rattle.memo_texts.proofs.ShownLaws.{is_read, is_read-append, is_read-plain, label_chars-append, label_chars-plain, label_chars_inner, lines_in-inner, with_line-label_chars}
-
-abbrev pub dashes : List ℕ
-dashes = codes "---"
+use Rattle.memo_texts.proofs.ExportLineLaws.{dashes}
 
 -- ---- parts without a line feed
 

@@ -10,6 +10,7 @@ use Rattle.desktop_session.specs.Answers.{answer_by}
 use Rattle.desktop_session.specs.Sessions.{SessionValue}
 use Rattle.desktop_session.specs.Stops.{AsksOne, Does, Stops}
 use Rattle.desktop_session.proofs.StopLaws.{does_none, does_then, fell_none, stops_more, stops_none, stops_then}
+use Rattle.desktop_session.proofs.GreetLaws.{no_fault_said}
 use Rattle.mirrors.specs.Asks.{Asks}
 
 -- these acts were said so far
@@ -26,10 +27,6 @@ pub said_all : {L A : Type 0} {talk : L → Option Talk} {since : L → L → Ty
     {old new : SessionValue L} (answer : A)
     → SoFar talk since fault downs acts old new → Asks talk since fault downs acts old new (Ok answer)
 said_all answer all = search (rules)
-
--- a call that was answered has no fault
-pub answered_none : {A : Type 0} (fault : Option LinkFault) (said : Result A SessionFault) (answer : A) → Ok answer ≡ answer_by fault said → fault ≡ None
-answered_none fault said answer is = search (rules)
 
 pub none_said : {L : Type 0} (talk : L → Option Talk) (since : L → L → Type 0) (fault : L → Option LinkFault) (downs : L → ℕ)
     (itself : (a : L) → since a a) (old : SessionValue L) → SoFar talk since fault downs [] old old
@@ -119,7 +116,7 @@ asks_part talk since fault downs acts more old new cause other asks = search (ru
 pub asked_answer : {L A : Type 0} (talk : L → Option Talk) (since : L → L → Type 0) (fault : L → Option LinkFault) (downs : L → ℕ) (one : Act)
     (old new : SessionValue L) (said answer : Result A SessionFault) → answer ≡ answer_by (fault new.link) said → AsksOne talk since fault downs one old new
     → Asks talk since fault downs (one ∷ []) old new answer
-asked_answer talk since fault downs one old new said answer is asked = search (rules, said_all, one_said, answered_none, asked_part)
+asked_answer talk since fault downs one old new said answer is asked = search (rules, said_all, one_said, no_fault_said, asked_part)
 
 -- the same refusal of another answer
 pub asks_refused : {L A B : Type 0} {talk : L → Option Talk} {since : L → L → Type 0} {fault : L → Option LinkFault} {downs : L → ℕ} {acts : List Act}

@@ -23,11 +23,10 @@ use Rattle.desktop_session.specs.Tellings.{device_after}
 use Rattle.desktop_session.proofs.TellLaws.{IfDone, done_then, said_device}
 use Rattle.mirrors.specs.Asks.{Asks}
 use Rattle.mirrors.proofs.AskLaws.{SoFar, all_said, asks_part, asks_then, none_said, said_all, said_part}
-use Rattle.mirrors.proofs.ReadLaws.{outcome_same, Same}
 use Rattle.mirrors.specs.FastReads.{other_reads}
 use Rattle.mirrors.specs.Places.{row_content}
 use Rattle.mirrors.specs.Shells.{filled_reads, filled_seen, waits}
-use Rattle.desktop_session.proofs.ListLaws.{after_append}
+use Rattle.desktop_session.proofs.ListLaws.{after_append, Same, outcome_same}
 
 -- ---- a record that is read by its id leaves the device as it was
 

@@ -6,8 +6,8 @@ use Rattle.dlp_replies.specs.ReplyReading.{reply_at}
 use Rattle.dlp_replies.specs.ReplyValues.{ReplyValue}
 use Rattle.dlp_replies.specs.declared.fault.ReplyFault.{ReplyFault}
 use Rattle.palm_device.specs.Devices.{Device}
-use Rattle.dlp_commands.specs.DeviceSteps.{outcome, tried}
-use Rattle.dlp_commands.specs.Reached.{Trial, reads as reached}
+use Rattle.dlp_commands.specs.DeviceSteps.{tried}
+use Rattle.dlp_commands.specs.Reached.{reads as reached}
 use Rattle.dlp_commands.specs.Talks.{Talk}
 use Rattle.dlp_commands.specs.declared.link.LinkFault.{LinkFault}
 use Rattle.dlp_commands.specs.declared.reading.Reading.{Reading}
@@ -27,15 +27,9 @@ use Rattle.mirrors.specs.Reads.{entries_in, entries_of, entries_told, reads, see
 use Rattle.mirrors.proofs.AskLaws.{SoFar, asked_part, asks_then, none_said, one_said, said_on, said_part}
 use Rattle.std.proofs.lemmas.Grind.{common_steps}
 use Rattle.std.proofs.lemmas.Bool.Decides.{nat_tests}
-use Rattle.desktop_session.proofs.ListLaws.{after_append, next}
+use Rattle.desktop_session.proofs.ListLaws.{after_append, next, Same, outcome_same}
 
 -- ---- a request that only reads leaves the device as it is
-
-abbrev pub Same : Device → Device × ReplyValue → Type 0
-Same device done = done.0 ≡ device
-
-pub outcome_same : {device : Device} (number : ℕ) (r : Trial) → IfDone (Same device) r → (outcome device number r).1 ≡ device
-outcome_same number r same = search (rules)
 
 reached_keeps : (device : Device) (handle : ℕ) (asked : Reading) → IfDone (Same device) (reached device handle asked)
 reached_keeps device handle asked = search (rules, done_then)

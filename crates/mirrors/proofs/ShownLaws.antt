@@ -36,7 +36,7 @@ use Rattle.std.proofs.lemmas.Bool.Decides.{nat_tests}
 -- ---- attributes on the wire
 
 -- those of a deleted, dirty, busy, secret record without bytes
-abbrev wire : Bool → Bool → Bool → Bool → Bool → ℕ
+abbrev pub wire : Bool → Bool → Bool → Bool → Bool → ℕ
 wire deleted dirty busy secret empty = bit_if 0x80 deleted + bit_if 0x40 dirty + bit_if 0x20 busy + bit_if 0x10 secret + bit_if 0x08 (deleted && not empty)
 
 wire_says : (deleted dirty busy secret empty : Bool)

@@ -4,10 +4,8 @@ use Rattle.std.proofs.lemmas.List.{map-append}
 use Rattle.std.specs.Prelude.{Option, Some, None, IfOk, IfSome, OnOk, Result, Ok, Err}
 use Rattle.pdb_values.specs.declared.record.Record.{Record}
 use Rattle.palm_device.specs.Devices.{Device}
-use Rattle.dlp_commands.specs.Reached.{reads as reached}
 use Rattle.dlp_commands.specs.Talks.{Talk}
 use Rattle.dlp_commands.specs.declared.link.LinkFault.{LinkFault}
-use Rattle.dlp_commands.specs.declared.reading.Reading.TheVariants as reading
 use Rattle.conduit_rules.specs.ById.{each_id}
 use Rattle.conduit_rules.specs.declared.view.Seen.{Seen}
 use Rattle.desktop_session.specs.declared.fault.SessionFault.{SessionFault}
@@ -17,19 +15,16 @@ use Rattle.desktop_session.specs.Sessions.{SessionValue}
 use Rattle.desktop_session.specs.Stops.{Does, Stops}
 use Rattle.desktop_session.specs.Tellings.{device_after}
 use Rattle.desktop_session.proofs.StopLaws.{does_then, stops_then}
-use Rattle.desktop_session.proofs.TellLaws.{IfDone, done_then, said_device}
+use Rattle.desktop_session.proofs.TellLaws.{said_device}
 use Rattle.mirrors.specs.Asks.{Asks}
 use Rattle.mirrors.proofs.AskLaws.{all_said, asks_part, asks_then}
-use Rattle.mirrors.proofs.ReadLaws.{count_same, Same}
+use Rattle.mirrors.proofs.ReadLaws.{count_same}
 use Rattle.mirrors.specs.FastReads.{changed_acts, changed_reads, changed_reads_of, changed_seen, changed_told, fast_reads, fast_reads_of, fast_shown}
 use Rattle.mirrors.specs.FastReads.{ids_told, listing_acts, reads_at, shown_at}
 use Rattle.mirrors.proofs.ToldLaws.{asks_as}
 use Rattle.desktop_session.proofs.ListLaws.{id_listings_same}
 
 -- ---- a list of ids leaves the device as it was
-
-ids_keep : (device : Device) (handle start : ℕ) → IfDone (Same device) (reached device handle (reading.RecordIds start 8000))
-ids_keep device handle start = search (rules, done_then)
 
 listing_same : (handle : ℕ) (talk : Talk) → device_after (listing_acts handle (Some talk)) talk.device ≡ talk.device
 listing_same handle talk = search (rules, count_same, id_listings_same)

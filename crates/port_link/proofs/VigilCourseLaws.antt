@@ -35,8 +35,7 @@ use Rattle.port_link.specs.VigilCourses.{GoesOn, GoesOut, HasStepped, Scene, Sto
 use Rattle.port_link.specs.Ends.{IsDown, IsLong, IsOut, IsOver, IsSudden, end_of_fault, end_of_port, end_of_talk, fault_of, most_events}
 use Rattle.port_link.specs.Runs.{IsPortRun}
 use Rattle.port_link.specs.Vigils.{Step, Steps, Vigil, behind_tick, vigil, waking}
-use Rattle.device_stream.proofs.ListenLaws.{same-hand}
-use Rattle.device_stream.proofs.CourseLaws.{begins-behind}
+use Rattle.device_stream.proofs.CourseLaws.{begins-behind, same-hand}
 
 gave-then : (a : Option (List (List ℕ))) {b c : Option (List (List ℕ))} (es fs : List Event) → b ≡ option_map (λ given. given ++ reads_of es) a
     → c ≡ option_map (λ given. given ++ reads_of fs) b → c ≡ option_map (λ given. given ++ reads_of (es ++ fs)) a

@@ -17,7 +17,7 @@ use Rattle.conduit_rules.specs.declared.view.Seen.{Seen}
 use Rattle.conduit_rules.proofs.AgreedLaws.{RowsDiffer}
 use Rattle.conduit_rules.proofs.BoundLaws.{live_or}
 use Rattle.conduit_rules.proofs.ByIdLaws.{each_below-none}
-use Rattle.conduit_rules.proofs.SettledLaws.{IsSettled, fate-settled}
+use Rattle.conduit_rules.proofs.SettledLaws.{IsSettled, fate-settled, only}
 use Rattle.record_merge.specs.Merging.{row_under, merged_rows, merged_base, AreBounded}
 use Rattle.record_merge.specs.Writes.{after, numbered, replaces, whole, AreFree, GotFreeIds}
 use Rattle.record_merge.proofs.BoundLaws.{bounded-after}
@@ -25,9 +25,6 @@ use Rattle.record_merge.proofs.HeldLaws.{held-merged, held-rows, at-bounded}
 use Rattle.record_merge.proofs.PutLaws.{differ-ids}
 use Rattle.record_merge.proofs.SettledLaws.{based-merged, settled_by, at_zero, none_loose, first-zero}
 use Rattle.record_merge.proofs.ShownLaws.{slow_shows}
-
-abbrev only : Option ContentValue → Fate
-only k = record { keep = k; archive = []; news = None }
 
 by_handheld : (k : Option ContentValue) (b : BaseState) {h : SideState} (d : SideState) → h ≡ live_or k → fate_under Handheld b h d ≡ only k
 by_handheld k b d is = grind arith

@@ -6,10 +6,12 @@ use Rattle.conduit_rules.specs.Contents.{same_content}
 use Rattle.conduit_rules.proofs.ContentLaws.{same_content-is}
 use Rattle.record_merge.specs.Merging.{is_archived, one_copy_behind}
 
-abbrev is_equal : ℕ × ContentValue → ℕ × ContentValue → Bool
+-- whether two entries have one id and one content
+abbrev pub is_equal : ℕ × ContentValue → ℕ × ContentValue → Bool
 is_equal x e = (x.0 == e.0) && same_content x.1 e.1
 
-same_entry : (x e : ℕ × ContentValue) → is_equal x e ≡ true → x ≡ e
+-- two such entries are one
+pub same_entry : (x e : ℕ × ContentValue) → is_equal x e ≡ true → x ≡ e
 same_entry x e is = grind (arith, same_content-is x.1 e.1 (grind (arith, nat_tests, is)))
 
 left_out : (a t r s : Bool) → (t ≡ true → a ≡ true) → (a || r) ≡ (a || s) → (a || r) ≡ (a || (t || s))

@@ -23,19 +23,23 @@ pub bounded-put : (i : ℕ) (c : ContentValue) (records : List Record) → nat_l
 bounded-put i c [] l bounded = subst AreBounded (sym (put_record-nil i c)) (l, tt)
 bounded-put i c (r ∷ records) l bounded = grind (arith, put_record-cons i c r records, bounded-put i c records l bounded.1)
 
-abbrev HaveIds : List (ℕ × ContentValue) → Type 0
+-- each entry's id has at most 24 bits
+abbrev pub HaveIds : List (ℕ × ContentValue) → Type 0
 HaveIds [] = Unit {0}
 HaveIds (e ∷ es) = (nat_lt e.0 id_bound ≡ true) × HaveIds es
 
-bounded-put_all : (es : List (ℕ × ContentValue)) (records : List Record) → HaveIds es → AreBounded records → AreBounded (put_all es records)
+-- records with such ids stay so where such entries are put
+pub bounded-put_all : (es : List (ℕ × ContentValue)) (records : List Record) → HaveIds es → AreBounded records → AreBounded (put_all es records)
 bounded-put_all [] records have bounded = bounded
 bounded-put_all (e ∷ es) records have bounded = bounded-put_all es (put_record e.0 e.1 records) have.1 (bounded-put e.0 e.1 records have.0 bounded)
 
-have-rising : (low : ℕ) (es : List (ℕ × ContentValue)) → IsRisingFrom low (pair_ids es) id_bound → HaveIds es
+-- entries whose ids rise below the bound have such ids
+pub have-rising : (low : ℕ) (es : List (ℕ × ContentValue)) → IsRisingFrom low (pair_ids es) id_bound → HaveIds es
 have-rising low [] rising = tt
 have-rising low (e ∷ es) rising = grind (arith, rising_end (suc e.0) id_bound (pair_ids es) rising.1, have-rising (suc e.0) es rising.1)
 
-have-free : (es : List (ℕ × ContentValue)) (now : List Record) → AreFree es now → HaveIds es
+-- entries whose ids are free have such ids
+pub have-free : (es : List (ℕ × ContentValue)) (now : List Record) → AreFree es now → HaveIds es
 have-free [] now free = tt
 have-free (e ∷ es) now free = (subst (λ n. nat_lt e.0 n ≡ true) (sym id_bound-is) (below e.0 free.0.bound), have-free es (put_record e.0 e.1 now) free.1)
   where

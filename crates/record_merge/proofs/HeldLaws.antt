@@ -48,7 +48,8 @@ held-purged is (r ∷ records) j = grind (arith, nat_tests, held-purged is recor
 only_live_record : (r : Record) → only_live (record_held r) ≡ (if is_live r then live r.content else nothing)
 only_live_record r = grind arith
 
-held-cleaned : (records : List Record) (j : ℕ) → RowsDiffer records → held (filter is_live records) j ≡ only_live (held records j)
+-- where the deleted records go, what is held under an id is what was held there, if it lives
+pub held-cleaned : (records : List Record) (j : ℕ) → RowsDiffer records → held (filter is_live records) j ≡ only_live (held records j)
 held-cleaned [] j differ = refl
 held-cleaned (r ∷ records) j differ =
     grind (arith, nat_tests, held-cleaned records j differ.1, differ.0, only_live_record r, first-filter_none is_live r.id records differ.0)

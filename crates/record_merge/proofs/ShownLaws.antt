@@ -56,10 +56,11 @@ live_by : (p : Bool) (b : BaseState) (r : Record) → (not r.dirty && not r.dele
 live_by p b r passed = grind arith
 
 -- where each first record of its id is shown as live where it is live
-abbrev LivesShow : (ℕ → SideState) → List Record → Type 0
+abbrev pub LivesShow : (ℕ → SideState) → List Record → Type 0
 LivesShow h records = (i : ℕ) (r : Record) → first i records ≡ Some r → is_held_live (h i) ≡ is_live r
 
-are-shown : (h : ℕ → SideState) (records : List Record) → RowsDiffer records → AreBounded records → LivesShow h records → AreShown h records
+-- then they are shown as what they are
+pub are-shown : (h : ℕ → SideState) (records : List Record) → RowsDiffer records → AreBounded records → LivesShow h records → AreShown h records
 are-shown h [] differ bounded lives = tt
 are-shown h (x ∷ records) differ bounded lives =
     (bounded.0, lives x.id x (grind (arith, nat_tests)), are-shown h records differ.1 bounded.1 (λ i r e. lives i r (later i r e)))

@@ -24,8 +24,8 @@ use Rattle.desktop_session.proofs.TellLaws.{IfDone, Opens, done_then, open_done,
 use Rattle.mirrors.specs.News.{purge_writes, puts}
 use Rattle.session_parts.proofs.HandleLaws.{make_done}
 use Rattle.session_parts.proofs.RestLaws.{outcome_is}
-use Rattle.desk_journal.proofs.StepLaws.{all_and}
 use Rattle.desktop_session.proofs.ListLaws.{after_append}
+use Rattle.desk_journal.proofs.StepLaws.{all-append}
 
 -- something is open under handle 1, or nothing is, and under no other handle
 pub record OneOpen (device : Device) : Type 0 where
@@ -117,7 +117,7 @@ removes_keep handle (id ∷ ids) = (removing_keeps handle id, removes_keep handl
 pub purges_keep : (handle : ℕ) (ids : List ℕ) → AllByRecursion KeepsHandles (purge_writes handle ids)
 unfolding acted tried
 purges_keep handle ids =
-    all_and KeepsHandles (map (removing handle) ids) (cleaning handle ∷ resetting handle ∷ []) (removes_keep handle ids) (
+    all-append KeepsHandles (map (removing handle) ids) (cleaning handle ∷ resetting handle ∷ []) (removes_keep handle ids) (
       record { at = λ device. writes_keep 0 device handle 0x26 writing.CleanUp },
       (record { at = λ device. writes_keep 0 device handle 0x27 writing.ResetFlags }, tt),
     )

@@ -7,7 +7,7 @@ use Rattle.session_parts.proofs.LinkWords.{LinkFault, Talk, Halted, SessionFault
 use Rattle.desktop_session.specs.Greetings.{AsksUser, AnswersGreeting, HasSlot, begun_by, greeted, user_by, user_with}
 use Rattle.desktop_session.specs.Lists.{HasCause, IsByReplyTo, IsNotMissing, Lists, has_more, list_reply, listings}
 use Rattle.desktop_session.proofs.StopLaws.{does_then, stops_then}
-use Rattle.mirrors.proofs.AskLaws.{answered_none}
+use Rattle.desktop_session.proofs.GreetLaws.{no_fault_said}
 use Rattle.session_parts.specs.declared.meeting.Met.{Met}
 use Rattle.session_parts.specs.Meets.{greeting, Meets, IsSeated, MeetsOrNot}
 use Rattle.pdb_values.specs.Slots.{IsWithin, slot_for}
@@ -24,7 +24,7 @@ few_more (Some talk) = λ k below. absurd (omega arith)
 clear : (users : List ℕ) (add : Bool) (talk : Option Talk) (fault : Option LinkFault) (user : UserInfo)
     → AnswersGreeting users add talk fault (Ok user) → AnswersGreeting users add talk None (Ok user)
 clear users add talk fault user said =
-    rw (answered_none fault (greeted users add said.first said.second) user said.is) at said
+    rw (no_fault_said fault (greeted users add said.first said.second) user said.is) at said
 
 -- the user that was read has a slot
 slot_by : (users : List ℕ) (add : Bool) (bytes : List ℕ) (user : UserInfo) (second : Result (Unit {0}) SessionFault)

@@ -24,8 +24,8 @@ use Rattle.desktop_session.proofs.ChangeRows.{row_does}
 use Rattle.desktop_session.proofs.OrderLaws.{name_right, some_with}
 use Rattle.desktop_session.proofs.RequestFits.{open_fits}
 use Rattle.desktop_session.proofs.TellLaws.{IfDone, act_sayable, acted_proper, done_then}
-use Rattle.desk_journal.proofs.StepLaws.{all_and}
 use Rattle.desktop_session.proofs.ListLaws.{after_append}
+use Rattle.desk_journal.proofs.StepLaws.{all-append}
 
 -- ---- acts, one after another
 
@@ -35,7 +35,7 @@ all-replicate P (suc n) x is = (is, all-replicate P n x is)
 
 pub all-flat_map : {A B : Type 0} (P : B → Type 0) (f : A → List B) (xs : List A) → ((x : A) → AllByRecursion P (f x)) → AllByRecursion P (flat_map f xs)
 all-flat_map P f [] each = tt
-all-flat_map P f (x ∷ xs) each = all_and P (f x) (flat_map f xs) (each x) (all-flat_map P f xs each)
+all-flat_map P f (x ∷ xs) each = all-append P (f x) (flat_map f xs) (each x) (all-flat_map P f xs each)
 
 -- what is done holds of the device after, if it holds of the one before
 pub outcome_is : (P : Device → Type 0) (old : Device) (number : ℕ) (r : Trial) → P old → IfDone (λ (done : Device × ReplyValue). P done.0) r

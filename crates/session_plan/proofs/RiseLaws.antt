@@ -18,10 +18,11 @@ behind_all a b [] first all = refl
 behind_all a b (n ∷ names) first all = grind (arith, nat_tests, common_steps, behind_all a b names, and_parts, comes_before-trans)
 
 -- a name at its place
-abbrev at_place : List ℕ → List (List ℕ) → List (List ℕ)
+abbrev pub at_place : List ℕ → List (List ℕ) → List (List ℕ)
 at_place name names = insert names (position_or_len (λ other. comes_before name other) names) name
 
-at_place-cons : (name n : List ℕ) (names : List (List ℕ))
+-- a name goes in front of the first that it comes before, or on behind that
+pub at_place-cons : (name n : List ℕ) (names : List (List ℕ))
     → at_place name (n ∷ names) ≡ cond (comes_before name n) (name ∷ n ∷ names) (n ∷ at_place name names)
 at_place-cons name n names = grind arith
 

@@ -4,6 +4,7 @@ use Rattle.std.specs.Prelude.{IfSome, Option, Some, None, is_none}
 use Rattle.std.specs.List.{AllByRecursion, flat_map, list_any}
 use Rattle.std.specs.Str.{bytes_eq}
 use Rattle.desk_journal.specs.Entries.{EntryValue}
+use Rattle.desk_journal.proofs.StepLaws.{all-append}
 use Rattle.desk_store.specs.Changes.{archive_entries, db_entries, slots_entry}
 use Rattle.desk_store.specs.DeskFiles.{slot_file}
 use Rattle.desk_store.specs.Shelves.{marks_of}
@@ -19,7 +20,6 @@ use Rattle.sync_session.proofs.SwapLaws.{HasName}
 use Rattle.sync_session.proofs.TakenLaws.{change-task, old_at, planned_name, rows_at, rows_name}
 use Rattle.std.proofs.lemmas.Bool.{or_left, or_right}
 use Rattle.pdb_values.proofs.NamedLaws.{bytes_eq-own}
-use Rattle.desk_journal.proofs.StepLaws.{all_and}
 
 -- ---- the changes
 
@@ -50,7 +50,7 @@ module _ (meeting : Meeting) where
   changes-of_tasks [] [] ids there are = tt
   changes-of_tasks (n ∷ ns) (one ∷ planned) [] there are = tt
   changes-of_tasks (n ∷ ns) (one ∷ planned) (given ∷ ids) there are =
-      all_and (IsTaskChange meeting) _ (changes_of meeting.wishes.date (slot_of meeting).shelves planned ids)
+      all-append (IsTaskChange meeting) _ (changes_of meeting.wishes.date (slot_of meeting).shelves planned ids)
       (subst (AllByRecursion (IsTaskChange meeting)) (sym (change-task meeting n one given are.0))
       (change_by n (skip_of (task_of meeting n)) one.plan given (old_at meeting n) (rows_at meeting n) there.0 refl (λ d e. rows_name meeting n d e)))
       (changes-of_tasks ns planned ids there.1 are.1)
@@ -74,7 +74,7 @@ AreCommitFiles meeting entries = AllByRecursion (λ (entry : EntryValue). IsComm
 all_flat : {A B : Type 0} (P : B → Type 0) (Q : A → Type 0) (f : A → List B) (xs : List A) → ((x : A) → Q x → AllByRecursion P (f x))
     → AllByRecursion Q xs → AllByRecursion P (flat_map f xs)
 all_flat P Q f [] each all = tt
-all_flat P Q f (x ∷ xs) each all = all_and P (f x) (flat_map f xs) (each x all.0) (all_flat P Q f xs each all.1)
+all_flat P Q f (x ∷ xs) each all = all-append P (f x) (flat_map f xs) (each x all.0) (all_flat P Q f xs each all.1)
 
 module _ (meeting : Meeting) where
   file_of : {change : DbChange} (is : IsTaskChange meeting change) (role : Role) (own : List ℕ) → own ≡ is.name
@@ -98,6 +98,6 @@ module _ (meeting : Meeting) where
   taken-files planned ids are =
       let changes : List DbChange = changes_of meeting.wishes.date (slot_of meeting).shelves planned ids in
       let marks : List Marks = marks_of (taken_slots meeting.wishes.date meeting.device.user planned ids meeting.picked meeting.slots) in
-      all_and (λ (entry : EntryValue). IsCommitFile meeting entry.name) (flat_map (db_entries meeting.picked) changes) (slots_entry marks ∷ [])
+      all-append (λ (entry : EntryValue). IsCommitFile meeting entry.name) (flat_map (db_entries meeting.picked) changes) (slots_entry marks ∷ [])
       (all_flat (λ (entry : EntryValue). IsCommitFile meeting entry.name) (IsTaskChange meeting) (db_entries meeting.picked) changes change_files
       (changes-of_tasks meeting (names meeting) planned ids (named_in (names meeting) (names meeting) (λ name is. is)) are)) (inl refl, tt)

@@ -49,10 +49,12 @@ head-name : (name : List ℕ) (heads : List DbHead) (head : DbHead) → head_nam
 head-name name [] head is = absurd cc
 head-name name (first ∷ heads) head is = grind (arith, nat_tests, common_steps, head-name name heads head, bytes_eq-is)
 
-one_bit : (n : ℕ) → n < 2 → bit_and n 1 ≡ n
+-- the lowest bit of a bit is itself
+pub one_bit : (n : ℕ) → n < 2 → bit_and n 1 ≡ n
 one_bit n l = grind arith
 
-odd_mask : (a m : ℕ) → m % 2 ≡ 1 → bit_and a m % 2 ≡ a % 2
+-- a mask that is odd keeps the lowest bit
+pub odd_mask : (a m : ℕ) → m % 2 ≡ 1 → bit_and a m % 2 ≡ a % 2
 odd_mask a m is = and_mod a m 1 ∙ ap (bit_and (a % 2)) is ∙ one_bit (a % 2) (mod-lt a)
   where
     mod-lt : (n : ℕ) → n % 2 < 2

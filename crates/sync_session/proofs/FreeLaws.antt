@@ -11,7 +11,7 @@ use Rattle.session_parts.specs.Given.{GetFreeIds}
 use Rattle.sync_session.specs.News.{purge_acts}
 use Rattle.sync_session.proofs.SaidLaws.{HoldsOfOpens, opened-all, writes-all}
 use Rattle.desktop_session.proofs.TellLaws.{form_gives}
-use Rattle.desk_journal.proofs.StepLaws.{all_and}
+use Rattle.desk_journal.proofs.StepLaws.{all-append}
 
 -- ---- acts that ask for no id
 
@@ -55,7 +55,7 @@ unfolding purge_acts
 purge_acts-none meeting task =
     let ids : List ℕ = purged_ids (choice meeting task).keep (seen_held meeting task) in
     opened-all opens-none task.name (purge_writes 1 ids)
-    (all_and NoId (map (removing 1) ids) (cleaning 1 ∷ resetting 1 ∷ []) (removes-none 1 ids) (record { is = refl }, (record { is = refl }, tt)))
+    (all-append NoId (map (removing 1) ids) (cleaning 1 ∷ resetting 1 ∷ []) (removes-none 1 ids) (record { is = refl }, (record { is = refl }, tt)))
 
 -- ---- puts
 

@@ -10,6 +10,7 @@ use Rattle.pdb_values.specs.declared.user.Marks.{Marks}
 use Rattle.session_parts.proofs.LinkWords.{LinkFault, Talk, SessionValue, Act, text, link_ended, marking, Does, Stops, Ended, Halted, SessionFault}
 use Rattle.desk_journal.specs.Entries.{EntryValue}
 use Rattle.desk_journal.specs.Overlays.{FinishesAs, finished, put_all}
+use Rattle.desk_journal.proofs.StepLaws.{all-append}
 use Rattle.folder_files.specs.Slots.{users_of}
 use Rattle.sync_session.proofs.MeetingWords.{DbHead, DatabaseValue, SlotValue, marks_of, slot_at, DeskValue, marks_in, shelves_in, gained, news_under}
 use Rattle.sync_session.proofs.MeetingWords.{SpansBehind, each_acts, Planned}
@@ -44,7 +45,6 @@ use Rattle.session_parts.specs.declared.stop.Stop.TheVariants as stop
 use Rattle.session_plan.specs.declared.wishes.Wishes.{Wishes}
 use Rattle.session_parts.proofs.RestLaws.{all-flat_map}
 use Rattle.session_parts.proofs.SpanLaws.{on_ok}
-use Rattle.desk_journal.proofs.StepLaws.{all_and}
 
 -- ---- causes
 
@@ -93,7 +93,7 @@ unfolding taken_entries
 taken_files date user planned ids place slots =
     let changes : List DbChange = changes_of date (slot_at slots place).shelves planned ids in
     let marks : List Marks = marks_of (taken_slots date user planned ids place slots) in
-    all_and (λ (entry : EntryValue). IsSlotsFile place entry.name) (flat_map (db_entries place) changes) (slots_entry marks ∷ [])
+    all-append (λ (entry : EntryValue). IsSlotsFile place entry.name) (flat_map (db_entries place) changes) (slots_entry marks ∷ [])
     (all-flat_map (λ (entry : EntryValue). IsSlotsFile place entry.name) (db_entries place) changes (change_files place)) (inl refl, tt)
 
 -- ---- call by call

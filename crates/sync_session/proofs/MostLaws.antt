@@ -20,11 +20,9 @@ use Rattle.session_plan.specs.Sizes.{is_over}
 use Rattle.sync_session.proofs.OnceLaws.{Once, bytes_eq-swap, names-once}
 use Rattle.sync_session.proofs.PlannedLaws.{over_is_first_over}
 use Rattle.sync_session.proofs.ReadJoins.{job-skip}
+use Rattle.conduit_rules.proofs.CountedLaws.{one_if}
 
 -- ---- how many of a list pass a test
-
-abbrev one_if : Bool → ℕ
-one_if b = if b then 1 else 0
 
 abbrev tally : {A : Type 0} → (A → Bool) → List A → ℕ
 tally test [] = 0

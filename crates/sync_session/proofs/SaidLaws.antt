@@ -13,7 +13,7 @@ use Rattle.sync_session.proofs.MeetingWords.{base_rows, is_fast, before_writes, 
 use Rattle.mirrors.specs.FastReads.{asks_of, fast_asks, other_reads}
 use Rattle.sync_session.specs.Reads.{opened, read_acts, reads}
 use Rattle.session_parts.proofs.RestLaws.{all-flat_map, all-replicate}
-use Rattle.desk_journal.proofs.StepLaws.{all_and}
+use Rattle.desk_journal.proofs.StepLaws.{all-append}
 
 -- what reads an opened database, under handle 1
 pub record HoldsOfReads (P : Act → Type 0) : Type 0 where
@@ -38,12 +38,12 @@ module _ {P : Act → Type 0} (each : HoldsOfReads P) where
   ids-all : (parts : ℕ) → AllByRecursion P (id_listings 1 parts)
   unfolding id_listings
   ids-all zero = tt
-  ids-all (suc parts) = all_and P (id_listings 1 parts) (listing_ids 1 (8000 * parts) ∷ []) (ids-all parts) (each.lists (8000 * parts), tt)
+  ids-all (suc parts) = all-append P (id_listings 1 parts) (listing_ids 1 (8000 * parts) ∷ []) (ids-all parts) (each.lists (8000 * parts), tt)
 
   slow-all : (count : ℕ) → AllByRecursion P (slow.reads 1 count)
   unfolding slow.reads
   slow-all zero = tt
-  slow-all (suc count) = all_and P (slow.reads 1 count) (reading_at 1 count ∷ []) (slow-all count) (each.places count, tt)
+  slow-all (suc count) = all-append P (slow.reads 1 count) (reading_at 1 count ∷ []) (slow-all count) (each.places count, tt)
 
   asks_of-all : (base : List Record) (found : Option Record) → AllByRecursion P (asks_of base 1 found)
   asks_of-all base None = tt
@@ -61,8 +61,8 @@ module _ {P : Act → Type 0} (each : HoldsOfReads P) where
       let nexts : List Act = replicate (suc (length (filter is_changed records))) (reading_next 1) in
       let others : List Act = each_id (λ i. asks_of base 1 (first i records)) in (
         each.counts,
-        all_and P ids (nexts ++ others) (ids-all (id_parts (length records)))
-            (all_and P nexts others (all-replicate P (suc (length (filter is_changed records))) (reading_next 1) each.nexts)
+        all-append P ids (nexts ++ others) (ids-all (id_parts (length records)))
+            (all-append P nexts others (all-replicate P (suc (length (filter is_changed records))) (reading_next 1) each.nexts)
             (all-flat_map P (λ i. asks_of base 1 (first i records)) (ids_below id_bound) (λ i. asks_of-all base (first i records)))),
       )
 
@@ -77,7 +77,7 @@ module _ {P : Act → Type 0} (each : HoldsOfReads P) where
 
 -- a database is opened, and closed at the end
 pub opened-all : {P : Act → Type 0} (opens : HoldsOfOpens P) (name : List ℕ) (acts : List Act) → AllByRecursion P acts → AllByRecursion P (opened name acts)
-opened-all {P} opens name acts all = (opens.opens name, all_and P acts (closing 1 ∷ []) all (opens.closes, tt))
+opened-all {P} opens name acts all = (opens.opens name, all-append P acts (closing 1 ∷ []) all (opens.closes, tt))
 
 pub writes-all : {P : Act → Type 0} (greets : HoldsOfGreetings P) (opens : HoldsOfOpens P) (each : HoldsOfReads P) (meeting : Meeting)
     → AllByRecursion P (before_writes meeting)
@@ -86,12 +86,12 @@ writes-all {P} greets opens each meeting =
     let count : ℕ = max 1 (length meeting.device.databases) in
     let reading : List Act = flat_map (read_acts meeting) (active meeting) in (
       greets.users,
-      (greets.begins, all_and P (listings count) reading (lists count) (all-flat_map P (read_acts meeting) (active meeting) (λ task. acts task))),
+      (greets.begins, all-append P (listings count) reading (lists count) (all-flat_map P (read_acts meeting) (active meeting) (λ task. acts task))),
     )
   where
     lists : (count : ℕ) → AllByRecursion P (listings count)
     lists zero = tt
-    lists (suc count) = all_and P (listings count) (listing count ∷ []) (lists count) (greets.lists count, tt)
+    lists (suc count) = all-append P (listings count) (listing count ∷ []) (lists count) (greets.lists count, tt)
 
     acts : (task : Task) → AllByRecursion P (read_acts meeting task)
     acts task = by (is_none task.handheld)

@@ -22,7 +22,7 @@ pub no_place : {X : Type 0} (test : X → Bool) (x : X) (xs : List X) → (b : B
 no_place test x xs b is o none = grind (arith, common_steps)
 
 -- none passes
-position-none : {X : Type 0} (test : X → Bool) (xs : List X) (d : X) → position test xs ≡ None → (i : ℕ) → i < length xs → test (get_or xs i d) ≡ false
+pub position-none : {X : Type 0} (test : X → Bool) (xs : List X) (d : X) → position test xs ≡ None → (i : ℕ) → i < length xs → test (get_or xs i d) ≡ false
 position-none test [] d none i less = absurd (omega (arith, less))
 position-none test (x ∷ xs) d none zero less =
     let both = no_place test x xs (test x) refl (position test xs) (sym (position-cons test x xs) ∙ none) in both.0
@@ -39,7 +39,8 @@ data Comes (users : List ℕ) (user place : ℕ) : Type 0 where
 comes : (users : List ℕ) (user : ℕ) (add : Bool) → Comes users user (place_of (length users) (slot_for users user add))
 comes users user add = grind arith
 
-abbrev agreed : ℕ → ℕ → ℕ
+-- the user that both sides agree on: the slot's, where the handheld has none and the slot has one
+abbrev pub agreed : ℕ → ℕ → ℕ
 agreed user own = if (user == 0) && not (own == 0) then own else user
 
 free_agreed : {users : List ℕ} {user own place : ℕ} → AreUsers users → Comes users user place

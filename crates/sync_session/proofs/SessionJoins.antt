@@ -28,8 +28,8 @@ use Rattle.sync_session.proofs.NewsJoins.{news_join, news_lead, purge_join}
 use Rattle.sync_session.proofs.ReadJoins.{IsSeen, jobs_for, reads_join, reads_lead, reads_leave, shows_under}
 use Rattle.session_parts.proofs.RestLaws.{all-flat_map}
 use Rattle.session_parts.proofs.StretchLaws.{Leads, Pairs, Tells, tells_on}
-use Rattle.desk_journal.proofs.StepLaws.{all_and}
 use Rattle.desktop_session.proofs.ListLaws.{after_append}
+use Rattle.desk_journal.proofs.StepLaws.{all-append}
 
 -- ---- what was done so far
 
@@ -100,7 +100,7 @@ session_free meeting given free =
     let last : List Act = end_mark meeting ∷ ending ∷ [] in
     let device : Device = device_after (before_commit meeting given) meeting.device in
     free-append (before_commit meeting given) (purges ++ last) meeting.device free
-    (none_free (purges ++ last) device (all_and NoId purges last (all-flat_map NoId (purge_acts meeting) (active meeting)
+    (none_free (purges ++ last) device (all-append NoId purges last (all-flat_map NoId (purge_acts meeting) (active meeting)
     (λ task. purge_acts-none meeting task))
     (record { is = refl }, (record { is = refl }, tt))))
 

@@ -28,7 +28,7 @@ use Rattle.sync_session.proofs.OnceLaws.{Once, names-once, bytes_eq-swap}
 use Rattle.sync_session.proofs.ReadJoins.{job-skip}
 use Rattle.session_plan.proofs.RowLaws.{base-merged, rows-merged}
 use Rattle.sync_session.proofs.SwapLaws.{HasName, HasOther, with_changes-first}
-use Rattle.desk_journal.proofs.StepLaws.{all_and}
+use Rattle.desk_journal.proofs.StepLaws.{all-append}
 
 -- ---- one database
 
@@ -146,7 +146,7 @@ module _ (meeting : Meeting) where
   others-all name [] [] ids none are = tt
   others-all name (n ∷ ns) (one ∷ planned) [] none are = tt
   others-all name (n ∷ ns) (one ∷ planned) (given ∷ ids) none are =
-      all_and (HasOther name) (change_of meeting.wishes.date (slot_of meeting).shelves one given) (changes_for planned ids)
+      all-append (HasOther name) (change_of meeting.wishes.date (slot_of meeting).shelves one given) (changes_for planned ids)
       (subst (AllByRecursion (HasOther name)) (sym (change-task meeting n one given are.0))
       (others_by name n (skip_of (task_of meeting n)) one.plan given (old_at meeting n) (rows_at meeting n)
       (bytes_eq-swap n name (or_parts (bytes_eq n name) _ none).0) (λ d e. rows_name meeting n d e)))

@@ -1,5 +1,5 @@
 -- The newest repeat, one frame more at a time.
-use Rattle.std.proofs.Common.{◌≡◌, ◌+◌, Bool, true, false, ◌&&◌, List, [], ◌∷◌, length, Option, Some, None, refl, sym, ap, ◌∙◌, arith, inl, inr}
+use Rattle.std.proofs.Common.{◌≡◌, ◌+◌, Bool, true, false, ◌&&◌, List, [], ◌∷◌, length, Option, Some, refl, sym, ap, ◌∙◌, arith, inl, inr}
 use Rattle.std.specs.Prelude.{if◌then◌else◌}
 use Rattle.std.proofs.lemmas.Bool.{cond-true, cond-false, cases_Bool}
 use Rattle.padp_link.specs.declared.piece.Key.{Key}
@@ -14,13 +14,6 @@ use Rattle.trace_check.specs.Speaking.{is_again}
 use Rattle.trace_check.specs.declared.repeats.Repeats.{Repeats}
 use Rattle.trace_check.proofs.SpeakingLaws.{is_again-first}
 use Rattle.trace_check.proofs.SideLaws.{said-same}
-
-pub repeats-none : IsRepeats [] (record { handheld = None; desktop = None; newest = 0; count = 0 })
-repeats-none = record { key_is = keys; newest_is = refl; count_is = refl }
-  where
-    keys : (X : End) → newest_of X (record { handheld = None; desktop = None; newest = 0; count = 0 }) ≡ first (said X [])
-    keys Handheld = refl
-    keys Desktop = refl
 
 newest-after : (X : End) (frame : PastFrame) (old : Repeats)
     → newest_of X (repeats_after frame old) ≡ (if is_data_of X frame then Some frame.key else newest_of X old)

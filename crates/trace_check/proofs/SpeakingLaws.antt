@@ -15,18 +15,12 @@ use Rattle.line_laws.proofs.CameLaws.{ten-run}
 use Rattle.line_laws.proofs.PartLaws.{spoken_keys, add_part-new, add_part-again}
 use Rattle.line_laws.proofs.PastLaws.{same_key-true, same_key-same}
 use Rattle.trace_check.specs.Standings.{start, MaySay, next, standing_behind, MaySayAll}
-use Rattle.trace_check.specs.Speaking.{silent, is_again, repeated_at, begun_with, SaysNext, IsSpeaker, SpeaksSo, HasFault}
+use Rattle.trace_check.specs.Speaking.{is_again, repeated_at, begun_with, SaysNext, IsSpeaker, SpeaksSo, HasFault}
 use Rattle.trace_check.specs.declared.speaker.Speaker.{Speaker}
 use Rattle.trace_check.proofs.StandingLaws.{standing_behind-push, MaySayAll-push, MaySayAll-front, MaySayAll-last}
 use Rattle.line_laws.proofs.TraceLaws.{other_no_repeat}
 use Rattle.line_laws.proofs.JoinLaws.{run_other}
 use Rattle.trace_check.proofs.SideLaws.{said-same}
-
-pub silent-speaker : (X : End) → IsSpeaker X [] silent
-silent-speaker X = record { newest_is = refl; run_is = refl; repeat_is = refl; standing_is = refl }
-
-pub silent-so : (greeting : HelloKind) (X : End) → SpeaksSo greeting X []
-silent-so greeting X = record { says = tt; ten = tt }
 
 -- ---- a frame that isn't the end's data
 

@@ -2,12 +2,12 @@ use Rattle.std.proofs.Common.{◌∙◌, Global, List, ℕ, arith, drop, map, re
 use Rattle.std.specs.Prelude.{IfSome, Option, string_bytes}
 use Rattle.hs_folders.specs.FileMaps.{FileMap}
 use Rattle.handheld_files.proofs.FreshLaws.{take_all}
-use Rattle.handheld_files.proofs.KeptLaws.{OnlyRead-trans, cause_on, names_around, names_next}
+use Rattle.handheld_files.proofs.KeptLaws.{OnlyRead-trans, names_around, names_next}
 use Rattle.backup_files.specs.FoundFiles.{ReadsOn, RefusesFile}
 use Rattle.backup_files.specs.declared.fault.BackupFault.TheVariants.{Failed}
 use Rattle.backup_files.proofs.ReadLaws.{FoundSoFar, backups_found, bounded_begin, bounded_on, found_begin, found_on, noted_begin, noted_on, refused_on}
 use Rattle.backup_files.proofs.reading.read_files.Goals as goal
-use Rattle.hs_folders.proofs.CauseLaws.{ok_is_no_fault}
+use Rattle.hs_folders.proofs.CauseLaws.{ok_is_no_fault, cause_on}
 
 pub loop-name-init : goal.loop-name-init
 loop-name-init g c = record {

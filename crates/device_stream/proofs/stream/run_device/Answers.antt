@@ -2,8 +2,8 @@ use Rattle.std.proofs.Common.{[], sym, ap, subst, ◌∙◌}
 use Rattle.device_stream.specs.Courses.{PerformsAny}
 use Rattle.device_stream.specs.Hands.{woken}
 use Rattle.device_stream.specs.Runs.{KeptFor, Listens}
-use Rattle.device_stream.proofs.CourseLaws.{any-itself}
-use Rattle.device_stream.proofs.ListenLaws.{kept-for, run-listens, run-unbegun, same-hand}
+use Rattle.device_stream.proofs.CourseLaws.{any-itself, same-hand}
+use Rattle.device_stream.proofs.ListenLaws.{kept-for, run-listens, run-unbegun}
 use Rattle.device_stream.proofs.stream.run_device.Goals as goal
 
 pub returns-in-Err-clause-run : goal.returns-in-Err-clause-run

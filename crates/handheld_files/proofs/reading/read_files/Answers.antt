@@ -7,10 +7,10 @@ use Rattle.handheld_files.specs.Reading.{ReadsOn, RefusesFile}
 use Rattle.handheld_files.specs.declared.fault.OpenFault.TheVariants.{Keeper}
 use Rattle.handheld_files.proofs.FreshLaws.{take_all}
 use Rattle.handheld_files.proofs.BoundLaws.{bounded_begin, bounded_on}
-use Rattle.handheld_files.proofs.KeptLaws.{KeptSoFar, OnlyRead-trans, cause_on, kept_none, kept_on, names_around, names_next, refused_on}
+use Rattle.handheld_files.proofs.KeptLaws.{KeptSoFar, OnlyRead-trans, kept_none, kept_on, names_around, names_next, refused_on}
 use Rattle.handheld_files.proofs.KeptLaws.{stands_begin, stands_on}
 use Rattle.handheld_files.proofs.reading.read_files.Goals as goal
-use Rattle.hs_folders.proofs.CauseLaws.{ok_is_no_fault}
+use Rattle.hs_folders.proofs.CauseLaws.{ok_is_no_fault, cause_on}
 
 pub loop-name-init : goal.loop-name-init
 loop-name-init g c = record {

@@ -2,13 +2,13 @@
 use Rattle.std.proofs.Common.{◌<◌, refl}
 use Rattle.std.proofs.lemmas.Result.{err_from_is_err_and}
 use Rattle.pdb_values.specs.declared.record.Record.{Record}
-use Rattle.mirrors.proofs.AskLaws.{answered_none}
 use Rattle.mirrors.proofs.NewsLaws.{split_at}
 use Rattle.install_backup.specs.InstallActs.{put_record}
 use Rattle.install_backup.proofs.AskWords.{all_at, put_asked}
 use Rattle.install_backup.proofs.EachAct.{each_none, each_on, each_stop}
 use Rattle.session_parts.proofs.CauseLaws.{later_refused}
 use Rattle.desktop_session.specs.Answers.{id_of}
+use Rattle.desktop_session.proofs.GreetLaws.{no_fault_said}
 use Rattle.install_backup.proofs.LimitLaws.{other_said}
 use Rattle.install_backup.proofs.entries.put_records.Goals as goal
 
@@ -26,7 +26,7 @@ loop-item-preserved g c =
     record {
       reference = cc;
       handle = cc;
-      said = each_on (put_record c.args.db.now.handle) g.met.L.Link.since_more split (answered_none _ _ _ c.in_ok-put.ensures.answer) before.said
+      said = each_on (put_record c.args.db.now.handle) g.met.L.Link.since_more split (no_fault_said _ _ _ c.in_ok-put.ensures.answer) before.said
           (put_asked c.item-item.result before.handle (all_at (λ (item : Record). 0 < item.id) _ _ _ c.requires split) c.in_ok-put.ensures.puts);
     }
 

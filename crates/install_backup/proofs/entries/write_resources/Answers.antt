@@ -1,12 +1,12 @@
 -- Resources that are put grow by one.
 use Rattle.std.proofs.Common.{refl}
 use Rattle.std.proofs.lemmas.Result.{err_from_is_err_and}
-use Rattle.mirrors.proofs.AskLaws.{answered_none}
 use Rattle.mirrors.proofs.NewsLaws.{split_at}
 use Rattle.install_backup.specs.InstallActs.{put_resource}
 use Rattle.install_backup.proofs.EachAct.{each_none, each_on, each_stop}
 use Rattle.session_parts.proofs.CauseLaws.{later_refused}
 use Rattle.desktop_session.specs.Answers.{no_more}
+use Rattle.desktop_session.proofs.GreetLaws.{no_fault_said}
 use Rattle.install_backup.proofs.LimitLaws.{other_said}
 use Rattle.install_backup.proofs.entries.write_resources.Goals as goal
 
@@ -25,7 +25,7 @@ loop-resource-preserved g c =
       handle = cc;
       said = each_on (put_resource c.args.db.now.handle) g.met.L.Link.since_more
           (split_at c.args.resources.now c.loop-resource.resource-index c.resource-item.result c.loop-resource-test.true c.resource-item.is)
-          (answered_none _ _ _ c.in_ok-put_resource.ensures.answer) before.said (rw before.handle at c.in_ok-put_resource.ensures.asked);
+          (no_fault_said _ _ _ c.in_ok-put_resource.ensures.answer) before.said (rw before.handle at c.in_ok-put_resource.ensures.asked);
     }
 
 pub returns-in_err-put_resource-clause-asks : goal.returns-in_err-put_resource-clause-asks

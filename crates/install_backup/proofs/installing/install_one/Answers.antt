@@ -1,7 +1,6 @@
 -- A database is taken away, and made and filled anew.
 use Rattle.std.proofs.Common.{refl}
 use Rattle.std.proofs.lemmas.Result.{err_from_is_err_and}
-use Rattle.mirrors.proofs.AskLaws.{answered_none}
 use Rattle.desktop_session.specs.Requests.{making}
 use Rattle.session_parts.specs.Spans.{within}
 use Rattle.install_backup.specs.Installed.{installed_head}
@@ -13,6 +12,7 @@ use Rattle.install_backup.proofs.LimitLaws.{other_removed}
 use Rattle.std.proofs.Common.{[], ◌∷◌, inr, map}
 use Rattle.desktop_session.specs.Acts.{text}
 use Rattle.desktop_session.proofs.StopLaws.{fell_none, stops_more, stops_none}
+use Rattle.desktop_session.proofs.GreetLaws.{no_fault_said}
 use Rattle.install_backup.specs.Installs.{making_acts}
 use Rattle.install_backup.proofs.WithinLaws.{within_before}
 use Rattle.install_backup.proofs.installing.install_one.Goals as goal
@@ -36,27 +36,27 @@ returns-in_err-make-clause-spans g c =
     let p = err_from_is_err_and c.from_residual-in_err-make.result c.from_residual-in_err-make.ensures.1 in
     let asked = rw c.head.ensures.head at c.in_ok-delete.ensures.asked in
     rw (p.1, p.2) (span_behind g.met.L.Link.since_more (deleting_keeps c.args.database.now.head.name)
-    (answered_none _ _ _ c.in_ok-delete.ensures.answer) asked (span_failed c.in_err-make.ensures.spans))
+    (no_fault_said _ _ _ c.in_ok-delete.ensures.answer) asked (span_failed c.in_err-make.ensures.spans))
 
 pub returns-in_err-make-clause-full : goal.returns-in_err-make-clause-full
 returns-in_err-make-clause-full g c =
     let p = err_from_is_err_and c.from_residual-in_err-make.result c.from_residual-in_err-make.ensures.1 in
     let asked = rw c.head.ensures.head at c.in_ok-delete.ensures.asked in
     rw (p.1, p.2) (unmade_before g.L.Link.talk (making (installed_head c.args.database.now.head)) c.args.database.now.head.name _ _ _ _
-    (asked.does (answered_none _ _ _ c.in_ok-delete.ensures.answer)) c.in_err-make.ensures.full)
+    (asked.does (no_fault_said _ _ _ c.in_ok-delete.ensures.answer)) c.in_err-make.ensures.full)
 
 pub returns-clause-spans : goal.returns-clause-spans
 unfolding install_one
 returns-clause-spans g c =
     let asked = rw c.head.ensures.head at c.in_ok-delete.ensures.asked in
     span_behind g.met.L.Link.since_more (deleting_keeps c.args.database.now.head.name)
-    (answered_none _ _ _ c.in_ok-delete.ensures.answer) asked (span_answered (λ handle given. c.count_of.ensures) c.in_ok-make.ensures.spans)
+    (no_fault_said _ _ _ c.in_ok-delete.ensures.answer) asked (span_answered (λ handle given. c.count_of.ensures) c.in_ok-make.ensures.spans)
 
 pub returns-clause-room : goal.returns-clause-room
 returns-clause-room g c =
     let asked = rw c.head.ensures.head at c.in_ok-delete.ensures.asked in
     judged_before c.args.database.now.head.name _ _
-    (rw (asked.does (answered_none _ _ _ c.in_ok-delete.ensures.answer)).said at c.in_ok-make.ensures.room)
+    (rw (asked.does (no_fault_said _ _ _ c.in_ok-delete.ensures.answer)).said at c.in_ok-make.ensures.room)
 
 pub returns-in_err-delete-clause-full : goal.returns-in_err-delete-clause-full
 returns-in_err-delete-clause-full g c =
@@ -83,4 +83,4 @@ returns-in_err-make-clause-within g c =
     let asked = rw c.head.ensures.head at c.in_ok-delete.ensures.asked in
     rw p.1 (within_before g.L.Link.talk g.L.Link.since g.L.Link.fault g.L.Link.downs g.met.L.Link.since_more
     (making (installed_head c.args.database.now.head)) c.args.database.now.head.name _ _ _
-    (asked.does (answered_none _ _ _ c.in_ok-delete.ensures.answer)) asked.stops c.in_err-make.ensures.within)
+    (asked.does (no_fault_said _ _ _ c.in_ok-delete.ensures.answer)) asked.stops c.in_err-make.ensures.within)

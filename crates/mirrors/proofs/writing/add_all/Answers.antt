@@ -3,9 +3,9 @@ use Rattle.std.proofs.Common.{◌≡◌, refl, sym}
 use Rattle.std.proofs.lemmas.Result.{err_from_is_err_and}
 use Rattle.desktop_session.specs.Answers.{id_of}
 use Rattle.mirrors.proofs.EntryLaws.{cause_by}
-use Rattle.mirrors.proofs.AskLaws.{answered_none}
 use Rattle.mirrors.proofs.NewsLaws.{new_none, new_on, new_part, new_stop, split_at}
 use Rattle.desktop_session.proofs.LastLaws.{last_refused}
+use Rattle.desktop_session.proofs.GreetLaws.{no_fault_said}
 use Rattle.mirrors.proofs.writing.add_all.Goals as goal
 
 pub loop-content-init : goal.loop-content-init
@@ -25,7 +25,7 @@ loop-content-preserved g c =
       puts = new_on g.met.L.Link.since_more
           c.push.new.items.items before.handle c.new_id.ensures
           (split_at c.args.contents.now c.loop-content.content-index c.content-item.result c.loop-content-test.true c.content-item.is)
-          (answered_none _ _ _ c.in_ok-id.ensures.answer) before.puts c.in_ok-id.ensures.puts c.in_ok-push.ensures.items;
+          (no_fault_said _ _ _ c.in_ok-id.ensures.answer) before.puts c.in_ok-id.ensures.puts c.in_ok-push.ensures.items;
     }
 
 pub returns-in_err-id-clause-puts : goal.returns-in_err-id-clause-puts
@@ -50,7 +50,7 @@ returns-in_err-push-clause-puts g c =
     (λ given ids. ids.items ≡ given) _ split
     (new_on g.met.L.Link.since_more
     _
-    before.handle c.new_id.ensures split (answered_none _ _ _ c.in_ok-id.ensures.answer)
+    before.handle c.new_id.ensures split (no_fault_said _ _ _ c.in_ok-id.ensures.answer)
     before.puts c.in_ok-id.ensures.puts refl)
     (rw c.in_err-push.ensures.memory tt))
 

@@ -4,9 +4,9 @@ use Rattle.std.proofs.lemmas.Result.{err_from_is_err_and}
 use Rattle.dlp_replies.specs.ReplyReading.{reply_at}
 use Rattle.desktop_session.specs.Answers.{no_more}
 use Rattle.desktop_session.specs.Lists.{HasCause}
-use Rattle.mirrors.proofs.AskLaws.{answered_none}
 use Rattle.mirrors.proofs.NewsLaws.{cleaned_stop, last_cause, purged, purged_stop}
 use Rattle.desktop_session.proofs.LastLaws.{last_answered, last_refused}
+use Rattle.desktop_session.proofs.GreetLaws.{no_fault_said}
 use Rattle.mirrors.proofs.writing.purge_side.Goals as goal
 
 pub returns-in_err-remove_all-clause-asks : goal.returns-in_err-remove_all-clause-asks
@@ -29,7 +29,7 @@ returns-clause-asks g c =
     purged g.met.L.Link.since_more
     _ c.in_ok-remove_all.ensures.same_handle
     c.in_ok-clean_up.ensures.same_handle c.deref.ensures.value c.in_ok-remove_all.ensures.asks
-    (answered_none _ _ _ c.in_ok-clean_up.ensures.answer) c.in_ok-clean_up.ensures.asked c.reset_flags.ensures.answer c.reset_flags.ensures.asked
+    (no_fault_said _ _ _ c.in_ok-clean_up.ensures.answer) c.in_ok-clean_up.ensures.asked c.reset_flags.ensures.answer c.reset_flags.ensures.asked
 
 pub returns-clause-cause : goal.returns-clause-cause
 returns-clause-cause g c =

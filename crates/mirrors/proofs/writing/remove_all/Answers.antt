@@ -1,9 +1,9 @@
 -- Purges grow by one.
 use Rattle.std.proofs.Common.{refl, arith}
 use Rattle.std.proofs.lemmas.Result.{err_from_is_err_and}
-use Rattle.mirrors.proofs.AskLaws.{answered_none}
 use Rattle.mirrors.proofs.NewsLaws.{remove_done, remove_none, remove_on, remove_stop, split_at}
 use Rattle.desktop_session.proofs.LastLaws.{last_removed}
+use Rattle.desktop_session.proofs.GreetLaws.{no_fault_said}
 use Rattle.mirrors.proofs.writing.remove_all.Goals as goal
 
 pub loop-id-init : goal.loop-id-init
@@ -22,7 +22,7 @@ loop-id-preserved g c =
       said = remove_on g.met.L.Link.since_more
           before.handle
           (split_at c.args.ids.now c.loop-id.id-index c.id-item.result c.loop-id-test.true c.id-item.is)
-          (answered_none _ _ _ c.in_ok-remove.ensures.answer) before.said c.in_ok-remove.ensures.asked;
+          (no_fault_said _ _ _ c.in_ok-remove.ensures.answer) before.said c.in_ok-remove.ensures.asked;
     }
 
 pub returns-in_err-remove-clause-asks : goal.returns-in_err-remove-clause-asks

@@ -3,9 +3,9 @@ use Rattle.std.proofs.Common.{refl, sym, arith}
 use Rattle.std.proofs.lemmas.Result.{err_from_is_err_and}
 use Rattle.desktop_session.specs.Answers.{id_of}
 use Rattle.mirrors.proofs.EntryLaws.{cause_by}
-use Rattle.mirrors.proofs.AskLaws.{answered_none}
 use Rattle.mirrors.proofs.NewsLaws.{some_done, some_none, some_on, some_stop, split_at}
 use Rattle.desktop_session.proofs.LastLaws.{last_refused}
+use Rattle.desktop_session.proofs.GreetLaws.{no_fault_said}
 use Rattle.mirrors.proofs.writing.replace_all.Goals as goal
 
 pub loop-entry-init : goal.loop-entry-init
@@ -23,7 +23,7 @@ loop-entry-preserved g c =
       handle = cc;
       puts = some_on g.met.L.Link.since_more
           before.handle (split_at c.args.entries.now c.loop-entry.entry-index c.entry-item.result c.loop-entry-test.true c.entry-item.is)
-          (answered_none _ _ _ c.in_ok-put.ensures.answer) before.puts c.in_ok-put.ensures.puts;
+          (no_fault_said _ _ _ c.in_ok-put.ensures.answer) before.puts c.in_ok-put.ensures.puts;
     }
 
 pub returns-in_err-put-clause-puts : goal.returns-in_err-put-clause-puts

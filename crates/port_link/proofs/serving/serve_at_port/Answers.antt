@@ -1,6 +1,6 @@
 use Rattle.std.proofs.Common.{◌≡◌, [], map, sym, ap, subst, ◌∙◌}
-use Rattle.device_stream.proofs.CourseLaws.{any-itself}
-use Rattle.device_stream.proofs.ListenLaws.{kept-for, same-hand}
+use Rattle.device_stream.proofs.CourseLaws.{any-itself, same-hand}
+use Rattle.device_stream.proofs.ListenLaws.{kept-for}
 use Rattle.device_stream.specs.Courses.{PerformsAny}
 use Rattle.device_stream.specs.Hands.{wake_said, woken}
 use Rattle.device_stream.specs.Runs.{KeptFor}

@@ -13,7 +13,7 @@ use Rattle.session_plan.proofs.FitLaws.{takes-at, takes-length}
 use Rattle.session_plan.proofs.TakeLaws.{changes_none, changes_step}
 use Rattle.session_plan.proofs.committing.take_all.Goals as goal
 use Rattle.desktop_session.proofs.GrowLaws.{take_whole}
-use Rattle.desk_journal.proofs.StepLaws.{all_and}
+use Rattle.desk_journal.proofs.StepLaws.{all-append}
 
 pub loop-index-init : goal.loop-index-init
 loop-index-init g c = record {
@@ -48,7 +48,7 @@ loop-index-preserved g c =
           c.loop-index-test.true c.index-planned-index.is c.index-ids-index.is c.in_ok-put_change.ensures before.changes c.in_ok-change.ensures.change
           c.deref.ensures.value;
       fit = subst (AllByRecursion IsDbChange) (sym {A = List DbChange} c.in_ok-put_change.ensures)
-          (all_and IsDbChange c.loop-index.changes.items (option_to_list c.in_ok-change.change) before.fit c.in_ok-change.ensures.fit);
+          (all-append IsDbChange c.loop-index.changes.items (option_to_list c.in_ok-change.change) before.fit c.in_ok-change.ensures.fit);
     }
 
 pub returns-clause-changes : goal.returns-clause-changes

@@ -5,7 +5,7 @@ use Rattle.session_plan.specs.Planning.{IsPlanUnder}
 use Rattle.std.proofs.lemmas.List.{map-append}
 use Rattle.std.specs.List.{AllByRecursion}
 use Rattle.session_plan.proofs.planning.plan_all.Goals as goal
-use Rattle.desk_journal.proofs.StepLaws.{all_and}
+use Rattle.desk_journal.proofs.StepLaws.{all-append}
 
 -- what was planned so far, with what is left, is all
 planned_on : {P A : Type 0} (f : P → A) (planned more : List P) (one : P) (x : A) (rest left all : List A) → more ≡ planned ++ one ∷ [] → f one ≡ x
@@ -16,7 +16,7 @@ planned_on f planned more one x rest left all is same step before =
 
 plans_on : {P : Type 0} (Q : P → Type 0) (planned more : List P) (one : P) → more ≡ planned ++ one ∷ [] → AllByRecursion Q planned → Q one
     → AllByRecursion Q more
-plans_on Q planned more one is all last = rw is (all_and Q planned (one ∷ []) all (last, tt))
+plans_on Q planned more one is all last = rw is (all-append Q planned (one ∷ []) all (last, tt))
 
 pub loop-job-preserved : goal.loop-job-preserved
 loop-job-preserved g c =

@@ -2,7 +2,7 @@
 use Rattle.std.proofs.Common.{refl}
 use Rattle.std.proofs.lemmas.Result.{err_from_is_err_and}
 use Rattle.desktop_session.specs.Answers.{no_more}
-use Rattle.mirrors.proofs.AskLaws.{answered_none}
+use Rattle.desktop_session.proofs.GreetLaws.{no_fault_said}
 use Rattle.session_parts.proofs.CauseLaws.{later_refused}
 use Rattle.session_parts.proofs.EachLaws.{behind_none, behind_one}
 use Rattle.sync_session.proofs.giving.send_all.Goals as goal
@@ -17,5 +17,5 @@ returns-in_err-begin g c =
 
 pub returns : goal.returns
 returns g c = record {
-  sends = behind_one g.met.L.Link.since_more (answered_none _ _ _ c.in_ok-begin.ensures.answer) c.in_ok-begin.ensures.asked c.give_all.ensures.gives;
+  sends = behind_one g.met.L.Link.since_more (no_fault_said _ _ _ c.in_ok-begin.ensures.answer) c.in_ok-begin.ensures.asked c.give_all.ensures.gives;
 }
