@@ -1,4 +1,5 @@
-//! Packets of the serial link as text, for people who look at captured bytes.
+//! What goes over the serial link, as text: the packets that stand in captured bytes, and the frames of a trace, each with
+//! its fate. `specs/Fates` says what becomes of a frame by its fate, `specs/Proper` what makes a trace proper.
 //!
 //! `show_packet` gives one line, without its end, of a packet that `slp_frames` found. A body that is a
 //! fragment of `padp_link` is shown by its fields, another one by its length. `show_packets` gives the lines
