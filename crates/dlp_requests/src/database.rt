@@ -4,12 +4,52 @@
 
 ghost use Rattle.std.specs.Prelude.{◌≡◌};
 ghost use Rattle.dlp_requests.specs.Forms as form;
+ghost use Rattle.dlp_requests.specs.Groups.{Database, group_of};
 ghost use Rattle.dlp_requests.specs.RequestTexts.{IsRequest, request_text};
 ghost use Rattle.dlp_requests.specs.Views.{Reads, request_value};
 
 use crate::request::Request;
 use dlp_args::{Message, append, begin, counted_of, put, take_4, take_u8, take_u16, text_of};
 use pdb_values::FourCc;
+
+// Replaces the message by a request about a database, its blocks or its handle.
+#[tactic(auto)]
+pub(crate) fn put_request(request: &Request<'_>, out: &mut Message)
+    requires bounds { IsRequest (request_value request.now) }
+    requires group { group_of (request_value request.now).form ≡ Database }
+    ensures { out.new ≡ request_text (request_value request.now) }
+{
+    match *request {
+        Request::ReadDbList { flags, card, start } => put_read_db_list(out, flags, card, start),
+        Request::OpenDb { card, mode, name } => put_open_db(out, card, mode, name),
+        Request::CreateDb {
+            creator,
+            kind,
+            card,
+            flags,
+            version,
+            name,
+        } => put_create_db(out, creator, kind, card, flags, version, name),
+        Request::CloseDb { handle } => put_close_db(out, handle),
+        Request::DeleteDb { card, name } => put_delete_db(out, card, name),
+        Request::ReadAppBlock {
+            handle,
+            offset,
+            length,
+        } => put_read_app_block(out, handle, offset, length),
+        Request::WriteAppBlock { handle, bytes } => put_write_app_block(out, handle, bytes),
+        Request::ReadSortBlock {
+            handle,
+            offset,
+            length,
+        } => put_read_sort_block(out, handle, offset, length),
+        Request::WriteSortBlock { handle, bytes } => put_write_sort_block(out, handle, bytes),
+        Request::CleanUpDatabase { handle } => put_clean_up_database(out, handle),
+        Request::ResetSyncFlags { handle } => put_reset_sync_flags(out, handle),
+        Request::ReadOpenDbInfo { handle } => put_read_open_db_info(out, handle),
+        _ => unreachable!(),
+    }
+}
 
 pub(crate) fn read_db_list(content: &[u8]) -> Option<Request<'_>>
     ensures { Reads form.ReadDbList content.now result }
@@ -235,6 +275,38 @@ pub(crate) fn put_write_sort_block(out: &mut Message, handle: u8, bytes: &[u8])
 {
     let size = (bytes.len() as u16).to_be_bytes();
     put(out, 0x1E, 0x20, &[handle, 0, size[0], size[1]], bytes, &[]);
+}
+
+pub(crate) fn clean_up_database(content: &[u8]) -> Option<Request<'_>>
+    ensures { Reads form.CleanUpDatabase content.now result }
+{
+    let [handle] = content else {
+        return None;
+    };
+    Some(Request::CleanUpDatabase { handle: *handle })
+}
+
+pub(crate) fn put_clean_up_database(out: &mut Message, handle: u8)
+    requires { IsRequest (request_value (Request.CleanUpDatabase handle)) }
+    ensures { out.new ≡ request_text (request_value (Request.CleanUpDatabase handle)) }
+{
+    put(out, 0x26, 0x20, &[handle], &[], &[]);
+}
+
+pub(crate) fn reset_sync_flags(content: &[u8]) -> Option<Request<'_>>
+    ensures { Reads form.ResetSyncFlags content.now result }
+{
+    let [handle] = content else {
+        return None;
+    };
+    Some(Request::ResetSyncFlags { handle: *handle })
+}
+
+pub(crate) fn put_reset_sync_flags(out: &mut Message, handle: u8)
+    requires { IsRequest (request_value (Request.ResetSyncFlags handle)) }
+    ensures { out.new ≡ request_text (request_value (Request.ResetSyncFlags handle)) }
+{
+    put(out, 0x27, 0x20, &[handle], &[], &[]);
 }
 
 pub(crate) fn read_open_db_info(content: &[u8]) -> Option<Request<'_>>

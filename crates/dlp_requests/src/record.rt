@@ -3,11 +3,54 @@
 
 ghost use Rattle.std.specs.Prelude.{◌≡◌};
 ghost use Rattle.dlp_requests.specs.Forms as form;
+ghost use Rattle.dlp_requests.specs.Groups.{Record, group_of};
 ghost use Rattle.dlp_requests.specs.RequestTexts.{IsRequest, request_text};
 ghost use Rattle.dlp_requests.specs.Views.{Reads, request_value};
 
 use crate::request::Request;
 use dlp_args::{Message, put, rest_of};
+
+// Replaces the message by a request about records.
+#[tactic(auto)]
+pub(crate) fn put_request(request: &Request<'_>, out: &mut Message)
+    requires bounds { IsRequest (request_value request.now) }
+    requires group { group_of (request_value request.now).form ≡ Record }
+    ensures { out.new ≡ request_text (request_value request.now) }
+{
+    match *request {
+        Request::ReadNextModifiedRec { handle } => put_read_next_modified_rec(out, handle),
+        Request::ReadRecordById {
+            handle,
+            id,
+            offset,
+            length,
+        } => put_read_record_by_id(out, handle, id, offset, length),
+        Request::ReadRecordByIndex {
+            handle,
+            index,
+            offset,
+            length,
+        } => put_read_record_by_index(out, handle, index, offset, length),
+        Request::WriteRecord {
+            handle,
+            flags,
+            id,
+            attributes,
+            category,
+            bytes,
+        } => put_write_record(out, handle, flags, id, attributes, category, bytes),
+        Request::DeleteRecord { handle, flags, id } => put_delete_record(out, handle, flags, id),
+        Request::MoveCategory { handle, from, to } => put_move_category(out, handle, from, to),
+        Request::ResetRecordIndex { handle } => put_reset_record_index(out, handle),
+        Request::ReadRecordIdList {
+            handle,
+            flags,
+            start,
+            maximum,
+        } => put_read_record_id_list(out, handle, flags, start, maximum),
+        _ => unreachable!(),
+    }
+}
 
 pub(crate) fn read_next_modified_rec(content: &[u8]) -> Option<Request<'_>>
     ensures { Reads form.ReadNextModifiedRec content.now result }
@@ -186,38 +229,6 @@ pub(crate) fn put_delete_record(out: &mut Message, handle: u8, flags: u8, id: u3
         &[],
         &[],
     );
-}
-
-pub(crate) fn clean_up_database(content: &[u8]) -> Option<Request<'_>>
-    ensures { Reads form.CleanUpDatabase content.now result }
-{
-    let [handle] = content else {
-        return None;
-    };
-    Some(Request::CleanUpDatabase { handle: *handle })
-}
-
-pub(crate) fn put_clean_up_database(out: &mut Message, handle: u8)
-    requires { IsRequest (request_value (Request.CleanUpDatabase handle)) }
-    ensures { out.new ≡ request_text (request_value (Request.CleanUpDatabase handle)) }
-{
-    put(out, 0x26, 0x20, &[handle], &[], &[]);
-}
-
-pub(crate) fn reset_sync_flags(content: &[u8]) -> Option<Request<'_>>
-    ensures { Reads form.ResetSyncFlags content.now result }
-{
-    let [handle] = content else {
-        return None;
-    };
-    Some(Request::ResetSyncFlags { handle: *handle })
-}
-
-pub(crate) fn put_reset_sync_flags(out: &mut Message, handle: u8)
-    requires { IsRequest (request_value (Request.ResetSyncFlags handle)) }
-    ensures { out.new ≡ request_text (request_value (Request.ResetSyncFlags handle)) }
-{
-    put(out, 0x27, 0x20, &[handle], &[], &[]);
 }
 
 pub(crate) fn reset_record_index(content: &[u8]) -> Option<Request<'_>>

@@ -3,12 +3,50 @@
 
 ghost use Rattle.std.specs.Prelude.{◌≡◌};
 ghost use Rattle.dlp_requests.specs.Forms as form;
+ghost use Rattle.dlp_requests.specs.Groups.{Resource, group_of};
 ghost use Rattle.dlp_requests.specs.RequestTexts.{IsRequest, request_text};
 ghost use Rattle.dlp_requests.specs.Views.{Reads, request_value};
 
 use crate::request::Request;
 use dlp_args::{Message, append, begin, counted_of, put};
 use pdb_values::FourCc;
+
+// Replaces the message by a request about resources.
+#[tactic(auto)]
+pub(crate) fn put_request(request: &Request<'_>, out: &mut Message)
+    requires bounds { IsRequest (request_value request.now) }
+    requires group { group_of (request_value request.now).form ≡ Resource }
+    ensures { out.new ≡ request_text (request_value request.now) }
+{
+    match *request {
+        Request::ReadResourceByIndex {
+            handle,
+            index,
+            offset,
+            length,
+        } => put_read_resource_by_index(out, handle, index, offset, length),
+        Request::ReadResourceByType {
+            handle,
+            kind,
+            id,
+            offset,
+            length,
+        } => put_read_resource_by_type(out, handle, kind, id, offset, length),
+        Request::WriteResource {
+            handle,
+            kind,
+            id,
+            bytes,
+        } => put_write_resource(out, handle, kind, id, bytes),
+        Request::DeleteResource {
+            handle,
+            flags,
+            kind,
+            id,
+        } => put_delete_resource(out, handle, flags, kind, id),
+        _ => unreachable!(),
+    }
+}
 
 pub(crate) fn read_resource_by_index(content: &[u8]) -> Option<Request<'_>>
     ensures { Reads form.ReadResourceByIndex content.now result }

@@ -3,11 +3,39 @@
 
 ghost use Rattle.std.specs.Prelude.{◌≡◌};
 ghost use Rattle.dlp_requests.specs.Forms as form;
+ghost use Rattle.dlp_requests.specs.Groups.{Session, group_of};
 ghost use Rattle.dlp_requests.specs.RequestTexts.{IsRequest, request_text};
 ghost use Rattle.dlp_requests.specs.Views.{Reads, request_value};
 
 use crate::request::Request;
 use dlp_args::{Message, append, begin, maybe_text_of, put, take_8, take_u8, take_u32, text_of};
+
+// Replaces the message by a request about the user or the session.
+#[tactic(auto)]
+pub(crate) fn put_request(request: &Request<'_>, out: &mut Message)
+    requires bounds { IsRequest (request_value request.now) }
+    requires group { group_of (request_value request.now).form ≡ Session }
+    ensures { out.new ≡ request_text (request_value request.now) }
+{
+    match *request {
+        Request::ReadUserInfo => put_read_user_info(out),
+        Request::WriteUserInfo {
+            user,
+            viewer,
+            pc,
+            date,
+            bits,
+            name_len,
+            name,
+        } => put_write_user_info(out, user, viewer, pc, date, bits, name_len, name),
+        Request::ReadSysInfo => put_read_sys_info(out),
+        Request::ReadSysInfoFor { major, minor } => put_read_sys_info_for(out, major, minor),
+        Request::AddSyncLogEntry { text } => put_add_sync_log_entry(out, text),
+        Request::OpenConduit => put_open_conduit(out),
+        Request::EndOfSync { status } => put_end_of_sync(out, status),
+        _ => unreachable!(),
+    }
+}
 
 pub(crate) fn write_user_info(content: &[u8]) -> Option<Request<'_>>
     ensures { Reads form.WriteUserInfo content.now result }
@@ -114,4 +142,25 @@ pub(crate) fn put_end_of_sync(out: &mut Message, status: u16)
 {
     let status = status.to_be_bytes();
     put(out, 0x2F, 0x20, &[status[0], status[1]], &[], &[]);
+}
+
+fn put_read_user_info(out: &mut Message)
+    ensures { out.new ≡ request_text (request_value Request.ReadUserInfo) }
+{
+    out.clear();
+    append(out, &[0x10, 0]);
+}
+
+fn put_read_sys_info(out: &mut Message)
+    ensures { out.new ≡ request_text (request_value Request.ReadSysInfo) }
+{
+    out.clear();
+    append(out, &[0x12, 0]);
+}
+
+fn put_open_conduit(out: &mut Message)
+    ensures { out.new ≡ request_text (request_value Request.OpenConduit) }
+{
+    out.clear();
+    append(out, &[0x2E, 0]);
 }
