@@ -1,5 +1,5 @@
 // The functions that read the database of a handle.
-ghost use Rattle.std.specs.Prelude.{◌≡◌, IfOk, IfSome, OnOk, is_some};
+ghost use Rattle.std.specs.Prelude.{ℕ, ◌≡◌, ◌≢◌, IfOk, IfSome, OnOk, is_some};
 ghost use Rattle.dlp_requests.specs.Views.{request_value};
 ghost use Rattle.dlp_replies.specs.Views.{reply_value};
 ghost use Rattle.dlp_replies.specs.Writables.{IsWritable};
@@ -16,7 +16,7 @@ use crate::refusal::Refusal;
 use crate::reply::{put_ids, put_refusal, put_reply};
 use crate::resource::resource_part;
 use dlp_args::Message;
-use dlp_replies::{Reply, write_reply};
+use dlp_replies::Reply;
 use dlp_requests::Request;
 use palm_device::{entry_count, place_of_id, place_of_resource};
 use pdb_values::{Database, FourCc};
@@ -209,60 +209,49 @@ impl Reading {
         ensures { OnOk result (out.new ≡ answered number (read_of self.now database.now)) }
     {
         match *self {
-            Reading::AppBlock { offset, length } => {
-                put_reply(out, number, app_block(database, offset, length));
-            }
-            Reading::SortBlock { offset, length } => {
-                put_reply(out, number, sort_block(database, offset, length));
-            }
-            Reading::EntryCount => {
-                let count = entry_count(database);
-                write_reply(&Reply::ReadOpenDbInfo { count }, out);
-            }
-            Reading::RecordOfId { id, offset, length } => {
-                put_reply(out, number, record_of_id(database, id, offset, length));
-            }
-            Reading::RecordAt {
-                index,
-                offset,
-                length,
-            } => {
-                put_reply(
-                    out,
-                    number,
-                    record_part(database, index as usize, offset, length),
-                );
-            }
             Reading::RecordIds { start, maximum } => {
                 let count = maximum.min(16_000) as usize;
                 let ids = ids_from(alloc, database.records(), start as usize, count)?;
                 put_ids(out, &ids);
             }
+            _ => put_reply(out, number, self.part(database)),
+        }
+        Ok(())
+    }
+
+    // What the database has of it, where it holds it and no ids are asked for.
+    fn part<'a>(&self, database: &'a Database) -> Result<Reply<'a>, Refusal>
+        requires { (start maximum : ℕ) → self.now ≢ Reading.RecordIds start maximum }
+        ensures part { Finds reply_value result (read_of self.now database.now) }
+        ensures writable { IfOk result (λ reply. IsWritable (reply_value reply)) }
+    {
+        match *self {
+            Reading::AppBlock { offset, length } => app_block(database, offset, length),
+            Reading::SortBlock { offset, length } => sort_block(database, offset, length),
+            Reading::EntryCount => Ok(Reply::ReadOpenDbInfo {
+                count: entry_count(database),
+            }),
+            Reading::RecordOfId { id, offset, length } => record_of_id(
+                database, id, offset, length,
+            ),
+            Reading::RecordAt {
+                index,
+                offset,
+                length,
+            } => record_part(database, index as usize, offset, length),
             Reading::ResourceOfType {
                 kind,
                 id,
                 offset,
                 length,
-            } => {
-                put_reply(
-                    out,
-                    number,
-                    resource_of_type(database, kind, id, offset, length),
-                );
-            }
+            } => resource_of_type(database, kind, id, offset, length),
             Reading::ResourceAt {
                 index,
                 offset,
                 length,
-            } => {
-                put_reply(
-                    out,
-                    number,
-                    resource_part(database, index as usize, offset, length),
-                );
-            }
+            } => resource_part(database, index as usize, offset, length),
+            Reading::RecordIds { .. } => unreachable!(),
         }
-        Ok(())
     }
 }
 

@@ -10,6 +10,7 @@ pub mod ReplyReading
 pub mod ReplyTexts
 pub mod ReplyValues
 pub mod Shapes
+pub mod Subjects
 pub mod UserTexts
 pub mod Views
 pub mod Writables

@@ -1,6 +1,7 @@
 // Writing replies.
 ghost use Rattle.std.specs.Prelude.{◌≡◌, ◌<◌, ◌+◌, ◌∷◌, []};
-ghost use Rattle.dlp_replies.specs.Frames.{reply_text, Refusal, frame_text};
+ghost use Rattle.dlp_replies.specs.Frames.{frame, frame_text, reply_text, Alone, Refusal};
+ghost use Rattle.dlp_replies.specs.Subjects.{IsAlone, IsOfEntry};
 ghost use Rattle.dlp_replies.specs.Views.{reply_value};
 ghost use Rattle.dlp_replies.specs.Writables.{IsWritable};
 
@@ -43,6 +44,23 @@ pub fn write_reply(reply: &Reply<'_>, out: &mut Message)
         Reply::CreateDb { handle } => put_handle_alone(out, 0x18, *handle),
         Reply::ReadAppBlock { bytes } => put_block(out, 0x1B, bytes),
         Reply::ReadSortBlock { bytes } => put_block(out, 0x1D, bytes),
+        Reply::ReadNextModifiedRec { .. }
+        | Reply::ReadRecord { .. }
+        | Reply::WriteRecord { .. }
+        | Reply::ReadResource { .. } => put_entry(out, reply),
+        Reply::ReadOpenDbInfo { count } => put_count_alone(out, 0x2B, *count),
+        Reply::ReadRecordIdList { ids } => put_id_list(out, ids),
+        _ => put_alone(out, bare_function(reply)),
+    }
+}
+
+// A record or a resource.
+fn put_entry(out: &mut Message, reply: &Reply<'_>)
+    requires entry { IsOfEntry (reply_value reply.now) }
+    requires writable { IsWritable (reply_value reply.now) }
+    ensures { out.new ≡ reply_text (reply_value reply.now) }
+{
+    match reply {
         Reply::ReadNextModifiedRec {
             id,
             index,
@@ -67,23 +85,33 @@ pub fn write_reply(reply: &Reply<'_>, out: &mut Message)
             size,
             bytes,
         } => put_resource(out, &kind.0, *id, *index, *size, bytes),
-        Reply::ReadOpenDbInfo { count } => put_count_alone(out, 0x2B, *count),
-        Reply::ReadRecordIdList { ids } => put_id_list(out, ids),
-        Reply::WriteUserInfo => put_alone(out, 0x11),
-        Reply::CloseDb => put_alone(out, 0x19),
-        Reply::DeleteDb => put_alone(out, 0x1A),
-        Reply::WriteAppBlock => put_alone(out, 0x1C),
-        Reply::WriteSortBlock => put_alone(out, 0x1E),
-        Reply::DeleteRecord => put_alone(out, 0x22),
-        Reply::WriteResource => put_alone(out, 0x24),
-        Reply::DeleteResource => put_alone(out, 0x25),
-        Reply::CleanUpDatabase => put_alone(out, 0x26),
-        Reply::ResetSyncFlags => put_alone(out, 0x27),
-        Reply::ResetRecordIndex => put_alone(out, 0x30),
-        Reply::AddSyncLogEntry => put_alone(out, 0x2A),
-        Reply::MoveCategory => put_alone(out, 0x2C),
-        Reply::OpenConduit => put_alone(out, 0x2E),
-        Reply::EndOfSync => put_alone(out, 0x2F),
+        _ => unreachable!(),
+    }
+}
+
+// The function of a reply without an argument.
+fn bare_function(reply: &Reply<'_>) -> u8
+    requires { IsAlone (frame (reply_value reply.now)) }
+    ensures alone { frame (reply_value reply.now) ≡ Alone result }
+    ensures small { result < 0x80 }
+{
+    match reply {
+        Reply::WriteUserInfo => 0x11,
+        Reply::CloseDb => 0x19,
+        Reply::DeleteDb => 0x1A,
+        Reply::WriteAppBlock => 0x1C,
+        Reply::WriteSortBlock => 0x1E,
+        Reply::DeleteRecord => 0x22,
+        Reply::WriteResource => 0x24,
+        Reply::DeleteResource => 0x25,
+        Reply::CleanUpDatabase => 0x26,
+        Reply::ResetSyncFlags => 0x27,
+        Reply::ResetRecordIndex => 0x30,
+        Reply::AddSyncLogEntry => 0x2A,
+        Reply::MoveCategory => 0x2C,
+        Reply::OpenConduit => 0x2E,
+        Reply::EndOfSync => 0x2F,
+        _ => unreachable!(),
     }
 }
 
