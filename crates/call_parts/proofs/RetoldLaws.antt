@@ -2,7 +2,7 @@
 use Rattle.std.proofs.lemmas.Grind.{common_steps}
 use Rattle.std.proofs.Common.{arith, ◌≡◌, ◌⊎◌, inl, inr, refl, subst, sym}
 use Rattle.line_world.specs.Causes.{BearsOut}
-use Rattle.hotsync_looks.specs.Printed.{IsPrintedStatus}
+use Rattle.cmd_status.specs.Printed.{IsPrintedStatus}
 use Rattle.call_parts.specs.Causes.{ByEnd, EndsAs, IsFallen, IsLineDown, IsTracedStatus, IsUnsaid, cause_in}
 use Rattle.call_parts.specs.LineRuns.{frames_in}
 use Rattle.call_parts.specs.Sessions.{Agenda, HadSession, IsTalk, KeptSilent, Spoke}
@@ -13,8 +13,8 @@ use Rattle.call_parts.proofs.WholeLaws.{dealt_as}
 use Rattle.call_parts.specs.declared.report.Report.{Report}
 use Rattle.call_parts.specs.declared.report.SessionEnd.{SessionEnd}
 use Rattle.call_parts.specs.declared.report.SessionEnd.TheVariants.{Ended}
-use Rattle.hotsync_looks.specs.declared.status.Status.{Status}
-use Rattle.hotsync_looks.specs.declared.status.Status.TheVariants.{Done, TraceWrite, OutWrite, NoMemory}
+use Rattle.cmd_status.specs.declared.status.Status.{Status}
+use Rattle.cmd_status.specs.declared.status.Status.TheVariants.{Done, TraceWrite, OutWrite, NoMemory}
 
 -- by how far a session came, what follows
 pub by_end_then : (end : SessionEnd) {A B C D : Type 0} → (A → C) → (B → D) → ByEnd end A B → ByEnd end C D

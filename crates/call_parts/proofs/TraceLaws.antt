@@ -10,14 +10,14 @@ use Rattle.trace_text.specs.declared.frame.End.{End}
 use Rattle.call_parts.specs.Causes.{EndsAs, IsUnsaid}
 use Rattle.call_parts.specs.Refusals.{BlamesHandheld, BlamesSource}
 use Rattle.call_parts.specs.Sessions.{IsTalk, KeptSilent}
-use Rattle.hotsync_looks.specs.Told.{SinkTold}
+use Rattle.cmd_status.specs.Told.{SinkTold}
 use Rattle.call_parts.specs.Told.{SidesTold}
 use Rattle.call_parts.specs.Traces.{TakesTrace, TracesText}
 use Rattle.call_parts.specs.declared.report.Report.{Report}
 use Rattle.call_parts.specs.declared.report.SessionEnd.{SessionEnd}
 use Rattle.call_parts.specs.declared.report.SessionEnd.TheVariants.{NotStarted}
-use Rattle.hotsync_looks.specs.declared.status.Status.{Status}
-use Rattle.hotsync_looks.specs.declared.status.Status.TheVariants.{NoMemory, InUse}
+use Rattle.cmd_status.specs.declared.status.Status.{Status}
+use Rattle.cmd_status.specs.declared.status.Status.TheVariants.{NoMemory, InUse}
 use Rattle.call_parts.proofs.RetoldLaws.{by_end_both}
 
 -- ---- the trace

@@ -14,8 +14,8 @@ use Rattle.call_parts.specs.declared.left.Left.{Left}
 use Rattle.call_parts.specs.declared.report.Report.{Report}
 use Rattle.call_parts.specs.declared.report.SessionEnd.{SessionEnd}
 use Rattle.call_parts.specs.declared.report.SessionEnd.TheVariants.{Ended, Stopped}
-use Rattle.hotsync_looks.specs.declared.status.Status.{Status}
-use Rattle.hotsync_looks.specs.declared.status.Status.TheVariants.{Done, NoMemory}
+use Rattle.cmd_status.specs.declared.status.Status.{Status}
+use Rattle.cmd_status.specs.declared.status.Status.TheVariants.{Done, NoMemory}
 
 abbrev pub left_status : Option Down → Result (Vec DbReport) Stop → Status
 left_status cause (Ok reports) = Done

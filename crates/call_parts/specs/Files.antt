@@ -5,8 +5,8 @@ use Rattle.std.specs.List.{list_any}
 use Rattle.std.specs.declared.alloc.Global.{Global}
 use Rattle.hs_folders.specs.FileMaps.{FileMap}
 use Rattle.folder_files.specs.FileNames.{desktop_info_file, device_info_file, journal_file}
-use Rattle.hotsync_looks.specs.declared.status.Status.{Status}
-use Rattle.hotsync_looks.specs.declared.status.Status.TheVariants.{NotBackupFolder}
+use Rattle.cmd_status.specs.declared.status.Status.{Status}
+use Rattle.cmd_status.specs.declared.status.Status.TheVariants.{NotBackupFolder}
 use Rattle.call_parts.specs.Refusals.{IsDesktopFailure, is_desktop, is_handheld}
 
 -- files of a folder that is synchronised: the information file of a side, or a desktop's journal

@@ -12,13 +12,13 @@ use Rattle.desk_store.specs.Desks as desktop
 use Rattle.desk_store.specs.declared.fault.DeskOpenFault.{DeskOpenFault}
 use Rattle.run_words.specs.Runs.{Run}
 use Rattle.trace_text.specs.declared.frame.End.TheVariants as end
-use Rattle.hotsync_looks.specs.FolderFaults.{desktop_status, handheld_status}
+use Rattle.cmd_status.specs.FolderFaults.{desktop_status, handheld_status}
 use Rattle.call_parts.specs.Scripts.{HasScript, ScriptRefuses}
 use Rattle.call_parts.specs.Told.{CallTold}
-use Rattle.hotsync_looks.specs.declared.status.FileSide.TheVariants as side
-use Rattle.hotsync_looks.specs.declared.status.Status.{Status}
-use Rattle.hotsync_looks.specs.declared.status.Status.TheVariants.{BadScript, TooLong, BadFile, TooMany, HandheldFolder, DesktopFolder, SourceRead, TraceWrite}
-use Rattle.hotsync_looks.specs.declared.status.Status.TheVariants.{NoMemory, WrongSide, InUse, CannotInstall}
+use Rattle.cmd_status.specs.declared.status.FileSide.TheVariants as side
+use Rattle.cmd_status.specs.declared.status.Status.{Status}
+use Rattle.cmd_status.specs.declared.status.Status.TheVariants.{BadScript, TooLong, BadFile, TooMany, HandheldFolder, DesktopFolder, SourceRead, TraceWrite}
+use Rattle.cmd_status.specs.declared.status.Status.TheVariants.{NoMemory, WrongSide, InUse, CannotInstall}
 
 -- files with the information file of a desktop
 abbrev pub is_desktop : FileMap → Bool

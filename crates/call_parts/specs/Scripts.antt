@@ -3,9 +3,9 @@ use Rattle.std.specs.Prelude.{◌≡◌, ◌⊎◌, ⊤, ◌<◌, ◌≤◌, ℕ
 use Rattle.line_script.specs.Rules.{RuleValue}
 use Rattle.line_script.specs.Scripts.{IsReading}
 use Rattle.line_script.specs.declared.fault.ScriptFault.TheVariants as fault
-use Rattle.hotsync_looks.specs.LookTexts.{source_limit}
-use Rattle.hotsync_looks.specs.declared.status.Status.{Status}
-use Rattle.hotsync_looks.specs.declared.status.Status.TheVariants.{BadScript, TooLong, SourceRead, NoMemory}
+use Rattle.cmd_status.specs.Sources.{source_limit}
+use Rattle.cmd_status.specs.declared.status.Status.{Status}
+use Rattle.cmd_status.specs.declared.status.Status.TheVariants.{BadScript, TooLong, SourceRead, NoMemory}
 
 -- bytes that are not too many, and say this as a script
 pub record IsScript (bytes : List ℕ) (rules : List RuleValue) : Type 0 where

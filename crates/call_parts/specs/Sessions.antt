@@ -21,8 +21,8 @@ use Rattle.call_parts.specs.Told.{FolderTold, SidesTold}
 use Rattle.call_parts.specs.Whole.{DealtWith}
 use Rattle.call_parts.specs.declared.report.Report.{Report}
 use Rattle.call_parts.specs.declared.report.SessionEnd.TheVariants.{Stopped}
-use Rattle.hotsync_looks.specs.declared.status.Status.{Status}
-use Rattle.hotsync_looks.specs.declared.status.Status.TheVariants.{HandheldFolder, DesktopFolder, NoMemory}
+use Rattle.cmd_status.specs.declared.status.Status.{Status}
+use Rattle.cmd_status.specs.declared.status.Status.TheVariants.{HandheldFolder, DesktopFolder, NoMemory}
 
 -- ---- what was said
 

@@ -4,8 +4,8 @@ use Rattle.trace_text.specs.TraceLines.{FrameValue}
 use Rattle.line_steps.specs.declared.harm.Stop.{Stop}
 use Rattle.line_world.specs.Stops.{EndsBy, stop_cause}
 use Rattle.call_parts.specs.Causes.{down_status}
-use Rattle.hotsync_looks.specs.declared.status.Status.{Status}
-use Rattle.hotsync_looks.specs.declared.status.Status.TheVariants.{NoMemory}
+use Rattle.cmd_status.specs.declared.status.Status.{Status}
+use Rattle.cmd_status.specs.declared.status.Status.TheVariants.{NoMemory}
 
 -- Where the run ends with the last of these frames, whatever the reason, the status is that of this
 -- reason and names that frame, unless memory ran out.

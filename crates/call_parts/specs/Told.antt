@@ -5,7 +5,7 @@ use Rattle.hs_folders.specs.Moments.{Moments}
 use Rattle.hs_folders.specs.declared.folder.Folder.{Ghosts as FolderMembers}
 use Rattle.hs_folders.specs.declared.sink.Sink.{Ghosts as SinkMembers}
 use Rattle.hs_folders.specs.declared.source.Source.{Ghosts as SourceMembers}
-use Rattle.hotsync_looks.specs.Told.{SinkTold, SourceTold, sink_told, source_told}
+use Rattle.cmd_status.specs.Told.{SinkTold, SourceTold, sink_told, source_told}
 
 -- what a folder tells
 pub record FolderTold : Type 0 where

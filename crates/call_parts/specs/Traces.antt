@@ -6,10 +6,10 @@ use Rattle.hs_folders.specs.Causes.{Rose}
 use Rattle.trace_text.specs.TraceLines.{trace_text}
 use Rattle.call_parts.specs.Causes.{IsTracedStatus}
 use Rattle.call_parts.specs.LineRuns.{frames_in}
-use Rattle.hotsync_looks.specs.Told.{SinkTold}
+use Rattle.cmd_status.specs.Told.{SinkTold}
 use Rattle.call_parts.specs.declared.report.Report.{Report}
-use Rattle.hotsync_looks.specs.declared.status.Status.{Status}
-use Rattle.hotsync_looks.specs.declared.status.Status.TheVariants.{Done, TraceWrite, NoMemory}
+use Rattle.cmd_status.specs.declared.status.Status.{Status}
+use Rattle.cmd_status.specs.declared.status.Status.TheVariants.{Done, TraceWrite, NoMemory}
 
 -- What a trace took: the text, wherever the run is told as done, and else unless the trace failed
 -- or memory ran out; or else a first part of it. Where none is named it took nothing of it.

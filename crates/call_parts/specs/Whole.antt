@@ -11,9 +11,9 @@ use Rattle.call_parts.specs.Causes.{IsFallen, IsLineDown}
 use Rattle.call_parts.specs.LineRuns.{frames_in, log_in}
 use Rattle.call_parts.specs.declared.report.Report.{Report}
 use Rattle.call_parts.specs.declared.report.SessionEnd.TheVariants.{Ended}
-use Rattle.hotsync_looks.specs.declared.status.Status.{Status}
-use Rattle.hotsync_looks.specs.declared.status.Status.TheVariants.{HandheldFolder, DesktopFolder, NoMemory, OtherUser, TooManyUsers, Limit}
-use Rattle.hotsync_looks.specs.declared.status.Status.TheVariants.{NewHandheld}
+use Rattle.cmd_status.specs.declared.status.Status.{Status}
+use Rattle.cmd_status.specs.declared.status.Status.TheVariants.{HandheldFolder, DesktopFolder, NoMemory, OtherUser, TooManyUsers, Limit}
+use Rattle.cmd_status.specs.declared.status.Status.TheVariants.{NewHandheld}
 
 -- Behind the greetings the frames tell the handheld the requests that it performed, or one request
 -- more, and the desktop the replies that were answered, or one reply more: the one more only where

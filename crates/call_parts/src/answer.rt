@@ -1,15 +1,16 @@
 // What a call hands back.
 ghost use Rattle.std.specs.Prelude.{◌≡◌, ◌≢◌, None, option_copied};
-ghost use Rattle.hotsync_looks.specs.Lines.{done_lines};
-ghost use Rattle.hotsync_looks.specs.Printed.{IsPrinted, IsPrintedStatus};
-ghost use Rattle.hotsync_looks.specs.Told.{sink_told};
+ghost use Rattle.call_parts.specs.DoneLines.{done_lines};
+ghost use Rattle.cmd_status.specs.Printed.{IsPrinted, IsPrintedStatus};
+ghost use Rattle.cmd_status.specs.Told.{sink_told};
 ghost use Rattle.call_parts.specs.Causes.{IsTracedStatus, IsUnsaid};
 ghost use Rattle.call_parts.specs.Reports.{IsNotStarted};
 ghost use Rattle.call_parts.specs.Traces.{TracesReport};
 
+use crate::done_lines::print_status;
 use crate::report::Report;
 use crate::tracing::write_frames;
-use hotsync_looks::{Status, print_status};
+use cmd_status::Status;
 use hs_folders::Sink;
 use std::alloc::Global;
 

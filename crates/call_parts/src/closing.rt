@@ -6,7 +6,7 @@ ghost use Rattle.call_parts.specs.Closings.{Closes};
 use crate::left::{Left, left_of};
 use crate::report::Report;
 use crate::reporting::report_of;
-use hotsync_looks::Status;
+use cmd_status::Status;
 use hs_folders::Folder;
 use line_world::World;
 use session_parts::{DbReport, Stop};

@@ -4,8 +4,8 @@ ghost use Rattle.call_parts.specs.Causes.{down_status as status_of_down, fault_s
 ghost use Rattle.call_parts.specs.Closings.{IsLeft};
 
 use crate::report::SessionEnd;
+use cmd_status::Status;
 use desktop_session::SessionFault;
-use hotsync_looks::Status;
 use line_world::Down;
 use session_parts::{DbReport, Stop};
 use std::alloc::{AllocError, Global};

@@ -1,11 +1,11 @@
 // The script of a run.
 ghost use Rattle.std.specs.Prelude.{◌≡◌, ◌≤◌, IfErr, IfOk, IfSome, IsErrOf, None, OnOk, Some, length, option_copied};
 ghost use Rattle.hs_folders.specs.Causes.{Rose};
-ghost use Rattle.hotsync_looks.specs.LookTexts.{source_limit};
-ghost use Rattle.hotsync_looks.specs.Opening.{Opens, OpensAtMost, OpensGiven, OpensGivenAtMost};
+ghost use Rattle.cmd_status.specs.Sources.{source_limit};
+ghost use Rattle.cmd_status.specs.Opening.{Opens, OpensAtMost, OpensGiven, OpensGivenAtMost};
 ghost use Rattle.call_parts.specs.Scripts.{IsScript, IsScriptRefusal, IsScripted, ScriptRefuses, ScriptShows};
 
-use hotsync_looks::{Status, read_source};
+use cmd_status::{Status, read_source};
 use hs_folders::Source;
 use line_script::{Script, ScriptFault, read_script};
 use std::alloc::Global;

@@ -11,15 +11,15 @@ ghost use Rattle.desk_journal.specs.Overlays.{FinishesAs, finished};
 ghost use Rattle.desk_store.specs.Bounds.{AreBounded};
 ghost use Rattle.desk_store.specs.Desks.{IsDesk};
 ghost use Rattle.desk_store.specs.Views.{folder_in as desk_in};
-ghost use Rattle.hotsync_looks.specs.Opening.{Opens, OpensAtMost};
+ghost use Rattle.cmd_status.specs.Opening.{Opens, OpensAtMost};
 ghost use Rattle.call_parts.specs.Files.{FilesRefuse, StandsApart, is_synced, lists_synced};
 ghost use Rattle.call_parts.specs.Refusals.{DesktopRefuses, DesktopShows, HandheldRefuses, HandheldShows, HasDesktop, LeavesDesktopUnread, is_desktop, is_handheld};
 ghost use Rattle.call_parts.specs.Views.{device_in, folder_in};
 
+use cmd_status::Status;
 use desk_store::Desk;
 use folder_files::{DESKTOP_INFO, DEVICE_INFO, JOURNAL};
 use handheld_store::Store;
-use hotsync_looks::Status;
 use hs_folders::{Folder, FolderFault, FolderOpenFault};
 use std::alloc::Global;
 use trace_text::End;

@@ -3,12 +3,12 @@ ghost use Rattle.std.specs.Prelude.{◌≡◌, ◌≤◌, [], IfErr, IsErrOf, No
 ghost use Rattle.hs_folders.specs.Causes.{Rose};
 ghost use Rattle.trace_text.specs.TraceLines.{frame_value, trace_text};
 ghost use Rattle.call_parts.specs.Causes.{IsUnsaid, untold as untold_status};
-ghost use Rattle.hotsync_looks.specs.Opening.{Opens, OpensAtMost, OpensGiven, OpensGivenAtMost};
+ghost use Rattle.cmd_status.specs.Opening.{Opens, OpensAtMost, OpensGiven, OpensGivenAtMost};
 ghost use Rattle.call_parts.specs.Refusals.{IsTraceRefusal, TraceRefuses};
-ghost use Rattle.hotsync_looks.specs.Told.{sink_told};
+ghost use Rattle.cmd_status.specs.Told.{sink_told};
 ghost use Rattle.call_parts.specs.Traces.{TracesFrames, TracesText};
 
-use hotsync_looks::Status;
+use cmd_status::Status;
 use hs_folders::{Sink, SinkFault};
 use std::alloc::{AllocError, Global};
 use trace_text::{FrameLog, write_trace};

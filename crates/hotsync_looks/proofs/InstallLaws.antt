@@ -9,10 +9,10 @@ use Rattle.pdb_files.specs.declared.fault.FileFault.TheVariants.{NoMemory as NoM
 use Rattle.hotsync_looks.specs.BadFiles.{StandsFor}
 use Rattle.handheld_files.specs.BadFiles.{BreaksRule}
 use Rattle.hotsync_looks.specs.InstallFiles.{FileShows, IsFileRefusal}
-use Rattle.hotsync_looks.specs.LookTexts.{source_limit}
-use Rattle.hotsync_looks.specs.declared.status.FileSide.TheVariants.{Source}
-use Rattle.hotsync_looks.specs.declared.status.Status.{Status}
-use Rattle.hotsync_looks.specs.declared.status.Status.TheVariants.{BadFile, NoMemory, SourceRead}
+use Rattle.cmd_status.specs.Sources.{source_limit}
+use Rattle.cmd_status.specs.declared.status.FileSide.TheVariants.{Source}
+use Rattle.cmd_status.specs.declared.status.Status.{Status}
+use Rattle.cmd_status.specs.declared.status.Status.TheVariants.{BadFile, NoMemory, SourceRead}
 
 broken : {bytes : List ℕ} {kind : BadKind} {place : ℕ} (rule : FileFault) → FaultRefuses {A = DatabaseValue} (Err rule) (file_fault bytes)
     → bad_file rule ≡ Some (kind, place) → BreaksRule bytes kind place

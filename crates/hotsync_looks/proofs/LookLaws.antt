@@ -25,16 +25,17 @@ use Rattle.pdb_files.specs.declared.fault.FileFault.{FileFault}
 use Rattle.pdb_files.specs.declared.fault.FileFault.TheVariants.{NoMemory as NoMemoryFault}
 use Rattle.hotsync_looks.specs.BadFiles.{StandsFor}
 use Rattle.handheld_files.specs.BadFiles.{BreaksRule}
-use Rattle.hotsync_looks.specs.declared.status.FileSide.TheVariants.{Source}
+use Rattle.cmd_status.specs.declared.status.FileSide.TheVariants.{Source}
 use Rattle.hotsync_looks.specs.LookTexts.{BadItem, Cause, Broken, HasBadRecord, Misfit, Unfit, Untraced, Improper, IsCauseOf, IsDatabaseCause, IsDatabaseText, IsImportCause, IsImported, IsUnfit}
-use Rattle.hotsync_looks.specs.LookTexts.{IsPageText, IsProperText, IsReadingCause, IsTextOf, IsTraceCause, NoTextSays, Refuses, RefusesDatabase, RefusesImport, RefusesReading, RefusesTrace, SaysOfFile, look_text, source_limit}
+use Rattle.hotsync_looks.specs.LookTexts.{IsPageText, IsProperText, IsReadingCause, IsTextOf, IsTraceCause, NoTextSays, Refuses, RefusesDatabase, RefusesImport, RefusesReading, RefusesTrace, SaysOfFile, look_text}
+use Rattle.cmd_status.specs.Sources.{source_limit}
 use Rattle.hotsync_looks.specs.ExportTexts.{NoText, Absent, OutOfForm}
 use Rattle.hotsync_looks.specs.Looks.{IsLook, IsLookRefusal, IsShowable, IsTextIn, SourceShows}
-use Rattle.hotsync_looks.specs.Opening.{Opens, OpensAtMost}
-use Rattle.hotsync_looks.specs.Printed.{IsPrinted}
-use Rattle.hotsync_looks.specs.Told.{SinkTold, SourceTold}
-use Rattle.hotsync_looks.specs.declared.status.Status.{Status}
-use Rattle.hotsync_looks.specs.declared.status.Status.TheVariants.{Done, BadFile, BadRecord, CannotExport, NotProper, TooLong, SourceRead, OutWrite, NoMemory}
+use Rattle.cmd_status.specs.Opening.{Opens, OpensAtMost}
+use Rattle.cmd_status.specs.Printed.{IsPrinted}
+use Rattle.cmd_status.specs.Told.{SinkTold, SourceTold}
+use Rattle.cmd_status.specs.declared.status.Status.{Status}
+use Rattle.cmd_status.specs.declared.status.Status.TheVariants.{Done, BadFile, BadRecord, CannotExport, NotProper, TooLong, SourceRead, OutWrite, NoMemory}
 
 -- ---- bytes of a database
 

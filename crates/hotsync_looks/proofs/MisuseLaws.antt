@@ -3,9 +3,9 @@ use Rattle.std.proofs.Common.{◌≡◌, ◌⊎◌, inl, inr, refl, subst, sym}
 use Rattle.std.specs.Prelude.{None, Option, Some}
 use Rattle.run_words.specs.Faults.{Fault}
 use Rattle.hotsync_looks.specs.Misuses.{IsMisuse, NamesFault, TellsFault}
-use Rattle.hotsync_looks.specs.Printed.{IsRefusal}
-use Rattle.hotsync_looks.specs.declared.status.Status.{Status}
-use Rattle.hotsync_looks.specs.declared.status.Status.TheVariants.{Usage, BadWord, NoMemory}
+use Rattle.cmd_status.specs.Printed.{IsRefusal}
+use Rattle.cmd_status.specs.declared.status.Status.{Status}
+use Rattle.cmd_status.specs.declared.status.Status.TheVariants.{Usage, BadWord, NoMemory}
 
 misuse_refuses : (status : Status) → IsMisuse status → IsRefusal status
 misuse_refuses Usage is = tt

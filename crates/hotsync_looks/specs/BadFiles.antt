@@ -4,9 +4,9 @@ use Rattle.std.specs.declared.alloc.Global.{Global}
 use Rattle.pdb_files.specs.BadKinds.{bad_file}
 use Rattle.pdb_files.specs.declared.bad_kind.BadKind.{BadKind}
 use Rattle.pdb_files.specs.declared.fault.FileFault.{FileFault}
-use Rattle.hotsync_looks.specs.declared.status.FileSide.{FileSide}
-use Rattle.hotsync_looks.specs.declared.status.Status.{Status}
-use Rattle.hotsync_looks.specs.declared.status.Status.TheVariants.{BadFile, NoMemory}
+use Rattle.cmd_status.specs.declared.status.FileSide.{FileSide}
+use Rattle.cmd_status.specs.declared.status.Status.{Status}
+use Rattle.cmd_status.specs.declared.status.Status.TheVariants.{BadFile, NoMemory}
 
 -- the status of a bad file, unless memory ran out
 abbrev pub IsBadStatus : FileSide → List ℕ → BadKind → ℕ → Status → Type 0

@@ -5,7 +5,7 @@ use Rattle.run_words.specs.declared.topic.CommandWord.{CommandWord}
 use Rattle.run_words.specs.declared.topic.CommandWord.TheVariants.{Run, Check, Show, Export, Import, Verify, Picture, Packet, Install, Backup, Restore, Device, Categories, Sync, Make}
 use Rattle.run_words.specs.declared.topic.Topic.{Topic}
 use Rattle.run_words.specs.declared.topic.Topic.TheVariants.{Program, Version, Of}
-use Rattle.hotsync_looks.specs.Lines.{line_feed}
+use Rattle.cmd_status.specs.Lines.{line_feed}
 use Rattle.hotsync_looks.specs.declared.help_text.OptionLine.{OptionLine}
 use Rattle.hotsync_looks.specs.declared.help_text.OptionLine.TheVariants.{Date, DateNow, Script, Trace, Input, Output, Port, Slow, Actions, Only, AddUser, DryRun, AsText, AsCards, AsTable, AsCalendar, WithoutPrivate, KeepBroken, Records}
 

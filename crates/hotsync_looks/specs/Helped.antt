@@ -3,10 +3,10 @@ use Rattle.std.specs.Prelude.{◌≡◌, ◌⊎◌}
 use Rattle.hs_folders.specs.Causes.{Rose}
 use Rattle.run_words.specs.declared.topic.Topic.{Topic}
 use Rattle.hotsync_looks.specs.HelpTexts.{help_text}
-use Rattle.hotsync_looks.specs.Printed.{IsPrinted}
-use Rattle.hotsync_looks.specs.Told.{SinkTold}
-use Rattle.hotsync_looks.specs.declared.status.Status.{Status}
-use Rattle.hotsync_looks.specs.declared.status.Status.TheVariants.{Done, OutWrite, NoMemory}
+use Rattle.cmd_status.specs.Printed.{IsPrinted}
+use Rattle.cmd_status.specs.Told.{SinkTold}
+use Rattle.cmd_status.specs.declared.status.Status.{Status}
+use Rattle.cmd_status.specs.declared.status.Status.TheVariants.{Done, OutWrite, NoMemory}
 
 -- What is known of it: the text of the topic, and nothing else, unless standard output fails or
 -- memory runs out.

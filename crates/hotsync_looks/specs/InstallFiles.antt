@@ -5,10 +5,10 @@ use Rattle.pdb_values.specs.Databases.{DatabaseValue}
 use Rattle.pdb_values.specs.Heads.{is_read_only}
 use Rattle.pdb_files.specs.Files.{IsFileText}
 use Rattle.handheld_files.specs.BadFiles.{BreaksRule}
-use Rattle.hotsync_looks.specs.LookTexts.{source_limit}
-use Rattle.hotsync_looks.specs.declared.status.FileSide.TheVariants.{Source}
-use Rattle.hotsync_looks.specs.declared.status.Status.{Status}
-use Rattle.hotsync_looks.specs.declared.status.Status.TheVariants.{BadFile, CannotInstall, SourceRead, TooLong, NoMemory}
+use Rattle.cmd_status.specs.Sources.{source_limit}
+use Rattle.cmd_status.specs.declared.status.FileSide.TheVariants.{Source}
+use Rattle.cmd_status.specs.declared.status.Status.{Status}
+use Rattle.cmd_status.specs.declared.status.Status.TheVariants.{BadFile, CannotInstall, SourceRead, TooLong, NoMemory}
 
 -- bytes that are not too many, and the file of this database, which may be written
 pub record IsInstallFile (bytes : List ℕ) (database : DatabaseValue) : Type 0 where

@@ -1,17 +1,10 @@
 pub mod BadFiles
-pub mod Codes
 pub mod ExportTexts
-pub mod FolderFaults
 pub mod HelpTexts
 pub mod Helped
 pub mod InstallFiles
-pub mod Lines
 pub mod LookTexts
 pub mod Looks
 pub mod Misuses
-pub mod Opening
-pub mod Printed
-pub mod PrintedNames
 pub mod Scans
 pub mod Served
-pub mod Told

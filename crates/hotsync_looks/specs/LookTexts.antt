@@ -23,15 +23,11 @@ use Rattle.run_words.specs.declared.look.Look.TheVariants.{Check, Show, Records,
 use Rattle.run_words.specs.declared.look.ExportForm.{ExportForm}
 use Rattle.handheld_files.specs.BadFiles.{BreaksRule}
 use Rattle.hotsync_looks.specs.ExportTexts.{NoText, Absent, OutOfForm, form_export}
-use Rattle.hotsync_looks.specs.Lines.{line_feed}
-use Rattle.hotsync_looks.specs.declared.status.FileSide.TheVariants.{Source}
-use Rattle.hotsync_looks.specs.declared.status.Status.{Status}
-use Rattle.hotsync_looks.specs.declared.status.Status.TheVariants.{BadFile, BadRecord, BadText, BadTrace, CannotExport, NoMemory, NotProper, Overfull}
-use Rattle.hotsync_looks.specs.declared.status.Surplus.TheVariants.{Categories, Records as TooManyOf}
-
--- the most bytes that a source may have
-abbrev pub source_limit : ℕ
-source_limit = 67108864
+use Rattle.cmd_status.specs.Lines.{line_feed}
+use Rattle.cmd_status.specs.declared.status.FileSide.TheVariants.{Source}
+use Rattle.cmd_status.specs.declared.status.Status.{Status}
+use Rattle.cmd_status.specs.declared.status.Status.TheVariants.{BadFile, BadRecord, BadText, BadTrace, CannotExport, NoMemory, NotProper, Overfull}
+use Rattle.cmd_status.specs.declared.status.Surplus.TheVariants.{Categories, Records as TooManyOf}
 
 -- ---- a database
 

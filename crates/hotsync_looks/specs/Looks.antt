@@ -3,12 +3,13 @@
 use Rattle.std.specs.Prelude.{◌≡◌, ◌⊎◌, ⊤, ◌<◌, ◌≤◌, ℕ, List, length, Option, Some, IfSome}
 use Rattle.hs_folders.specs.Causes.{Rose}
 use Rattle.run_words.specs.declared.look.Look.{Look}
-use Rattle.hotsync_looks.specs.LookTexts.{Cause, IsCauseOf, IsTextOf, SaysOfFile, source_limit}
-use Rattle.hotsync_looks.specs.Opening.{Opens, OpensAtMost}
-use Rattle.hotsync_looks.specs.Printed.{IsPrinted}
-use Rattle.hotsync_looks.specs.Told.{SinkTold, SourceTold}
-use Rattle.hotsync_looks.specs.declared.status.Status.{Status}
-use Rattle.hotsync_looks.specs.declared.status.Status.TheVariants.{Done, BadFile, BadRecord, BadText, BadTrace, CannotExport, NotProper, Overfull, SourceRead, TooLong, OutWrite, NoMemory}
+use Rattle.hotsync_looks.specs.LookTexts.{Cause, IsCauseOf, IsTextOf, SaysOfFile}
+use Rattle.cmd_status.specs.Sources.{source_limit}
+use Rattle.cmd_status.specs.Opening.{Opens, OpensAtMost}
+use Rattle.cmd_status.specs.Printed.{IsPrinted}
+use Rattle.cmd_status.specs.Told.{SinkTold, SourceTold}
+use Rattle.cmd_status.specs.declared.status.Status.{Status}
+use Rattle.cmd_status.specs.declared.status.Status.TheVariants.{Done, BadFile, BadRecord, BadText, BadTrace, CannotExport, NotProper, Overfull, SourceRead, TooLong, OutWrite, NoMemory}
 
 -- the text of a look at these bytes, which the source holds where it tells what it holds
 pub record IsTextIn (look : Look) (left : Option (List ℕ)) (text : List ℕ) : Type 0 where
@@ -53,13 +54,6 @@ IsLookRefusal SourceRead = ⊤
 IsLookRefusal TooLong = ⊤
 IsLookRefusal NoMemory = ⊤
 IsLookRefusal _ = ⊥
-
--- one of those that a source gives cause for
-abbrev pub IsSourceRefusal : Status → Type 0
-IsSourceRefusal SourceRead = ⊤
-IsSourceRefusal TooLong = ⊤
-IsSourceRefusal NoMemory = ⊤
-IsSourceRefusal _ = ⊥
 
 -- What is known of it. A clause on the source's bytes speaks where the source tells them.
 pub record IsLook (look : Look) (file : List ℕ) (source source_after : SourceTold)

@@ -3,10 +3,10 @@ use Rattle.std.specs.Prelude.{◌≡◌, ◌⊎◌, ℕ, List}
 use Rattle.hs_folders.specs.Causes.{Rose}
 use Rattle.slp_frames.specs.PacketScan.{scan}
 use Rattle.trace_text.specs.PacketLists.{ShowsPackets}
-use Rattle.hotsync_looks.specs.Printed.{IsPrinted}
-use Rattle.hotsync_looks.specs.Told.{SinkTold}
-use Rattle.hotsync_looks.specs.declared.status.Status.{Status}
-use Rattle.hotsync_looks.specs.declared.status.Status.TheVariants.{Done, OutWrite, NoMemory}
+use Rattle.cmd_status.specs.Printed.{IsPrinted}
+use Rattle.cmd_status.specs.Told.{SinkTold}
+use Rattle.cmd_status.specs.declared.status.Status.{Status}
+use Rattle.cmd_status.specs.declared.status.Status.TheVariants.{Done, OutWrite, NoMemory}
 
 -- What is known of it: a line for each packet, and their number, unless standard output fails or
 -- memory runs out.

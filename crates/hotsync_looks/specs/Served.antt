@@ -1,6 +1,6 @@
 -- The lines of a talk that ended.
 use Rattle.std.specs.Prelude.{ℕ, List, ◌++◌, codes}
-use Rattle.hotsync_looks.specs.Lines.{ended_line, number_line}
+use Rattle.cmd_status.specs.Lines.{ended_line, number_line}
 
 -- `served N`, and then `ended`
 unfoldable pub served_lines : ℕ → List ℕ

@@ -1,7 +1,7 @@
 // A bad file, in the status of a call.
 ghost use Rattle.hotsync_looks.specs.BadFiles.{IsBadStatus, StandsFor};
 
-use crate::status::{FileSide, Status};
+use cmd_status::{FileSide, Status};
 use pdb_files::{BadKind, FileFault};
 use std::alloc::{AllocError, Global};
 

@@ -1,10 +1,9 @@
 // Help.
 ghost use Rattle.hotsync_looks.specs.Helped.{IsHelped};
-ghost use Rattle.hotsync_looks.specs.Told.{sink_told};
+ghost use Rattle.cmd_status.specs.Told.{sink_told};
 
 use crate::help_text::help_text;
-use crate::printing::{print_no_memory, print_text};
-use crate::status::Status;
+use cmd_status::{Status, print_no_memory, print_text};
 use hs_folders::Sink;
 use run_words::Topic;
 use std::alloc::{AllocError, Global};

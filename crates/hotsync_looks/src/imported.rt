@@ -2,7 +2,7 @@
 ghost use Rattle.std.specs.Prelude.{◌≡◌, ◌⊎◌, IfErr, IfOk};
 ghost use Rattle.hotsync_looks.specs.LookTexts.{IsImported, RefusesImport, SaysMisfit};
 
-use crate::status::{Status, Surplus};
+use cmd_status::{Status, Surplus};
 use memo_texts::{ImportFault, import_memos};
 use pdb_files::write_database;
 use std::alloc::Global;

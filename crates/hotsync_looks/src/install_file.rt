@@ -4,12 +4,11 @@ ghost use Rattle.hs_folders.specs.Causes.{Rose};
 ghost use Rattle.palm_device.specs.Bounds.{IsBoundedDatabase};
 ghost use Rattle.pdb_values.specs.Heads.{is_read_only};
 ghost use Rattle.hotsync_looks.specs.InstallFiles.{FileRefuses, FileShows, IsFileRefusal, IsInstallFile};
-ghost use Rattle.hotsync_looks.specs.LookTexts.{source_limit};
-ghost use Rattle.hotsync_looks.specs.Opening.{Opens, OpensAtMost};
+ghost use Rattle.cmd_status.specs.Sources.{source_limit};
+ghost use Rattle.cmd_status.specs.Opening.{Opens, OpensAtMost};
 
 use crate::bad_file::fault_status;
-use crate::source::read_source;
-use crate::status::{FileSide, Status};
+use cmd_status::{FileSide, Status, read_source};
 use hs_folders::Source;
 use pdb_files::read_database;
 use pdb_values::Database;

@@ -2,19 +2,18 @@
 ghost use Rattle.std.specs.Prelude.{◌≡◌, ◌≤◌, IfErr, IfOk, IfSome, IsErrOf, Ok as OkValue, OnOk, length, string_bytes};
 ghost use Rattle.hs_folders.specs.Causes.{Rose};
 ghost use Rattle.hotsync_looks.specs.LookTexts as texts;
-ghost use Rattle.hotsync_looks.specs.LookTexts.{IsDatabaseText, IsTextOf, LooksAtEntries, Refuses, RefusesDatabase, look_text as text_of_look, source_limit};
+ghost use Rattle.hotsync_looks.specs.LookTexts.{IsDatabaseText, IsTextOf, LooksAtEntries, Refuses, RefusesDatabase, look_text as text_of_look};
+ghost use Rattle.cmd_status.specs.Sources.{source_limit};
 ghost use Rattle.hotsync_looks.specs.ExportTexts.{form_export};
 ghost use Rattle.hotsync_looks.specs.Looks.{IsLook, IsLookRefusal, IsTextIn, SourceShows};
-ghost use Rattle.hotsync_looks.specs.Opening.{Opens, OpensAtMost};
-ghost use Rattle.hotsync_looks.specs.Told.{sink_told, source_told};
+ghost use Rattle.cmd_status.specs.Opening.{Opens, OpensAtMost};
+ghost use Rattle.cmd_status.specs.Told.{sink_told, source_told};
 
 use crate::bad_file::fault_status;
 use crate::exported::exported_text;
 use crate::imported::imported_file;
-use crate::printing::{print_refusal, print_text};
-use crate::source::read_source;
-use crate::status::{FileSide, Status};
 use crate::traced::{picture_text, verdict_text};
+use cmd_status::{FileSide, Status, print_refusal, print_text, read_source};
 use file_text::{counted_text, full_text, show_text};
 use hs_folders::{Sink, Source};
 use palm_records::ExportFault;

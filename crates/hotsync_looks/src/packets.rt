@@ -1,13 +1,12 @@
 // The packets in captured bytes.
 ghost use Rattle.hotsync_looks.specs.Scans.{IsScanned};
-ghost use Rattle.hotsync_looks.specs.Told.{sink_told};
+ghost use Rattle.cmd_status.specs.Told.{sink_told};
 ghost use Rattle.run_words.specs.Words.{bytes_of};
 ghost use Rattle.std.specs.Prelude.{◌≡◌, ◌≤◌, IfOk, string_bytes};
 ghost use Rattle.slp_frames.specs.PacketScan.{scan};
 ghost use Rattle.trace_text.specs.PacketLists.{ShowsPackets};
 
-use crate::printing::{print_no_memory, print_text};
-use crate::status::Status;
+use cmd_status::{Status, print_no_memory, print_text};
 use hs_folders::Sink;
 use std::alloc::{AllocError, Global};
 use trace_text::show_packets;

@@ -1,17 +1,16 @@
 // What a handheld served.
 ghost use Rattle.std.specs.Prelude.{◌≡◌, ◌⊎◌, IfOk, string_bytes};
-ghost use Rattle.hotsync_looks.specs.Printed.{IsPrinted};
+ghost use Rattle.cmd_status.specs.Printed.{IsPrinted};
 ghost use Rattle.hotsync_looks.specs.Served.{served_lines as lines_of_served};
-ghost use Rattle.hotsync_looks.specs.Told.{sink_told};
+ghost use Rattle.cmd_status.specs.Told.{sink_told};
 
-use crate::printing::{print_no_memory, print_text};
-use crate::status::Status;
+use cmd_status::{Status, print_no_memory, print_text};
 use hs_folders::Sink;
 use std::alloc::{AllocError, Global};
 use std::fmt::Write;
 
 /// Prints how many requests were served by a talk that ended. A failing sink makes the status `OutWrite`.
-#[tactic(auto, using(crate::proofs::PrintedLaws::memory_printed))]
+#[tactic(auto, using(cmd_status::proofs::PrintedLaws::memory_printed))]
 pub fn print_served<O: Sink>(alloc: Global, count: usize, out: &mut O) -> Status
     ensures status { (result ≡ Status.Done) ⊎ (result ≡ Status.OutWrite) ⊎
         (result ≡ Status.NoMemory) }
@@ -25,7 +24,7 @@ pub fn print_served<O: Sink>(alloc: Global, count: usize, out: &mut O) -> Status
 }
 
 // The lines of so many requests.
-#[tactic(auto, unfolding(crate::specs::Served::served_lines, crate::specs::Lines::number_line))]
+#[tactic(auto, unfolding(crate::specs::Served::served_lines, cmd_status::specs::Lines::number_line))]
 fn served_lines(alloc: Global, count: usize) -> Result<String, AllocError>
     ensures { IfOk result (λ lines. string_bytes lines ≡ lines_of_served count) }
 {

@@ -2,9 +2,10 @@
 ghost use Rattle.std.specs.Prelude.{◌≡◌, ◌≤◌, IfErr, IfOk, length, map, string_bytes, Ok as OkValue};
 ghost use Rattle.trace_check.specs.Readings.{IsTraceReading};
 ghost use Rattle.trace_text.specs.TraceLines.{frame_value};
-ghost use Rattle.hotsync_looks.specs.LookTexts.{IsPageText, IsProperText, RefusesReading, RefusesTrace, proper_line as line_of_proper, source_limit};
+ghost use Rattle.hotsync_looks.specs.LookTexts.{IsPageText, IsProperText, RefusesReading, RefusesTrace, proper_line as line_of_proper};
+ghost use Rattle.cmd_status.specs.Sources.{source_limit};
 
-use crate::status::Status;
+use cmd_status::Status;
 use std::alloc::{AllocError, Global};
 use std::fmt::Write;
 use trace_check::{TraceFault, Verdict, read_trace, verdict};

@@ -9,12 +9,12 @@ use Rattle.desk_journal.specs.Overlays.{FinishesAs, finished}
 use Rattle.desk_store.specs.Desks.{IsDesk}
 use Rattle.hotsync_run.specs.Again.{AllMeet, AllRan, AreTold, DidRun, EndsAsOne, IsRepeat, TakesUp, begun_of, if_begun, last_call}
 use Rattle.call_parts.specs.Causes.{ByEnd}
-use Rattle.hotsync_run.specs.Ends.{StoppedBefore, StoppedBehind}
+use Rattle.cmd_session.specs.Ends.{StoppedBefore, StoppedBehind}
 use Rattle.hotsync_run.specs.Headline.{IsAnsweredRun, RunCall}
 use Rattle.call_parts.specs.LineRuns.{log_in}
-use Rattle.hotsync_run.specs.Meetings.{Meets}
-use Rattle.hotsync_run.specs.Runs.{SessionRan, run_command}
-use Rattle.hotsync_run.specs.SessionCalls.{SentNothing}
+use Rattle.cmd_session.specs.Meetings.{Meets}
+use Rattle.cmd_session.specs.Runs.{SessionRan, run_command}
+use Rattle.call_parts.specs.SessionCalls.{SentNothing}
 use Rattle.call_parts.specs.Told.{CallTold}
 use Rattle.call_parts.specs.declared.report.SessionEnd.{SessionEnd}
 use Rattle.call_parts.specs.declared.report.SessionEnd.TheVariants.{Ended, NotStarted, Stopped}

@@ -33,7 +33,7 @@ use Rattle.front_laws.proofs.NewIdsLaws.{new-given}
 use Rattle.front_laws.proofs.SkippedLaws.{left-again}
 use Rattle.front_laws.proofs.StopLaws.{active-among, active-behind}
 use Rattle.hotsync_run.specs.Again.{AreTold, TakesUp}
-use Rattle.hotsync_run.specs.Ends.{EndedSession, SessionLeft, StoppedBefore, StoppedBehind}
+use Rattle.cmd_session.specs.Ends.{EndedSession, SessionLeft, StoppedBefore, StoppedBehind}
 use Rattle.call_parts.specs.LineRuns.{LineRan, log_in, write_count}
 use Rattle.call_parts.specs.Told.{CallTold}
 use Rattle.call_parts.specs.declared.report.Report.{Report}
@@ -42,7 +42,7 @@ use Rattle.call_parts.proofs.FrontLaws.{front_of}
 use Rattle.front_laws.proofs.RequestLaws.{no-limit, parts-are, writes-before}
 use Rattle.hotsync_run.proofs.OneLaws.{IsOne, same_handheld, same_slots, told_slots}
 use Rattle.hotsync_run.proofs.OverLaws.{MeetsTheSame, over-same}
-use Rattle.hotsync_run.proofs.QuietRuns.{IsKept, quiet-run}
+use Rattle.cmd_files.proofs.QuietRuns.{IsKept, quiet-run}
 use Rattle.hotsync_run.proofs.SkippedLaws.{no-changes}
 use Rattle.front_laws.proofs.SlotLaws.{merged-picked, merged-place, picked-near, same-place}
 

@@ -3,10 +3,10 @@ use Rattle.std.proofs.Common.{◌≡◌, subst}
 use Rattle.std.specs.Prelude.{Option, Some}
 use Rattle.run_words.specs.Betweens.{Between}
 use Rattle.run_words.specs.Commands.{Backup, WordTask}
-use Rattle.hotsync_run.specs.Backups.{BackupLeft, BackupRan, IsBackup, backup_command}
+use Rattle.cmd_files.specs.Backups.{BackupLeft, BackupRan, IsBackup, backup_command}
 use Rattle.hotsync_run.specs.Calls.{Call, IsAnsweredCall, IsCall}
 use Rattle.call_parts.specs.Causes.{ByEnd, HasBegun}
-use Rattle.hotsync_run.specs.SessionCalls.{SentNothing}
+use Rattle.call_parts.specs.SessionCalls.{SentNothing}
 use Rattle.call_parts.specs.Told.{sides_of}
 use Rattle.hotsync_run.proofs.HeadlineLaws.{begun_by}
 use Rattle.call_parts.specs.declared.report.SessionEnd.{SessionEnd}

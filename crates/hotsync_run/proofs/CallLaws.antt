@@ -5,27 +5,27 @@ use Rattle.std.specs.Prelude.{None, Option, Some, length}
 use Rattle.run_words.specs.Commands.{Backup, DryRun, Emulate, Categories, Help, Install, LookAt, Make, Restore, Scan, Sync, WordTask}
 use Rattle.hotsync_run.specs.Calls.{IsCall}
 use Rattle.call_parts.specs.Causes.{ByEnd, HasBegun}
-use Rattle.hotsync_looks.proofs.PrintedLaws.{printed_weaken}
+use Rattle.cmd_status.proofs.PrintedLaws.{printed_weaken}
 use Rattle.hotsync_looks.specs.HelpTexts.{help_text}
-use Rattle.hotsync_looks.specs.Lines.{done_lines}
-use Rattle.hotsync_looks.specs.Printed.{IsPrinted}
-use Rattle.hotsync_looks.specs.Told.{SinkTold}
+use Rattle.call_parts.specs.DoneLines.{done_lines}
+use Rattle.cmd_status.specs.Printed.{IsPrinted}
+use Rattle.cmd_status.specs.Told.{SinkTold}
 use Rattle.call_parts.specs.Told.{CallTold}
 use Rattle.call_parts.specs.Reports.{IsNotStarted}
-use Rattle.hotsync_run.specs.Backups.{backup_command}
+use Rattle.cmd_files.specs.Backups.{backup_command}
 use Rattle.hotsync_looks.specs.Served.{served_lines}
-use Rattle.hotsync_run.specs.Filings.{categories_command}
-use Rattle.hotsync_run.specs.Installs.{install_command}
-use Rattle.hotsync_run.specs.Restores.{restore_command}
-use Rattle.hotsync_run.specs.Runs.{run_command}
-use Rattle.hotsync_run.specs.SessionCalls.{IsSessionCall, SentNothing, SessionCommand}
-use Rattle.hotsync_run.proofs.DryLaws.{dry_untouched}
-use Rattle.hotsync_run.proofs.EmulationLaws.{unread_emulation}
-use Rattle.hotsync_run.proofs.RefusedRuns.{stands_same, stays_same}
+use Rattle.cmd_session.specs.Filings.{categories_command}
+use Rattle.cmd_files.specs.Installs.{install_command}
+use Rattle.cmd_files.specs.Restores.{restore_command}
+use Rattle.cmd_session.specs.Runs.{run_command}
+use Rattle.call_parts.specs.SessionCalls.{IsSessionCall, SentNothing, SessionCommand}
+use Rattle.cmd_session.proofs.DryLaws.{dry_untouched}
+use Rattle.cmd_files.proofs.EmulationLaws.{unread_emulation}
+use Rattle.call_parts.proofs.RefusalLaws.{stands_same, stays_same}
 use Rattle.call_parts.specs.declared.report.Report.{Report}
 use Rattle.call_parts.specs.declared.report.SessionEnd.{SessionEnd}
-use Rattle.hotsync_looks.specs.declared.status.Status.{Status}
-use Rattle.hotsync_looks.specs.declared.status.Status.TheVariants.{NoMemory}
+use Rattle.cmd_status.specs.declared.status.Status.{Status}
+use Rattle.cmd_status.specs.declared.status.Status.TheVariants.{NoMemory}
 
 -- want of memory that can't be said is want of memory
 pub only_memory : {status : Status} → (status ≡ NoMemory) ⊎ (status ≡ NoMemory) → status ≡ NoMemory

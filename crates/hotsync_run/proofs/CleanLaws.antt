@@ -1,5 +1,5 @@
 -- A run by a script of no lines: each frame goes through, so nothing is said twice and the line stops nothing.
-use Rattle.std.proofs.Common.{◌≡◌, ◌+◌, ℕ, zero, suc, Bool, true, false, List, [], ◌∷◌, length, inl, refl, subst, ap, arith}
+use Rattle.std.proofs.Common.{◌≡◌, ◌+◌, ℕ, Bool, true, false, List, [], ◌∷◌, length, inl, refl, subst, ap, arith}
 use Rattle.std.specs.Prelude.{Option, None, Some, if◌then◌else◌}
 use Rattle.std.specs.List.{AllByRecursion}
 use Rattle.trace_text.specs.declared.frame.End.{End}
@@ -8,7 +8,6 @@ use Rattle.trace_text.specs.Faults.{RepeatsHaveFaults, faulted, is_faulty, newes
 use Rattle.trace_text.specs.Frames.{add_frame, course_of, fragment_in, is_abort, past_behind, past_of, sent_in}
 use Rattle.trace_text.specs.Past.{PastFrame, is_repeat}
 use Rattle.trace_text.specs.Proper.{AreNumbered}
-use Rattle.trace_text.specs.Tallies.{IsFairUpTo, faults_from}
 use Rattle.trace_text.specs.TraceLines.{FrameValue}
 use Rattle.line_script.specs.Lines.{lines_of}
 use Rattle.line_script.specs.Rules.{RuleValue}
@@ -21,18 +20,18 @@ use Rattle.run_words.specs.Runs.{Run}
 use Rattle.call_parts.specs.Causes.{IsLineDown, cause_in}
 use Rattle.hotsync_run.specs.Clean.{AreSaidOnce, GoesThrough, HasNoLines, IsLineStop}
 use Rattle.call_parts.specs.LineRuns.{frames_in}
-use Rattle.hotsync_run.specs.Runs.{HasRun, SessionRan, run_command}
-use Rattle.hotsync_run.specs.SessionCalls.{SentNothing}
+use Rattle.cmd_session.specs.Runs.{HasRun, SessionRan, run_command}
+use Rattle.call_parts.specs.SessionCalls.{SentNothing}
 use Rattle.call_parts.specs.Scripts.{IsScripted}
 use Rattle.call_parts.specs.Sessions.{Spoke}
 use Rattle.call_parts.specs.Told.{CallTold, FolderTold}
 use Rattle.call_parts.specs.declared.report.Report.{Report}
-use Rattle.hotsync_looks.specs.declared.status.Status.{Status}
-use Rattle.hotsync_looks.specs.declared.status.Status.TheVariants.{LineDown, Unplugged, Aborted, Undetected}
-use Rattle.hotsync_run.proofs.MakeLines.{no_stop}
-use Rattle.hotsync_run.proofs.RunLaws.{refused_not_stopped}
+use Rattle.cmd_status.specs.declared.status.Status.{Status}
+use Rattle.cmd_status.specs.declared.status.Status.TheVariants.{LineDown, Unplugged, Aborted, Undetected}
+use Rattle.cmd_session.proofs.MakeLines.{no_stop}
+use Rattle.hotsync_run.proofs.UnstoppedRuns.{refused_not_stopped}
 use Rattle.call_parts.proofs.RetoldLaws.{by_end_both}
-use Rattle.hotsync_run.proofs.UndisturbedLaws.{last_fate}
+use Rattle.call_parts.proofs.UndisturbedLaws.{last_fate, always_fair}
 
 -- ---- nothing is said twice
 
@@ -66,13 +65,6 @@ said_once (frame ∷ past) well repeats = (λ X. by X (is_repeat X frame past) r
     by X false is = refl
 
 -- ---- the line stops nothing
-
-no_faults : (number count : ℕ) → faults_from (fate_by []) number count ≡ 0
-no_faults number zero = refl
-no_faults number (suc count) = let rest = no_faults (number + 1) count in omega (arith, rest)
-
-pub always_fair : (last : ℕ) → IsFairUpTo last (fate_by [])
-always_fair last number count some short near = let none = no_faults number count in omega (arith, none)
 
 none_ends : {why : Stop} {frames : List FrameValue} → AreNumbered 1 (fate_by []) frames → EndsBy why frames → ⊥
 none_ends {why} are ends =

@@ -4,10 +4,10 @@ use Rattle.std.specs.Prelude.{Option, Some}
 use Rattle.run_words.specs.Captures.{Capture}
 use Rattle.run_words.specs.Commands.{Emulate, WordTask}
 use Rattle.hotsync_run.specs.Calls.{Call, IsAnsweredCall, IsCall}
-use Rattle.hotsync_run.specs.Emulations.{IsEmulation, MayEmulate, SaysAll}
-use Rattle.hotsync_run.proofs.EmulationLaws.{says_all}
-use Rattle.hotsync_looks.specs.declared.status.Status.{Status}
-use Rattle.hotsync_looks.specs.declared.status.Status.TheVariants.{Done}
+use Rattle.cmd_files.specs.Emulations.{IsEmulation, MayEmulate, SaysAll}
+use Rattle.cmd_files.proofs.EmulationLaws.{says_all}
+use Rattle.cmd_status.specs.declared.status.Status.{Status}
+use Rattle.cmd_status.specs.declared.status.Status.TheVariants.{Done}
 
 pub handheld_says_all : (call : Call) (capture : Capture) → IsAnsweredCall call → call.task ≡ Some (Emulate capture) → call.status ≡ Done
     → SaysAll call.before call.after call.report

@@ -23,17 +23,17 @@ use Rattle.category_mirror.specs.Sides.{Filing, block_writes, device_among, file
 use Rattle.category_mirror.proofs.DoneLaws.{filed_closed}
 use Rattle.category_mirror.proofs.RepeatLaws.{second_changes, second_device, second_slots, stopped_device, stopped_slots}
 use Rattle.run_words.specs.Betweens.{Between}
-use Rattle.hotsync_looks.specs.declared.status.Status.{Status}
+use Rattle.cmd_status.specs.declared.status.Status.{Status}
 use Rattle.hotsync_run.specs.Calls.{Call}
 use Rattle.call_parts.specs.Causes.{HasBegun}
 use Rattle.hotsync_run.specs.FilingCalls.{IsSecondCall, StandsTogether}
-use Rattle.hotsync_run.specs.Filings.{CategoriesRan, EndedFiling, StoppedFiling}
+use Rattle.cmd_session.specs.Filings.{CategoriesRan, EndedFiling, StoppedFiling}
 use Rattle.call_parts.specs.LineRuns.{log_in}
 use Rattle.call_parts.specs.Told.{CallTold}
 use Rattle.call_parts.specs.declared.report.Report.{Report}
 use Rattle.call_parts.specs.declared.report.SessionEnd.{SessionEnd}
 use Rattle.hotsync_run.proofs.FilingPromises.{filing_ran}
-use Rattle.hotsync_run.proofs.FilingSaid.{one-more, two-first}
+use Rattle.cmd_session.proofs.FilingSaid.{one-more, two-first}
 use Rattle.hotsync_run.proofs.FilingUnseated.{unseated_changes}
 use Rattle.hotsync_run.proofs.FilingWritten.{written_all}
 use Rattle.front_laws.proofs.RequestLaws.{prefix-length}

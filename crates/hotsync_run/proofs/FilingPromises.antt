@@ -6,8 +6,8 @@ use Rattle.run_words.specs.Commands.{Categories, WordTask}
 use Rattle.category_mirror.specs.Sides.{filing_of}
 use Rattle.hotsync_run.specs.Calls.{Call, IsAnsweredCall, IsCall}
 use Rattle.call_parts.specs.Causes.{ByEnd, HasBegun}
-use Rattle.hotsync_run.specs.Filings.{CategoriesRan, EndedFiling, IsCategories, StoppedFiling, categories_command}
-use Rattle.hotsync_run.specs.SessionCalls.{SentNothing}
+use Rattle.cmd_session.specs.Filings.{CategoriesRan, EndedFiling, IsCategories, StoppedFiling, categories_command}
+use Rattle.call_parts.specs.SessionCalls.{SentNothing}
 use Rattle.hotsync_run.proofs.HeadlineLaws.{begun_by}
 use Rattle.call_parts.specs.declared.report.SessionEnd.{SessionEnd}
 use Rattle.call_parts.specs.declared.report.SessionEnd.TheVariants.{Ended, NotStarted, Stopped}

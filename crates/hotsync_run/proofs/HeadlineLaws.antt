@@ -4,9 +4,9 @@ use Rattle.line_script.specs.Rules.{RuleValue}
 use Rattle.session_plan.specs.Tasks.{Meeting}
 use Rattle.call_parts.specs.Causes.{ByEnd, HasBegun}
 use Rattle.hotsync_run.specs.Headline.{ActsOnce, FairStaysUp, Headline, IsAnsweredRun, IsWhatItSays, LeavesTheMerge, RunCall, TellsCause}
-use Rattle.hotsync_run.specs.Meetings.{Meets}
-use Rattle.hotsync_run.specs.Runs.{SessionRan, run_command}
-use Rattle.hotsync_run.specs.SessionCalls.{SentNothing}
+use Rattle.cmd_session.specs.Meetings.{Meets}
+use Rattle.cmd_session.specs.Runs.{SessionRan, run_command}
+use Rattle.call_parts.specs.SessionCalls.{SentNothing}
 use Rattle.call_parts.specs.Scripts.{IsScripted}
 use Rattle.call_parts.specs.declared.report.SessionEnd.{SessionEnd}
 use Rattle.call_parts.specs.declared.report.SessionEnd.TheVariants.{NotStarted, Ended, Stopped}

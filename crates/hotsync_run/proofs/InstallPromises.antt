@@ -4,12 +4,12 @@ use Rattle.std.specs.Prelude.{Option, Some}
 use Rattle.hs_folders.specs.Moments.{EachMomentSince}
 use Rattle.run_words.specs.Betweens.{Between}
 use Rattle.run_words.specs.Commands.{Install, WordTask}
-use Rattle.hotsync_run.specs.Besides.{StandsBeside}
+use Rattle.cmd_files.specs.Besides.{StandsBeside}
 use Rattle.hotsync_run.specs.Calls.{Call, IsAnsweredCall, IsCall}
 use Rattle.call_parts.specs.Causes.{ByEnd, HasBegun}
 use Rattle.hotsync_run.specs.Clean.{GoesThrough}
-use Rattle.hotsync_run.specs.Installs.{EndedInstall, InstallRan, IsInstall, install_command}
-use Rattle.hotsync_run.specs.SessionCalls.{SentNothing}
+use Rattle.cmd_files.specs.Installs.{EndedInstall, InstallRan, IsInstall, install_command}
+use Rattle.call_parts.specs.SessionCalls.{SentNothing}
 use Rattle.hotsync_run.proofs.CleanLaws.{spoke_through}
 use Rattle.hotsync_run.proofs.HeadlineLaws.{begun_by}
 use Rattle.call_parts.specs.declared.report.SessionEnd.{SessionEnd}

@@ -30,13 +30,14 @@ use Rattle.session_plan.specs.Tasks.{Meeting}
 use Rattle.front_laws.proofs.RowCountLaws.{merged-few}
 use Rattle.hotsync_run.specs.Again.{IsRepeat}
 use Rattle.call_parts.specs.Causes.{ByEnd}
-use Rattle.hotsync_run.specs.Ends.{StoppedBefore, StoppedBehind}
+use Rattle.cmd_session.specs.Ends.{StoppedBefore, StoppedBehind}
 use Rattle.hotsync_run.specs.Headline.{IsAnsweredRun, RunCall}
 use Rattle.call_parts.specs.LineRuns.{exchanges_in}
-use Rattle.hotsync_run.specs.Meetings.{Meets}
-use Rattle.hotsync_run.specs.Runs.{SessionRan, run_command}
-use Rattle.hotsync_run.specs.SessionCalls.{SentNothing}
-use Rattle.hotsync_run.specs.Undisturbed.{AreGood, EndsWell, IsCalm, IsGoodDesktop, IsGoodHandheld}
+use Rattle.cmd_session.specs.Meetings.{Meets}
+use Rattle.cmd_session.specs.Runs.{SessionRan, run_command}
+use Rattle.call_parts.specs.SessionCalls.{SentNothing}
+use Rattle.call_parts.specs.Undisturbed.{AreGood, EndsWell, IsGoodDesktop, IsGoodHandheld}
+use Rattle.cmd_session.specs.Undisturbed.{IsCalm}
 use Rattle.call_parts.specs.declared.report.SessionEnd.{SessionEnd}
 use Rattle.call_parts.specs.declared.report.SessionEnd.TheVariants.{Ended, NotStarted, Stopped}
 use Rattle.hotsync_run.proofs.AgainCalls.{ran-of, session_in}

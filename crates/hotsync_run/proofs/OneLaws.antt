@@ -18,7 +18,7 @@ use Rattle.desk_store.proofs.SlotListLaws.{marks-length, ordered_at, slot_at-any
 use Rattle.run_words.specs.Runs.{Run}
 use Rattle.session_plan.specs.Tasks.{Meeting}
 use Rattle.hotsync_run.specs.Again.{AreOfOneKind, AreTold}
-use Rattle.hotsync_run.specs.Meetings.{Meets}
+use Rattle.cmd_session.specs.Meetings.{Meets}
 use Rattle.call_parts.specs.Told.{CallTold}
 use Rattle.call_parts.proofs.EndLaws.{same_some}
 

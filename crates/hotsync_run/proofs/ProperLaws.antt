@@ -12,12 +12,12 @@ use Rattle.palm_device.specs.Devices.{Device}
 use Rattle.line_script.specs.Rules.{RuleValue}
 use Rattle.made_folders.specs.Items.{made}
 use Rattle.made_folders.specs.declared.item.Item.{Item}
-use Rattle.hotsync_looks.specs.Told.{SinkTold}
-use Rattle.hotsync_looks.specs.declared.status.Status.{Status}
+use Rattle.cmd_status.specs.Told.{SinkTold}
+use Rattle.cmd_status.specs.declared.status.Status.{Status}
 use Rattle.call_parts.specs.Causes.{ByEnd, HasBegun}
 use Rattle.hotsync_run.specs.Headline.{IsAnsweredRun, RunCall}
 use Rattle.call_parts.specs.LineRuns.{LineRan, frames_in, log_in}
-use Rattle.hotsync_run.specs.Makes.{IsMake, MadeNothing, MadeRan}
+use Rattle.cmd_session.specs.Makes.{IsMake, MadeNothing, MadeRan}
 use Rattle.call_parts.specs.Told.{FolderTold}
 use Rattle.call_parts.specs.declared.report.Report.{Report}
 use Rattle.call_parts.specs.declared.report.SessionEnd.{SessionEnd}

@@ -4,11 +4,11 @@ use Rattle.std.specs.Prelude.{Option, Some}
 use Rattle.hs_folders.specs.Moments.{EachMomentSince}
 use Rattle.run_words.specs.Betweens.{Between}
 use Rattle.run_words.specs.Commands.{Restore, WordTask}
-use Rattle.hotsync_run.specs.Besides.{StandsBeside}
+use Rattle.cmd_files.specs.Besides.{StandsBeside}
 use Rattle.hotsync_run.specs.Calls.{Call, IsAnsweredCall, IsCall}
 use Rattle.call_parts.specs.Causes.{ByEnd, HasBegun}
-use Rattle.hotsync_run.specs.Restores.{EndedRestore, IsRestore, RestoreRan, restore_command}
-use Rattle.hotsync_run.specs.SessionCalls.{SentNothing}
+use Rattle.cmd_files.specs.Restores.{EndedRestore, IsRestore, RestoreRan, restore_command}
+use Rattle.call_parts.specs.SessionCalls.{SentNothing}
 use Rattle.call_parts.specs.Stays.{StaysAsItWas}
 use Rattle.hotsync_run.proofs.HeadlineLaws.{begun_by}
 use Rattle.call_parts.specs.declared.report.SessionEnd.{SessionEnd}

@@ -19,7 +19,7 @@ use Rattle.session_plan.specs.Tasks.{Meeting}
 use Rattle.sync_session.proofs.QuietLaws.{quiet-before_writes}
 use Rattle.front_laws.specs.Sound.{IsSoundMeeting}
 use Rattle.front_laws.proofs.FrontLaws.{front-among, front-behind}
-use Rattle.hotsync_run.specs.Ends.{SessionLeft}
+use Rattle.cmd_session.specs.Ends.{SessionLeft}
 use Rattle.hotsync_run.specs.Kept.{KeepsBytes}
 use Rattle.call_parts.specs.LineRuns.{LineRan, exchanges_in, log_in}
 use Rattle.call_parts.specs.Told.{FolderTold}
@@ -29,8 +29,8 @@ use Rattle.call_parts.proofs.FrontLaws.{exchanged-requests}
 use Rattle.call_parts.proofs.FrontMoments.{front-some, replies_of, requests_of}
 use Rattle.hotsync_run.proofs.KeptLaws.{HasSkipped, KeepsSkipped, kept-ran}
 use Rattle.call_parts.proofs.LineLaws.{exchanged-parts}
-use Rattle.hotsync_run.proofs.QuietRuns.{quiet-run}
-use Rattle.hotsync_run.proofs.BackupActLaws.{none-of}
+use Rattle.cmd_files.proofs.QuietRuns.{quiet-run}
+use Rattle.cmd_files.proofs.BackupActLaws.{none-of}
 
 -- ---- where no limit is passed
 

@@ -6,10 +6,10 @@ use Rattle.std.specs.declared.alloc.Global.{Global}
 use Rattle.run_words.specs.Commands.{deed_of, task_of}
 use Rattle.run_words.specs.Helps.{help_of}
 use Rattle.hotsync_run.specs.Calls.{task_in}
-use Rattle.hotsync_looks.specs.Codes.{code_of}
+use Rattle.cmd_status.specs.Codes.{code_of}
 use Rattle.hotsync_run.specs.Systems.{EndsProgram, IsSystemCall}
 use Rattle.call_parts.specs.declared.report.Report.{Report}
-use Rattle.hotsync_looks.specs.declared.status.Status.{Status}
+use Rattle.cmd_status.specs.declared.status.Status.{Status}
 
 -- a call for the words that were handed over, or for none
 pub ends-program : {E : Type 0} (now : Option ℕ) (args : Result (Vec (String Global)) E) {status : Status} {report : Report} {code : ℕ}

@@ -12,7 +12,7 @@ use Rattle.front_laws.specs.Repeats.{GotAllIds}
 use Rattle.front_laws.specs.Again.{AllSkip, EndsAtMerge, HoldsTheSame, IsFreshBehind, Later, last_run}
 use Rattle.hotsync_run.specs.Headline.{IsAnsweredRun, RunCall}
 use Rattle.call_parts.specs.LineRuns.{log_in}
-use Rattle.hotsync_run.specs.Meetings.{Meets}
+use Rattle.cmd_session.specs.Meetings.{Meets}
 use Rattle.call_parts.specs.Told.{CallTold}
 use Rattle.call_parts.specs.declared.report.SessionEnd.{SessionEnd}
 use Rattle.call_parts.specs.declared.report.SessionEnd.TheVariants.{Ended, NotStarted}

@@ -1,31 +1,27 @@
 -- What holds of every call, by what its words ask for.
 use Rattle.std.specs.Prelude.{◌≡◌, ◌⊎◌, ⊤, ℕ, List, Option, None, Some, String, map, string_bytes}
 use Rattle.std.specs.declared.alloc.Global.{Global}
-use Rattle.hs_folders.specs.declared.folder.Folder.{Ghosts as FolderMembers}
-use Rattle.hs_folders.specs.declared.sink.Sink.{Ghosts as SinkMembers}
-use Rattle.hs_folders.specs.declared.source.Source.{Ghosts as SourceMembers}
 use Rattle.run_words.specs.Commands.{WordTask, Sync, DryRun, LookAt, Scan, Make, Install, Backup, Restore, Emulate, Categories, Help, task_of}
 use Rattle.run_words.specs.Faults.{Fault, fault_of}
 use Rattle.hotsync_looks.specs.Helped.{IsHelped}
 use Rattle.hotsync_looks.specs.Looks.{IsLook}
 use Rattle.hotsync_looks.specs.Misuses.{IsMisuse}
-use Rattle.hotsync_run.specs.Backups.{IsBackup, backup_paths}
-use Rattle.hotsync_run.specs.DryRuns.{IsDryRun}
-use Rattle.hotsync_run.specs.Emulations.{IsEmulation, emulation_paths}
-use Rattle.hotsync_run.specs.Filings.{IsCategories, categories_paths}
-use Rattle.hotsync_run.specs.Installs.{IsInstall, install_paths}
-use Rattle.hotsync_run.specs.Makes.{IsMake}
-use Rattle.hotsync_looks.specs.Printed.{IsPrinted}
-use Rattle.hotsync_run.specs.Restores.{IsRestore, restore_paths}
-use Rattle.hotsync_run.specs.Runs.{IsRun, run_paths}
-use Rattle.hotsync_run.specs.SessionCalls.{Paths}
+use Rattle.cmd_files.specs.Backups.{IsBackup, backup_paths}
+use Rattle.cmd_session.specs.DryRuns.{IsDryRun}
+use Rattle.cmd_files.specs.Emulations.{IsEmulation, emulation_paths}
+use Rattle.cmd_session.specs.Filings.{IsCategories, categories_paths}
+use Rattle.cmd_files.specs.Installs.{IsInstall, install_paths}
+use Rattle.cmd_session.specs.Makes.{IsMake}
+use Rattle.cmd_status.specs.Printed.{IsPrinted}
+use Rattle.cmd_files.specs.Restores.{IsRestore, restore_paths}
+use Rattle.cmd_session.specs.Runs.{IsRun, run_paths}
+use Rattle.call_parts.specs.SessionCalls.{Paths}
 use Rattle.hotsync_looks.specs.Scans.{IsScanned}
-use Rattle.hotsync_looks.specs.Told.{SinkTold, sink_told}
-use Rattle.call_parts.specs.Told.{CallTold, SidesTold, call_told, sides_told}
-use Rattle.call_parts.specs.declared.answer.Answer.{Answer}
+use Rattle.cmd_status.specs.Told.{SinkTold}
+use Rattle.call_parts.specs.Told.{CallTold}
 use Rattle.call_parts.specs.declared.report.Report.{Report}
-use Rattle.hotsync_looks.specs.declared.status.Status.{Status}
-use Rattle.hotsync_looks.specs.declared.status.Status.TheVariants.{NoMemory}
+use Rattle.cmd_status.specs.declared.status.Status.{Status}
+use Rattle.cmd_status.specs.declared.status.Status.TheVariants.{NoMemory}
 
 -- what words ask for, where the seconds of the date now are these, if it can be told
 abbrev pub task_in : Option ℕ → List (String Global) → Option WordTask
@@ -84,32 +80,6 @@ pub record Call : Type 0 where
 abbrev pub IsAnsweredCall : Call → Type 0
 IsAnsweredCall call =
     IsCall call.task call.before call.after call.out call.out_after call.status call.report
-
--- What is known of a call holds of its objects before it and after it, as the members of their
--- traits tell them, and of what it answered. Standard output comes last among the objects.
-abbrev pub OfCall : (CallTold → CallTold → SinkTold → SinkTold → Status → Report → Type 0)
-    → {H D S T O : Type 0} → FolderMembers H → FolderMembers D → SourceMembers S → SinkMembers T
-    → SinkMembers O → H → D → S → T → O → Answer H D → S → T → O → Type 0
-OfCall Fact palms desks sources traces outs palm desk source trace out answer read written said =
-    Fact (call_told palms desks sources traces palm desk source trace)
-    (call_told palms desks sources traces answer.device answer.desk read written)
-    (sink_told outs out) (sink_told outs said) answer.status answer.report
-
--- likewise of a call beside standard output, which prints nothing yet
-abbrev pub OfRun : (CallTold → CallTold → Status → Report → Type 0)
-    → {H D S T : Type 0} → FolderMembers H → FolderMembers D → SourceMembers S → SinkMembers T
-    → H → D → S → T → Answer H D → S → T → Type 0
-OfRun Fact palms desks sources traces palm desk source trace answer read written =
-    Fact (call_told palms desks sources traces palm desk source trace)
-    (call_told palms desks sources traces answer.device answer.desk read written)
-    answer.status answer.report
-
--- likewise of a session between both folders
-abbrev pub OfSides : (SidesTold → SidesTold → Status → Report → Type 0)
-    → {H D : Type 0} → FolderMembers H → FolderMembers D → H → D → Answer H D → Type 0
-OfSides Fact palms desks palm desk answer =
-    Fact (sides_told palms desks palm desk) (sides_told palms desks answer.device answer.desk)
-    answer.status answer.report
 
 -- the words ask for a session: for a run, a dry one too, for one between made folders, for an
 -- install, a backup, a restore or categories; or for a handheld's end of one, over captured bytes

@@ -6,8 +6,8 @@ use Rattle.trace_text.specs.Past.{PastFrame, is_repeat}
 use Rattle.call_parts.specs.LineRuns.{frames_in}
 use Rattle.call_parts.specs.Scripts.{IsScript}
 use Rattle.call_parts.specs.declared.report.Report.{Report}
-use Rattle.hotsync_looks.specs.declared.status.Status.{Status}
-use Rattle.hotsync_looks.specs.declared.status.Status.TheVariants.{LineDown, Unplugged, Aborted, Undetected}
+use Rattle.cmd_status.specs.declared.status.Status.{Status}
+use Rattle.cmd_status.specs.declared.status.Status.TheVariants.{LineDown, Unplugged, Aborted, Undetected}
 
 -- the words name no script, or the source shows that its script has no line
 abbrev pub HasNoLines : Option (List ℕ) → Option (List ℕ) → Type 0

@@ -9,7 +9,7 @@ use Rattle.front_laws.specs.Meetings.{IsActive, holding}
 use Rattle.front_laws.specs.Equal.{HasEqualSides, IsShownWhole}
 use Rattle.hotsync_run.specs.Headline.{RunCall}
 use Rattle.call_parts.specs.LineRuns.{log_in}
-use Rattle.hotsync_run.specs.Meetings.{Meets}
+use Rattle.cmd_session.specs.Meetings.{Meets}
 
 -- Both folders stand for the merge under the ids that new records got. Of each database that wasn't
 -- skipped and was shown whole, the handheld and the slot of its user hold the same records, live

@@ -28,21 +28,21 @@ use Rattle.sync_session.specs.Outcomes.{StandsForSlots}
 use Rattle.sync_session.specs.Sessions.{before_writes, requests}
 use Rattle.session_plan.specs.Tasks.{Meeting}
 use Rattle.call_parts.specs.Causes.{EndsAs, IsLineDown, cause_in}
-use Rattle.hotsync_run.specs.Ends.{EndedSession, IsToldRefusal, StatusShows, StoppedBefore, StoppedBehind}
+use Rattle.cmd_session.specs.Ends.{EndedSession, IsToldRefusal, StatusShows, StoppedBefore, StoppedBehind}
 use Rattle.hotsync_run.specs.Kept.{KeepsBytes}
 use Rattle.call_parts.specs.LineRuns.{frames_in, log_in}
-use Rattle.hotsync_run.specs.Meetings.{Meets}
-use Rattle.hotsync_run.specs.Runs.{IsRun}
+use Rattle.cmd_session.specs.Meetings.{Meets}
+use Rattle.cmd_session.specs.Runs.{IsRun}
 use Rattle.call_parts.specs.Scripts.{IsScripted}
-use Rattle.hotsync_run.specs.SessionCalls.{BlamesByCount}
+use Rattle.call_parts.specs.SessionCalls.{BlamesByCount}
 use Rattle.call_parts.specs.Stops.{TellsStop}
-use Rattle.hotsync_run.specs.Talks.{DesktopRan}
-use Rattle.hotsync_looks.specs.Told.{SinkTold}
+use Rattle.cmd_session.specs.Talks.{DesktopRan}
+use Rattle.cmd_status.specs.Told.{SinkTold}
 use Rattle.call_parts.specs.Told.{CallTold}
 use Rattle.call_parts.specs.Traces.{TakesTrace}
 use Rattle.call_parts.specs.declared.report.Report.{Report}
 use Rattle.call_parts.specs.declared.report.SessionEnd.TheVariants.{Ended, Stopped}
-use Rattle.hotsync_looks.specs.declared.status.Status.{Status}
+use Rattle.cmd_status.specs.declared.status.Status.{Status}
 
 -- a call for the words of a run: its objects before and after it, and what it answered
 pub record RunCall : Type 0 where

@@ -12,18 +12,18 @@ use Rattle.category_mirror.specs.Sides.{Filing, block_writes, filing_of}
 use Rattle.run_words.specs.Betweens.{Between}
 use Rattle.run_words.specs.Commands.{WordTask}
 use Rattle.run_words.specs.Runs.{Run}
-use Rattle.hotsync_looks.specs.declared.status.Status.{Status}
-use Rattle.hotsync_run.specs.Backups.{BackupRan}
+use Rattle.cmd_status.specs.declared.status.Status.{Status}
+use Rattle.cmd_files.specs.Backups.{BackupRan}
 use Rattle.hotsync_run.specs.Calls.{Call, IsAnsweredCall}
-use Rattle.hotsync_run.specs.DryRuns.{HoldTheSame}
-use Rattle.hotsync_run.specs.Filings.{CategoriesRan}
+use Rattle.cmd_session.specs.DryRuns.{HoldTheSame}
+use Rattle.cmd_session.specs.Filings.{CategoriesRan}
 use Rattle.hotsync_run.specs.Headline.{RunCall}
-use Rattle.hotsync_run.specs.Installs.{InstallRan}
-use Rattle.hotsync_run.specs.Meetings.{Meets}
-use Rattle.hotsync_run.specs.Restores.{RestoreRan}
-use Rattle.hotsync_run.specs.Runs.{IsRun}
+use Rattle.cmd_files.specs.Installs.{InstallRan}
+use Rattle.cmd_session.specs.Meetings.{Meets}
+use Rattle.cmd_files.specs.Restores.{RestoreRan}
+use Rattle.cmd_session.specs.Runs.{IsRun}
 use Rattle.call_parts.specs.Told.{CallTold}
-use Rattle.hotsync_run.specs.Undisturbed.{IsCalm}
+use Rattle.cmd_session.specs.Undisturbed.{IsCalm}
 use Rattle.call_parts.specs.declared.report.Report.{Report}
 
 -- a fact holds of each answered call for words of this command

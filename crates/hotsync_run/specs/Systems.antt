@@ -2,11 +2,11 @@
 use Rattle.std.specs.Prelude.{◌≡◌, ℕ, List, Option, None}
 use Rattle.run_words.specs.Commands.{WordTask, task_of}
 use Rattle.hotsync_run.specs.Calls.{IsCall}
-use Rattle.hotsync_looks.specs.Codes.{code_of}
-use Rattle.hotsync_looks.specs.Told.{SinkTold}
+use Rattle.cmd_status.specs.Codes.{code_of}
+use Rattle.cmd_status.specs.Told.{SinkTold}
 use Rattle.call_parts.specs.Told.{CallTold}
 use Rattle.call_parts.specs.declared.report.Report.{Report}
-use Rattle.hotsync_looks.specs.declared.status.Status.{Status}
+use Rattle.cmd_status.specs.declared.status.Status.{Status}
 
 -- objects that tell nothing of what they hold, as those of the system
 pub record AreUntold (before : CallTold) (out : SinkTold) : Type 0 where

@@ -1,20 +1,16 @@
 // The top call.
 ghost use Rattle.std.specs.Prelude.{◌≡◌, None};
 ghost use Rattle.hotsync_looks.specs.Misuses.{TellsFault};
-ghost use Rattle.hotsync_run.specs.Calls.{HasSession, IsCall, OfCall, ReadsFirst, fault_in, paths_of, task_in};
+ghost use Rattle.hotsync_run.specs.Calls.{HasSession, IsCall, ReadsFirst, fault_in, paths_of, task_in};
+ghost use Rattle.call_parts.specs.OfCalls.{OfCall};
 ghost use Rattle.call_parts.specs.Refusals.{BlamesHandheld, BlamesSource};
 ghost use Rattle.call_parts.specs.Reports.{IsNotStarted};
 
-use crate::backup::backup_folder;
-use crate::categories::file_categories;
-use crate::dry_run::dry_run_folders;
-use crate::emulation::emulate;
-use crate::install::install_file;
-use crate::make::make;
-use crate::restore::restore_folder;
-use crate::run::run_folders;
 use call_parts::{Answer, SessionEnd};
-use hotsync_looks::{Status, look_at, print_help, print_misuse, print_packets, print_refusal};
+use cmd_files::{backup_folder, emulate, install_file, restore_folder};
+use cmd_session::{dry_run_folders, file_categories, run_folders, run_made_folders};
+use cmd_status::{Status, print_refusal};
+use hotsync_looks::{look_at, print_help, print_misuse, print_packets};
 use hs_folders::{Folder, Sink, Source};
 use run_clap::{Command, WordsFault, read_command};
 use run_words::fault_of;
@@ -71,7 +67,7 @@ pub fn hotsync<H: Folder, D: Folder, S: Source, T: Sink, O: Sink>(
             Answer::not_started(alloc, status, device, desk)
         }
         Ok(Command::Make(words)) => {
-            let (status, report) = make(alloc, words.seed, words.count, out);
+            let (status, report) = run_made_folders(alloc, words.seed, words.count, out);
             Answer {
                 status,
                 report,

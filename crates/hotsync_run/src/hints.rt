@@ -1,9 +1,9 @@
 // Hints for whoever called, on standard error. Nothing is promised of them: what can't be said is left out.
 use call_parts::{Answer, Report};
+use cmd_status::{Status, push_name};
 use dlp_args::MessageText;
 use dlp_replies::{Reply, read_reply};
 use folder_files::JOURNAL;
-use hotsync_looks::{Status, push_name};
 use hs_folders::Folder;
 use pdb_values::DbName;
 use run_clap::{Command, RunWords, read_command};

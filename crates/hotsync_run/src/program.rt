@@ -2,19 +2,20 @@
 ghost use Rattle.std.specs.Prelude.{◌≡◌, ◌↔◌, IfOk, IsErr, IsErrOf, None, drop};
 ghost use Rattle.std.specs.Process.{exit_status};
 ghost use Rattle.hotsync_looks.specs.Misuses.{TellsFault};
-ghost use Rattle.hotsync_run.specs.Calls.{HasSession, IsCall, OfCall, ReadsFirst, fault_in, paths_of, task_in};
-ghost use Rattle.hotsync_looks.specs.Codes.{code_of};
+ghost use Rattle.hotsync_run.specs.Calls.{HasSession, IsCall, ReadsFirst, fault_in, paths_of, task_in};
+ghost use Rattle.call_parts.specs.OfCalls.{OfCall};
+ghost use Rattle.cmd_status.specs.Codes.{code_of};
 ghost use Rattle.call_parts.specs.Refusals.{BlamesHandheld, BlamesSource};
 ghost use Rattle.call_parts.specs.Reports.{IsNotStarted};
 ghost use Rattle.hotsync_run.specs.Systems.{AreUntold, EndsProgram, IsSystemCall};
-ghost use Rattle.hotsync_looks.specs.Told.{sink_told};
+ghost use Rattle.cmd_status.specs.Told.{sink_told};
 ghost use Rattle.call_parts.specs.Told.{call_told};
 
 use crate::command::hotsync;
 use crate::counted_folder::CountedFolder;
 use crate::hints::{hint_folders, hint_words};
 use call_parts::{Answer, SessionEnd, seconds_now};
-use hotsync_looks::{Status, print_refusal};
+use cmd_status::{Status, print_refusal};
 use hs_folders::{DirFolder, FileSink, FileSource, Folder, Sink, Source, StdoutSink};
 use run_clap::WordsFault;
 use std::alloc::Global;

@@ -5,8 +5,8 @@ use Rattle.std.specs.Global.{Vec}
 use Rattle.std.specs.Prelude.{IsErrOf}
 use Rattle.call_parts.specs.Causes.{IsUnsaid}
 use Rattle.call_parts.specs.Closings.{left_databases, left_end}
-use Rattle.hotsync_looks.specs.declared.status.Status.{Status}
-use Rattle.hotsync_looks.specs.declared.status.Status.TheVariants.{PortFailed, DesktopFolder}
+use Rattle.cmd_status.specs.declared.status.Status.{Status}
+use Rattle.cmd_status.specs.declared.status.Status.TheVariants.{PortFailed, DesktopFolder}
 use Rattle.port_link.specs.declared.port_cause.PortCause.{PortCause}
 use Rattle.port_link.specs.declared.port_cause.PortCause.TheVariants as cause
 use Rattle.session_parts.specs.declared.report.DbReport.{DbReport}

@@ -20,9 +20,9 @@ use Rattle.port_link.specs.declared.port_end.PortEnd.TheVariants as ends
 use Rattle.port_link.proofs.RunLaws.{waking-run}
 use Rattle.run_words.specs.Docks.{Dock}
 use Rattle.trace_text.specs.declared.frame.End.TheVariants as end
-use Rattle.hotsync_looks.specs.Opening.{Opens, OpensAtMost, OpensGivenAtMost}
-use Rattle.hotsync_looks.specs.declared.status.Status.{Status}
-use Rattle.hotsync_looks.specs.declared.status.Status.TheVariants.{HandheldFolder, InUse, PortFailed, TraceWrite}
+use Rattle.cmd_status.specs.Opening.{Opens, OpensAtMost, OpensGivenAtMost}
+use Rattle.cmd_status.specs.declared.status.Status.{Status}
+use Rattle.cmd_status.specs.declared.status.Status.TheVariants.{HandheldFolder, InUse, PortFailed, TraceWrite}
 use Rattle.call_parts.specs.Causes.{IsTracedStatus, IsUnsaid}
 use Rattle.call_parts.specs.Stays.{WentWith}
 use Rattle.call_parts.specs.Refusals.{HasHandheld, TraceRefuses}

@@ -18,7 +18,7 @@ use Rattle.front_laws.proofs.FrontLaws.{front-behind}
 use Rattle.port_laws.specs.Palms.{Palm}
 use Rattle.port_link.specs.Calls.{LinkValue}
 use Rattle.run_words.specs.Cables.{Cable}
-use Rattle.hotsync_looks.specs.declared.status.Status.{Status}
+use Rattle.cmd_status.specs.declared.status.Status.{Status}
 use Rattle.call_parts.specs.LineRuns.{write_count}
 use Rattle.call_parts.specs.Told.{FolderTold}
 use Rattle.call_parts.specs.declared.report.SessionEnd.TheVariants.{Ended}

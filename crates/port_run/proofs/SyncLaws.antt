@@ -22,10 +22,10 @@ use Rattle.run_words.specs.Cables.{Cable}
 use Rattle.trace_text.specs.declared.frame.End.{End}
 use Rattle.port_link.specs.declared.port_cause.PortCause.{PortCause}
 use Rattle.session_parts.specs.declared.stop.Stop.{Stop}
-use Rattle.hotsync_looks.specs.Opening.{Opens, OpensGiven, OpensGivenAtMost}
-use Rattle.hotsync_looks.specs.Told.{SinkTold}
-use Rattle.hotsync_looks.specs.declared.status.Status.{Status}
-use Rattle.hotsync_looks.specs.declared.status.Status.TheVariants.{NoMemory, DesktopFolder, InUse}
+use Rattle.cmd_status.specs.Opening.{Opens, OpensGiven, OpensGivenAtMost}
+use Rattle.cmd_status.specs.Told.{SinkTold}
+use Rattle.cmd_status.specs.declared.status.Status.{Status}
+use Rattle.cmd_status.specs.declared.status.Status.TheVariants.{NoMemory, DesktopFolder, InUse}
 use Rattle.call_parts.specs.Causes.{IsTracedStatus}
 use Rattle.call_parts.specs.Refusals.{HasDesktop, LeavesDesktopUnread}
 use Rattle.call_parts.specs.Stays.{StandsAsItDid}

@@ -29,8 +29,8 @@ use Rattle.call_parts.specs.Closings.{left_databases, left_end}
 use Rattle.call_parts.specs.Told.{FolderTold, folder_told}
 use Rattle.call_parts.specs.declared.report.SessionEnd.{SessionEnd}
 use Rattle.call_parts.proofs.SpokeLaws.{by_left, ended_ok}
-use Rattle.hotsync_looks.specs.declared.status.Status.{Status}
-use Rattle.hotsync_looks.specs.declared.status.Status.TheVariants.{NoMemory}
+use Rattle.cmd_status.specs.declared.status.Status.{Status}
+use Rattle.cmd_status.specs.declared.status.Status.TheVariants.{NoMemory}
 use Rattle.port_run.specs.Ends.{LeftFor}
 use Rattle.port_run.specs.Links.{LinkRan, link_over, port_of}
 use Rattle.port_run.specs.Reports.{IsOver, IsSilent}

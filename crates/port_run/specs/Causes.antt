@@ -7,9 +7,9 @@ use Rattle.port_link.specs.declared.port_cause.PortCause.TheVariants as cause
 use Rattle.session_parts.specs.declared.stop.Stop.{Stop}
 use Rattle.session_parts.specs.declared.stop.Stop.TheVariants as stop
 use Rattle.trace_text.specs.declared.frame.End.TheVariants.{Desktop}
-use Rattle.hotsync_looks.specs.declared.status.Status.{Status}
-use Rattle.hotsync_looks.specs.declared.status.Status.TheVariants.{PortFailed, NoHandheld, LineDown, LineSilent, PeerAborted, LineEndless, NoMemory}
-use Rattle.hotsync_looks.specs.declared.status.Status.TheVariants.{OtherUser, TooManyUsers, Limit, NewHandheld, DesktopFolder, Refused, BadReply}
+use Rattle.cmd_status.specs.declared.status.Status.{Status}
+use Rattle.cmd_status.specs.declared.status.Status.TheVariants.{PortFailed, NoHandheld, LineDown, LineSilent, PeerAborted, LineEndless, NoMemory}
+use Rattle.cmd_status.specs.declared.status.Status.TheVariants.{OtherUser, TooManyUsers, Limit, NewHandheld, DesktopFolder, Refused, BadReply}
 
 -- of one whose link answers no more
 abbrev pub down_status : Option PortCause → Status

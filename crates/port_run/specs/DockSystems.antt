@@ -2,9 +2,9 @@
 use Rattle.std.specs.Prelude.{◌&&◌, ◌≡◌, ℕ, Bool, List, Option, None, is_none}
 use Rattle.run_words.specs.Docks.{Dock, begins_dock}
 use Rattle.run_words.specs.Helps.{help_of}
-use Rattle.hotsync_looks.specs.Codes.{code_of}
-use Rattle.hotsync_looks.specs.Told.{SinkTold}
-use Rattle.hotsync_looks.specs.declared.status.Status.{Status}
+use Rattle.cmd_status.specs.Codes.{code_of}
+use Rattle.cmd_status.specs.Told.{SinkTold}
+use Rattle.cmd_status.specs.declared.status.Status.{Status}
 use Rattle.port_run.specs.Docks.{IsDockCall}
 use Rattle.port_run.specs.Told.{DockTold}
 use Rattle.port_run.specs.declared.dock_report.DockReport.{DockReport}

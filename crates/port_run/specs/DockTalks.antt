@@ -4,8 +4,8 @@ use Rattle.hs_folders.specs.Causes.{Rose}
 use Rattle.palm_device.specs.Devices.{Device}
 use Rattle.port_link.specs.Logs.{log_entries}
 use Rattle.run_words.specs.Docks.{Dock}
-use Rattle.hotsync_looks.specs.declared.status.Status.{Status}
-use Rattle.hotsync_looks.specs.declared.status.Status.TheVariants.{HandheldFolder, PortFailed}
+use Rattle.cmd_status.specs.declared.status.Status.{Status}
+use Rattle.cmd_status.specs.declared.status.Status.TheVariants.{HandheldFolder, PortFailed}
 use Rattle.call_parts.specs.Traces.{TracesFrames}
 use Rattle.port_run.specs.Docks.{HadDock}
 use Rattle.port_run.specs.LogTexts.{dock_text}

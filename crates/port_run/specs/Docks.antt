@@ -14,12 +14,12 @@ use Rattle.port_link.specs.declared.port_end.PortEnd.TheVariants as ends
 use Rattle.port_link.specs.Logs.{log_entries}
 use Rattle.run_words.specs.Docks.{Dock}
 use Rattle.trace_text.specs.declared.frame.End.TheVariants as end
-use Rattle.hotsync_looks.specs.Opening.{OpensAtMost, OpensGivenAtMost}
-use Rattle.hotsync_looks.specs.Printed.{IsPrinted, IsPrintedStatus}
+use Rattle.cmd_status.specs.Opening.{OpensAtMost, OpensGivenAtMost}
+use Rattle.cmd_status.specs.Printed.{IsPrinted, IsPrintedStatus}
 use Rattle.hotsync_looks.specs.Served.{served_lines}
-use Rattle.hotsync_looks.specs.Told.{SinkTold}
-use Rattle.hotsync_looks.specs.declared.status.Status.{Status}
-use Rattle.hotsync_looks.specs.declared.status.Status.TheVariants.{Done, Usage, PortFailed, HandheldFolder, InUse, LineDown, LineSilent, LineEndless, StreamAborted, BadHello, TraceWrite, NoMemory}
+use Rattle.cmd_status.specs.Told.{SinkTold}
+use Rattle.cmd_status.specs.declared.status.Status.{Status}
+use Rattle.cmd_status.specs.declared.status.Status.TheVariants.{Done, Usage, PortFailed, HandheldFolder, InUse, LineDown, LineSilent, LineEndless, StreamAborted, BadHello, TraceWrite, NoMemory}
 use Rattle.call_parts.specs.Causes.{IsTracedStatus}
 use Rattle.call_parts.specs.Stays.{WentWith}
 use Rattle.call_parts.specs.Refusals.{HandheldRefuses, HasHandheld, TraceRefuses}

@@ -11,7 +11,7 @@ use Rattle.front_laws.specs.Meetings.{IsActive, holding}
 use Rattle.front_laws.specs.Equal.{HasEqualSides, IsShownWhole}
 use Rattle.port_laws.specs.Palms.{Palm}
 use Rattle.run_words.specs.Cables.{Cable}
-use Rattle.hotsync_looks.specs.declared.status.Status.{Status}
+use Rattle.cmd_status.specs.declared.status.Status.{Status}
 use Rattle.call_parts.specs.Told.{FolderTold}
 use Rattle.port_run.specs.Ends.{Meets}
 use Rattle.port_run.specs.Syncs.{SessionRan}

@@ -3,8 +3,8 @@ use Rattle.std.specs.Prelude.{◌≡◌, ◌⊎◌, Option}
 use Rattle.hs_folders.specs.FileMaps.{FileMap}
 use Rattle.run_words.specs.Cables.{Cable}
 use Rattle.call_parts.specs.Refusals.{DesktopRefuses, HasDesktop, TraceRefuses}
-use Rattle.hotsync_looks.specs.declared.status.Status.{Status}
-use Rattle.hotsync_looks.specs.declared.status.Status.TheVariants.{PortFailed, NoMemory}
+use Rattle.cmd_status.specs.declared.status.Status.{Status}
+use Rattle.cmd_status.specs.declared.status.Status.TheVariants.{PortFailed, NoMemory}
 
 -- one of those that opening a port gives cause for
 abbrev pub IsPortRefusal : Status → Type 0

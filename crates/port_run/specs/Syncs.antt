@@ -9,13 +9,13 @@ use Rattle.session_parts.specs.Rests.{IsAtRest}
 use Rattle.run_words.specs.Cables.{Cable}
 use Rattle.trace_text.specs.declared.frame.End.TheVariants as end
 use Rattle.port_link.specs.Logs.{log_entries}
-use Rattle.hotsync_looks.specs.Lines.{done_lines}
+use Rattle.call_parts.specs.DoneLines.{done_lines}
 use Rattle.hotsync_looks.specs.Misuses.{IsMisuse}
-use Rattle.hotsync_looks.specs.Opening.{Opens, OpensAtMost, OpensGiven, OpensGivenAtMost}
-use Rattle.hotsync_looks.specs.Printed.{IsPrinted, IsPrintedStatus}
-use Rattle.hotsync_looks.specs.Told.{SinkTold}
-use Rattle.hotsync_looks.specs.declared.status.Status.{Status}
-use Rattle.hotsync_looks.specs.declared.status.Status.TheVariants.{NoMemory, PortFailed, DesktopFolder, InUse, TraceWrite}
+use Rattle.cmd_status.specs.Opening.{Opens, OpensAtMost, OpensGiven, OpensGivenAtMost}
+use Rattle.cmd_status.specs.Printed.{IsPrinted, IsPrintedStatus}
+use Rattle.cmd_status.specs.Told.{SinkTold}
+use Rattle.cmd_status.specs.declared.status.Status.{Status}
+use Rattle.cmd_status.specs.declared.status.Status.TheVariants.{NoMemory, PortFailed, DesktopFolder, InUse, TraceWrite}
 use Rattle.call_parts.specs.Causes.{ByEnd, HasBegun, IsTracedStatus}
 use Rattle.call_parts.specs.Refusals.{HasDesktop, LeavesDesktopUnread}
 use Rattle.call_parts.specs.Stays.{StandsAsItDid}

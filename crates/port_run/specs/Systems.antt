@@ -1,9 +1,9 @@
 -- A call over a cable, over the port, folder, file and standard output of the system.
 use Rattle.std.specs.Prelude.{◌≡◌, ℕ, List, Option, None}
 use Rattle.run_words.specs.Cables.{Cable, sync_of}
-use Rattle.hotsync_looks.specs.Codes.{code_of}
-use Rattle.hotsync_looks.specs.Told.{SinkTold}
-use Rattle.hotsync_looks.specs.declared.status.Status.{Status}
+use Rattle.cmd_status.specs.Codes.{code_of}
+use Rattle.cmd_status.specs.Told.{SinkTold}
+use Rattle.cmd_status.specs.declared.status.Status.{Status}
 use Rattle.port_run.specs.Syncs.{IsSyncCall}
 use Rattle.port_run.specs.Told.{SyncTold}
 use Rattle.port_run.specs.declared.synced.CableReport.{CableReport}

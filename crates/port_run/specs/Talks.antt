@@ -13,8 +13,8 @@ use Rattle.run_words.specs.Cables.{Cable}
 use Rattle.session_parts.specs.Rests.{IsAtRest}
 use Rattle.sync_session.specs.Leaving.{IsSlotsFile}
 use Rattle.port_link.specs.Logs.{log_entries}
-use Rattle.hotsync_looks.specs.declared.status.Status.{Status}
-use Rattle.hotsync_looks.specs.declared.status.Status.TheVariants.{NoMemory, PortFailed, DesktopFolder}
+use Rattle.cmd_status.specs.declared.status.Status.{Status}
+use Rattle.cmd_status.specs.declared.status.Status.TheVariants.{NoMemory, PortFailed, DesktopFolder}
 use Rattle.call_parts.specs.Causes.{ByEnd}
 use Rattle.call_parts.specs.Told.{FolderTold}
 use Rattle.call_parts.specs.declared.report.SessionEnd.{SessionEnd}

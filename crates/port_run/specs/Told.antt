@@ -4,8 +4,8 @@ use Rattle.hs_folders.specs.declared.folder.Folder.{Ghosts as FolderMembers}
 use Rattle.hs_folders.specs.declared.sink.Sink.{Ghosts as SinkMembers}
 use Rattle.port_laws.specs.Palms.{Palm}
 use Rattle.port_line.specs.declared.port.Port.{Ghosts as PortMembers}
-use Rattle.hotsync_looks.specs.Told.{SinkTold, sink_told}
-use Rattle.hotsync_looks.specs.declared.status.Status.{Status}
+use Rattle.cmd_status.specs.Told.{SinkTold, sink_told}
+use Rattle.cmd_status.specs.declared.status.Status.{Status}
 use Rattle.call_parts.specs.Told.{FolderTold, folder_told}
 use Rattle.port_run.specs.declared.dock_report.DockReport.{DockReport}
 use Rattle.port_run.specs.declared.dock_report.Docked.{Docked}

@@ -4,8 +4,8 @@ ghost use Rattle.port_run.specs.Causes.{down_status as status_of_down, fault_sta
 ghost use Rattle.port_run.specs.Reports.{IsClosed};
 
 use call_parts::SessionEnd;
+use cmd_status::Status;
 use desktop_session::SessionFault;
-use hotsync_looks::Status;
 use port_link::PortCause;
 use session_parts::{DbReport, Stop};
 use std::alloc::Global;

@@ -1,8 +1,8 @@
 // The program where its words ask for a handheld at a port.
 ghost use Rattle.std.specs.Prelude.{◌≡◌, drop, map, string_bytes};
 ghost use Rattle.std.specs.Process.{exit_status};
-ghost use Rattle.hotsync_looks.specs.Codes.{code_of};
-ghost use Rattle.hotsync_looks.specs.Told.{sink_told};
+ghost use Rattle.cmd_status.specs.Codes.{code_of};
+ghost use Rattle.cmd_status.specs.Told.{sink_told};
 ghost use Rattle.port_run.specs.DockSystems.{AreDockUntold, IsSystemDock, asks_dock};
 ghost use Rattle.port_run.specs.Told.{dock_told};
 ghost use Rattle.run_words.specs.Docks.{docking_of};

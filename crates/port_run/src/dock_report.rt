@@ -2,8 +2,8 @@
 ghost use Rattle.std.specs.Prelude.{◌≡◌};
 ghost use Rattle.port_run.specs.Docks.{IsIdle};
 
+use cmd_status::Status;
 use dlp_args::MessageText;
-use hotsync_looks::Status;
 use port_link::Entry;
 use std::alloc::Global;
 

@@ -1,9 +1,9 @@
 // A handheld at a port: what comes before its talk, the talk, and what it prints.
 ghost use Rattle.std.specs.Prelude.{◌≡◌, ◌≢◌, IfSome, None, length, map, string_bytes, true};
 ghost use Rattle.handheld_files.specs.Openings.{Stands, opened_device};
-ghost use Rattle.hotsync_looks.specs.Printed.{IsPrinted, IsPrintedStatus};
+ghost use Rattle.cmd_status.specs.Printed.{IsPrinted, IsPrintedStatus};
 ghost use Rattle.hotsync_looks.specs.Served.{served_lines};
-ghost use Rattle.hotsync_looks.specs.Told.{sink_told};
+ghost use Rattle.cmd_status.specs.Told.{sink_told};
 ghost use Rattle.port_run.specs.DockTalks.{HasDockTalk};
 ghost use Rattle.port_run.specs.Docks.{HasDocked, IsDockCall, dock_status};
 ghost use Rattle.port_run.specs.Told.{OfDock, OfDockCall};
@@ -14,11 +14,12 @@ use crate::dock_report::{DockReport, Docked};
 use crate::opening::open_port;
 use crate::tracing::trace_log;
 use call_parts::{open_handheld, open_trace};
+use cmd_status::{Status, print_refusal};
 use device_stream::DeviceReport;
 use dlp_args::MessageText;
 use handheld_server::Server;
 use handheld_store::Store;
-use hotsync_looks::{Status, print_refusal, print_served};
+use hotsync_looks::print_served;
 use hs_folders::{Folder, Sink};
 use port_line::Port;
 use port_link::{AtPort, PortEnd, serve_at_port};

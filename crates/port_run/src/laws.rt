@@ -1,6 +1,6 @@
 //! What holds of every session over a cable. Each function here does nothing: its contract is the law.
 ghost use Rattle.std.specs.Prelude.{◌≡◌};
-ghost use Rattle.hotsync_looks.specs.declared.status.Status.{Status};
+ghost use Rattle.cmd_status.specs.declared.status.Status.{Status};
 ghost use Rattle.call_parts.specs.declared.report.SessionEnd.TheVariants.{Ended};
 ghost use Rattle.port_run.specs.Equal.{LeavesEqual};
 ghost use Rattle.port_run.specs.Syncs.{SessionRan};

@@ -1,12 +1,12 @@
 // The port of a session, opened.
 ghost use Rattle.std.specs.Prelude.{◌≡◌, ◌⊎◌, ◌≤◌, IfErr, IfOk, OnOk};
 ghost use Rattle.hs_folders.specs.Causes.{Rose};
-ghost use Rattle.hotsync_looks.specs.Opening.{Opens, OpensAtMost};
+ghost use Rattle.cmd_status.specs.Opening.{Opens, OpensAtMost};
 ghost use Rattle.call_parts.specs.Views.{folder_in as port_in};
 ghost use Rattle.port_laws.specs.Palms.{IsFirstTold};
 ghost use Rattle.port_run.specs.Refusals.{IsPortRefusal};
 
-use hotsync_looks::Status;
+use cmd_status::Status;
 use port_line::{Port, PortFault};
 
 /// Opens the port at this path. A refusal hands it back.

@@ -3,7 +3,7 @@ ghost use Rattle.std.specs.Prelude.{◌≡◌};
 ghost use Rattle.port_run.specs.Reports.{IsSilent};
 
 use call_parts::SessionEnd;
-use hotsync_looks::Status;
+use cmd_status::Status;
 use port_link::{Entry, PortCause};
 use session_parts::DbReport;
 use std::alloc::Global;

@@ -1,6 +1,6 @@
 // The trace of a session over a cable.
 ghost use Rattle.std.specs.Prelude.{◌≡◌, [], None, map, option_copied};
-ghost use Rattle.hotsync_looks.specs.Told.{sink_told};
+ghost use Rattle.cmd_status.specs.Told.{sink_told};
 ghost use Rattle.call_parts.specs.Causes.{IsUnsaid};
 ghost use Rattle.call_parts.specs.Traces.{TracesFrames};
 ghost use Rattle.port_link.specs.Logs.{entry_value};
@@ -8,7 +8,7 @@ ghost use Rattle.port_run.specs.LogTexts.{log_text};
 
 use crate::log_text::write_log;
 use call_parts::write_text;
-use hotsync_looks::Status;
+use cmd_status::Status;
 use hs_folders::Sink;
 use port_link::Entry;
 use std::alloc::{AllocError, Global};

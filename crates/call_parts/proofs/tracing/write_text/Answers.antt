@@ -1,4 +1,4 @@
-use Rattle.hotsync_looks.specs.Told.{sink_told}
+use Rattle.cmd_status.specs.Told.{sink_told}
 use Rattle.call_parts.proofs.TraceLaws.{text_written}
 use Rattle.call_parts.proofs.tracing.write_text.Goals as goal
 

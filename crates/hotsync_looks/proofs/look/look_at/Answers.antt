@@ -1,7 +1,7 @@
 use Rattle.std.proofs.Common.{◌∙◌, ap, sym, subst, Err}
 use Rattle.hotsync_looks.specs.Looks.{IsTextIn}
 use Rattle.hotsync_looks.proofs.LookLaws.{look_done, look_refused}
-use Rattle.hotsync_looks.proofs.PrintedLaws.{printed_weaken}
+use Rattle.cmd_status.proofs.PrintedLaws.{printed_weaken}
 use Rattle.hotsync_looks.proofs.look.look_at.Goals as goal
 
 pub returns-in-Ok : goal.returns-in-Ok

@@ -6,7 +6,7 @@ use Rattle.run_words.specs.declared.between.BetweenWords.{BetweenWords}
 use Rattle.run_words.specs.declared.command.Command.{Command}
 use Rattle.run_words.specs.declared.command.MakeWords.{MakeWords}
 use Rattle.run_words.specs.declared.run.RunWords.{RunWords}
-use Rattle.hotsync_looks.specs.Told.{sink_told, source_told}
+use Rattle.cmd_status.specs.Told.{sink_told, source_told}
 use Rattle.call_parts.specs.Told.{CallTold, folder_told}
 use Rattle.hotsync_run.proofs.CallLaws.{only_memory, unread_call}
 use Rattle.hotsync_run.proofs.MakeWords.{few_asked}
@@ -14,8 +14,8 @@ use Rattle.hotsync_run.proofs.PathLaws.{backup_desktop, backup_handheld, backup_
 use Rattle.hotsync_run.proofs.PathLaws.{dry_desktop, dry_handheld, dry_source, dry_trace, run_desktop, run_handheld, run_source, run_trace}
 use Rattle.hotsync_run.proofs.command.hotsync.Goals as goal
 
-pub make-status-requires : goal.make-status-requires
-make-status-requires g c =
+pub run_made_folders-status-requires : goal.run_made_folders-status-requires
+run_made_folders-status-requires g c =
     subst (λ (w : MakeWords). w.count ≤ 5000) (sym c.in-Ok-Make.words-is)
     (few_asked c.args.now (map string_bytes c.args.words.now)
     (c.in-Ok-Make.ensures.command ∙ ap (λ (command : Command). Some (task_view command)) c.in-Ok-Make.field-0-is))

@@ -1,4 +1,4 @@
-use Rattle.hotsync_looks.specs.Told.{sink_told}
+use Rattle.cmd_status.specs.Told.{sink_told}
 use Rattle.call_parts.specs.Told.{call_told}
 use Rattle.hotsync_run.proofs.program.run_untold.Goals as goal
 

@@ -1,6 +1,6 @@
 use Rattle.std.proofs.Common.{◌∙◌, inr, refl}
 use Rattle.std.specs.Prelude.{None}
-use Rattle.hotsync_looks.specs.Told.{sink_told}
+use Rattle.cmd_status.specs.Told.{sink_told}
 use Rattle.call_parts.specs.Told.{CallTold, FolderTold}
 use Rattle.hotsync_run.proofs.CallLaws.{only_memory}
 use Rattle.hotsync_run.proofs.program.say_no_memory.Goals as goal

@@ -1,4 +1,4 @@
-use Rattle.hotsync_run.proofs.DryLaws.{dry_asked}
+use Rattle.hotsync_run.proofs.DryPromises.{dry_asked}
 use Rattle.hotsync_run.proofs.promises.a_dry_run_changes_nothing.Goals as goal
 
 pub returns : goal.returns

@@ -1,6 +1,6 @@
 use Rattle.std.proofs.Common.{refl}
-use Rattle.hotsync_run.specs.DryRuns.{over}
-use Rattle.hotsync_run.proofs.DryLaws.{dry_asked, dry_holds}
+use Rattle.cmd_session.specs.DryRuns.{over}
+use Rattle.hotsync_run.proofs.DryPromises.{dry_asked, dry_holds}
 use Rattle.hotsync_run.proofs.promises.a_dry_run_is_a_run_over_the_same.Goals as goal
 
 pub returns : goal.returns

@@ -1,4 +1,4 @@
-use Rattle.hotsync_looks.proofs.PrintedNameLaws.{printed_name-injective, printed_name-printable}
+use Rattle.cmd_status.proofs.PrintedNameLaws.{printed_name-injective, printed_name-printable}
 use Rattle.hotsync_run.proofs.promises.no_two_names_are_printed_alike.Goals as goal
 
 pub returns-clause-apart : goal.returns-clause-apart

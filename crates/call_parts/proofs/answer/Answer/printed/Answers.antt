@@ -1,6 +1,6 @@
 use Rattle.std.proofs.Common.{◌≡◌, ◌∙◌, ap}
-use Rattle.hotsync_looks.specs.Lines.{done_lines}
-use Rattle.hotsync_looks.proofs.PrintedLaws.{printed_weaken}
+use Rattle.call_parts.specs.DoneLines.{done_lines}
+use Rattle.cmd_status.proofs.PrintedLaws.{printed_weaken}
 use Rattle.call_parts.proofs.answer.Answer.printed.Goals as goal
 
 pub returns-clause-printed : goal.returns-clause-printed

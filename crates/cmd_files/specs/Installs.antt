@@ -1,0 +1,175 @@
+-- What holds of every install: all objects before it, and all of them after it.
+use Rattle.std.specs.Prelude.{◌≡◌, ◌⊎◌, ⊤, ℕ, true, false, List, [], ◌∷◌, ◌++◌, map, Option, None, Some, IfSome}
+use Rattle.hs_folders.specs.Moments.{EachMomentSince}
+use Rattle.pdb_values.specs.Databases.{DatabaseValue}
+use Rattle.palm_device.specs.Devices.{Device}
+use Rattle.palm_device.specs.Handles.{no_handles}
+use Rattle.handheld_files.specs.Openings.{HoldsAll, Stands}
+use Rattle.trace_text.specs.TraceLines.{trace_text}
+use Rattle.desktop_session.specs.Acts.{Act, text}
+use Rattle.session_parts.specs.Meets.{greeting}
+use Rattle.session_parts.specs.declared.report.DbReport.{DbReport}
+use Rattle.session_parts.specs.declared.report.Did.TheVariants.{Installed}
+use Rattle.install_backup.specs.Installed.{with_installed}
+use Rattle.install_backup.specs.InstallActs.{install_acts, written_count}
+use Rattle.install_backup.specs.Installs.{making_acts}
+use Rattle.install_backup.specs.Rooms.{has_room}
+use Rattle.run_words.specs.Betweens.{Between}
+use Rattle.hotsync_looks.specs.InstallFiles.{FileRefuses, IsInstallFile}
+use Rattle.cmd_status.specs.Told.{SinkTold}
+use Rattle.cmd_status.specs.declared.status.Status.{Status}
+use Rattle.cmd_status.specs.declared.status.Status.TheVariants.{DesktopFolder, Limit, NewHandheld, OtherUser, TooManyUsers}
+use Rattle.cmd_files.specs.Besides.{StandsBeside}
+use Rattle.call_parts.specs.Causes.{IsCutShort}
+use Rattle.call_parts.specs.LineRuns.{SaidAll, frames_in}
+use Rattle.call_parts.specs.Refusals.{HandheldRefuses, HasHandheld, TraceRefuses}
+use Rattle.call_parts.specs.SessionCalls.{IsSessionCall, MayHaveSession, Paths, SessionCommand}
+use Rattle.call_parts.specs.Sessions.{Agenda, HadSession, IsTalk}
+use Rattle.call_parts.specs.Told.{CallTold, FolderTold, SidesTold}
+use Rattle.call_parts.specs.Traces.{TakesTrace}
+use Rattle.call_parts.specs.Undisturbed.{IsGoodHandheld, NoneFailed}
+use Rattle.call_parts.specs.declared.report.Report.{Report}
+use Rattle.call_parts.specs.declared.report.SessionEnd.TheVariants.{Ended}
+
+-- ---- an install that sent nothing
+
+-- the source tells no other bytes than those of a database that may be installed
+pub record HasInstallFile (left : Option (List ℕ)) : Type 0 where
+  pub database : DatabaseValue
+  pub file : IfSome left (λ bytes. IsInstallFile bytes database)
+
+-- The file is judged first, then the handheld's folder, and last the trace is opened, each where
+-- all that comes before it is good.
+abbrev pub InstallRefuses : Between → CallTold → Status → Type 0
+InstallRefuses words before refusal =
+    FileRefuses words.other before.source.left refusal
+    ⊎ (HasInstallFile before.source.left × (HandheldRefuses before.palm.contents refusal
+    ⊎ (HasHandheld before.palm.contents × TraceRefuses words.trace refusal)))
+
+-- ---- an install with a session
+
+-- the session of an install over a line that loses nothing: the handheld, and all of its requests
+abbrev pub install_agenda : Device → DatabaseValue → Agenda
+install_agenda device database =
+    record { rules = []; device = device; asked = map text (install_acts (database ∷ [])) }
+
+-- what a handheld is asked for that has no room for it
+abbrev pub acts_until_full : DatabaseValue → List Act
+acts_until_full database = greeting ++ making_acts database
+
+-- what is told of it
+abbrev pub install_report : DatabaseValue → DbReport
+install_report database =
+    record { name = database.head.name; did = Installed (written_count database) }
+
+-- It ended: each of its requests was issued and performed, and none else; the handheld's folder
+-- stands for its databases with the file's in place of the one of its name; and that is told.
+pub record EndedInstall (device : Device) (database : DatabaseValue) (palm_after : FolderTold)
+    (report : Report) : Type 0 where
+  pub room : has_room database.head.name device.databases ≡ true
+  pub said : SaidAll (map text (install_acts (database ∷ []))) report
+  pub handheld : Stands palm_after.contents (with_installed database device.databases) device.user
+  pub told : report.databases.items ≡ install_report database ∷ []
+
+-- what an install leaves where it ended, and however it ended, at each moment
+pub record InstallLeft (device : Device) (database : DatabaseValue) (before after : FolderTold)
+    (report : Report) : Type 0 where
+  pub ended : report.end ≡ Ended → EndedInstall device database after report
+  pub beside : StandsBeside device (database ∷ []) after.contents
+  pub each_moment : EachMomentSince (StandsBeside device (database ∷ [])) before.moments
+      after.moments
+
+-- it stopped for want of room for this database: no more was asked for than that it be made
+pub record StopsFull (device : Device) (database : DatabaseValue) (report : Report)
+    (name : List ℕ) : Type 0 where
+  pub named : name ≡ database.head.name
+  pub full : has_room database.head.name device.databases ≡ false
+  pub said : SaidAll (map text (acts_until_full database)) report
+
+-- what a status shows of an install, which knows of no user and touches no desktop
+abbrev pub InstallShows : Device → DatabaseValue → Report → Status → Type 0
+InstallShows device database report (Limit name) = StopsFull device database report name
+InstallShows device database report (OtherUser handheld desktop) = ⊥
+InstallShows device database report TooManyUsers = ⊥
+InstallShows device database report (NewHandheld name) = ⊥
+InstallShows device database report DesktopFolder = ⊥
+InstallShows device database report other = ⊤
+
+-- the same, and that want of room is told, unless the session was cut short before
+pub record ShowsInstall (device : Device) (database : DatabaseValue) (status : Status)
+    (report : Report) : Type 0 where
+  pub status_is : InstallShows device database report status
+  pub full : has_room database.head.name device.databases ≡ false
+      → (status ≡ Limit database.head.name) ⊎ IsCutShort status
+
+-- the session of an install that began: what is known of every session, what it left, and what its
+-- status shows
+abbrev pub HadInstall : Device → DatabaseValue → FolderTold → FolderTold → Status → Report → Type 0
+HadInstall device database before after status report =
+    HadSession (InstallLeft device database before after) (ShowsInstall device database)
+    (install_agenda device database) before after status report
+
+-- whatever is written of it
+abbrev pub IsInstallTalk : Device → DatabaseValue → SidesTold → SidesTold → Status → Report
+    → Type 0
+IsInstallTalk device database before after status report =
+    IsTalk (HadInstall device database before.palm after.palm) before after status report
+
+-- The file and the handheld before it, all that is known of the session, and what the trace took.
+-- The desktop's folder was not touched.
+pub record InstallRan (words : Between) (before after : CallTold) (status : Status)
+    (report : Report) : Type 0 where
+  pub database : DatabaseValue
+  pub file : IfSome before.source.left (λ bytes. IsInstallFile bytes database)
+  pub device : Device
+  pub handheld : IfSome before.palm.contents (λ held. HoldsAll held device.databases device.user)
+  pub closed : device.handles ≡ no_handles
+  pub had : HadInstall device database before.palm after.palm status report
+  pub desktop : after.desk ≡ before.desk
+  pub traced : TakesTrace words.trace (trace_text (frames_in report)) before.trace after.trace
+      status
+
+-- ---- every install
+
+-- The source tells the file of a database that may be installed, the handheld's files are good and
+-- have room for it, and no object failed.
+pub record IsCalmInstall (before after : CallTold) (out out_after : SinkTold) : Type 0 where
+  pub bytes : List ℕ
+  pub told : before.source.left ≡ Some bytes
+  pub database : DatabaseValue
+  pub file : IsInstallFile bytes database
+  pub handheld : IsGoodHandheld before.palm.contents
+  pub room : (device : Device)
+      → IfSome before.palm.contents (λ held. HoldsAll held device.databases device.user)
+      → has_room database.head.name device.databases ≡ true
+  pub none_failed : NoneFailed before after out out_after
+
+-- the paths of an install's words
+abbrev pub install_paths : Between → Paths
+install_paths words = record {
+  handheld = Some words.handheld;
+  desktop = None;
+  source = Some words.other;
+  trace = words.trace;
+}
+
+-- an install as a command: the file, the handheld's folder and the trace are judged, in this order
+abbrev pub install_command : Between → SessionCommand
+install_command words = record {
+  paths = install_paths words;
+  Judged = λ before refusal. InstallRefuses words before refusal;
+  Kept = λ before after status. after ≡ before;
+  Had = λ before after status report. InstallRan words before after status report;
+  Undisturbed = λ before after out said report. IsCalmInstall before after out said;
+}
+
+-- what is known of an install before its lines are printed
+abbrev pub HasInstalled : Between → CallTold → CallTold → Status → Report → Type 0
+HasInstalled words before after status report =
+    MayHaveSession (install_command words) before after status report
+
+-- what is known of an install
+abbrev pub IsInstall : Between → CallTold → CallTold → SinkTold → SinkTold → Status → Report
+    → Type 0
+IsInstall words before after out out_after status report =
+    IsSessionCall (install_command words) before after out out_after status report

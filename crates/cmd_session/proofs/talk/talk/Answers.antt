@@ -1,0 +1,23 @@
+use Rattle.std.proofs.Common.{◌∙◌, ap}
+use Rattle.handheld_server.specs.Servers.{ServerValue}
+use Rattle.call_parts.specs.Told.{folder_told, sides_told}
+use Rattle.call_parts.proofs.SpokeLaws.{kept_silent}
+use Rattle.cmd_session.proofs.talk.talk.Goals as goal
+
+pub returns-in_default-clause-talk : goal.returns-in_default-clause-talk
+returns-in_default-clause-talk g c =
+    let end = c.not_started in
+    kept_silent (sides_told g.H.Folder g.D.Folder c.args.store.folder c.args.desk.folder) (sides_told g.H.Folder g.D.Folder end.result.device end.result.desk)
+    end.ensures.status end.ensures.report
+    (ap (λ f. folder_told g.H.Folder.contents g.H.Folder.moments g.H.Folder.paths g.H.Folder.faults f) (end.ensures.device ∙ c.into_folder.ensures))
+    (ap (λ f. folder_told g.D.Folder.contents g.D.Folder.moments g.D.Folder.paths g.D.Folder.faults f) (end.ensures.desk ∙ c.into_folder-in_default.ensures))
+
+pub returns-clause-talk : goal.returns-clause-talk
+returns-clause-talk g c =
+    let end = c.not_started-in-Err in
+    let back = c.in-Err.ensures.back in
+    kept_silent (sides_told g.H.Folder g.D.Folder c.args.store.folder c.args.desk.folder) (sides_told g.H.Folder g.D.Folder end.result.device end.result.desk)
+    end.ensures.status end.ensures.report
+    (ap (λ f. folder_told g.H.Folder.contents g.H.Folder.moments g.H.Folder.paths g.H.Folder.faults f)
+    (end.ensures.device ∙ c.into_folder-in-Err.ensures ∙ ap (λ (s : ServerValue _). s.folder) back ∙ ap (λ (s : ServerValue _). s.folder) c.new.ensures))
+    (ap (λ f. folder_told g.D.Folder.contents g.D.Folder.moments g.D.Folder.paths g.D.Folder.faults f) (end.ensures.desk ∙ c.into_folder-in-Err-2.ensures))

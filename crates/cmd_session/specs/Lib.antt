@@ -1,0 +1,9 @@
+pub mod DryRuns
+pub mod Ends
+pub mod Filings
+pub mod Makes
+pub mod Meetings
+pub mod Runs
+pub mod Talks
+pub mod Undisturbed
+pub mod Wishes

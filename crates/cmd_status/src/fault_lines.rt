@@ -1,0 +1,38 @@
+// The word at fault in words that ask for nothing.
+ghost use Rattle.std.specs.Prelude.{◌≡◌, IfOk, string_bytes};
+ghost use Rattle.cmd_status.specs.Lines.{fault_lines as lines_of_fault, fault_words as words_of_fault};
+
+use crate::printed_name::push_name;
+use crate::printing::USAGE;
+use run_words::FaultKind;
+use std::alloc::{AllocError, Global};
+
+// What is wrong with the word that stands behind it.
+fn fault_words(kind: FaultKind) -> &'static str
+    ensures { result.now ≡ words_of_fault kind }
+{
+    match kind {
+        FaultKind::UnknownCommand => "unknown command ",
+        FaultKind::UnknownOption => "unknown option ",
+        FaultKind::NoValue => "missing value ",
+        FaultKind::ExtraValue => "unexpected value ",
+        FaultKind::Twice => "twice --",
+        FaultKind::Extra => "unexpected word ",
+        FaultKind::Missing => "missing --",
+        FaultKind::TooFew => "too few words behind ",
+        FaultKind::BadOption => "bad --",
+        FaultKind::BadWord => "bad word ",
+    }
+}
+
+/// The usage line, and then the word at fault.
+#[tactic(auto, unfolding(crate::specs::Lines::fault_lines))]
+pub(crate) fn fault_lines(alloc: Global, kind: FaultKind, word: &str) -> Result<String, AllocError>
+    ensures { IfOk result (λ lines. string_bytes lines ≡ lines_of_fault kind word.now) }
+{
+    let mut lines = String::from_str(alloc, USAGE)?;
+    lines.push_str(fault_words(kind))?;
+    push_name(&mut lines, word)?;
+    lines.push_str("\n")?;
+    Ok(lines)
+}

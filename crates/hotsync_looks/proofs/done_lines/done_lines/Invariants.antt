@@ -1,8 +1,0 @@
-use Rattle.std.proofs.Common.{◌≡◌, take}
-use Rattle.std.specs.Prelude.{string_bytes}
-use Rattle.std.specs.List.{flat_map}
-use Rattle.hotsync_looks.specs.Lines.{line_of_report}
-use Rattle.hotsync_looks.proofs.done_lines.done_lines.Given as goal
-
-abbrev pub invariant-loop-report : goal.invariant-loop-report
-invariant-loop-report l = string_bytes l.lines ≡ flat_map line_of_report (take l.report-index l.databases)

@@ -1,6 +1,0 @@
-use Rattle.std.proofs.Common.{◌≡◌, map, take}
-use Rattle.hotsync_run.specs.Moves.{moved_report}
-use Rattle.hotsync_run.proofs.moved.moved_reports.Given as goal
-
-abbrev pub invariant-loop-one : goal.invariant-loop-one
-invariant-loop-one l = l.reports.items ≡ map (moved_report l.way) (take l.one-index l.moved)
