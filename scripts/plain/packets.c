@@ -1,5 +1,5 @@
-/* A plain reader of packets, to compare with: it takes 1,040 bytes again and again, as `bench packets` of session_cases
- * does, looks for the signature, tests the sum of the header and the CRC by a table, and counts. */
+/* A plain reader of packets, to compare with: packets [packets|noise] TIMES [write]. It takes 1,040 bytes again and again, looks
+ * for the signature, tests the sum of the header and the CRC by a table, and counts; or it writes them as often. */
 #include <stdint.h>
 #include <stdio.h>
 #include <stdlib.h>
@@ -51,6 +51,10 @@ int main(int count, char **words) {
         uint16_t crc = crc_of(text, 1038);
         text[1038] = (uint8_t)(crc >> 8);
         text[1039] = (uint8_t)crc;
+    }
+    if (count > 3) {
+        for (long turn = 0; turn < times; turn++) fwrite(text, 1, sizeof text, stdout);
+        return 0;
     }
     unsigned long bytes = 0, packets = 0;
     for (long turn = 0; turn < times; turn++) {

@@ -1,9 +1,8 @@
-#!/usr/bin/env python3
-"""Tries `run --dry-run` before each run of the examples, of the demo, of the cases that crates/run_cases has and of some folders
-that it makes: it prints what the run then prints, with the same status and the same trace, and neither folder has changed: no byte, no name, no time.
-Usage: scripts/dry-run
+"""Tries `run --dry-run` before each run of the examples, of the demo, of the cases that
+crates/run_cases has and of some folders that it makes: it prints what the run then prints, with the
+same status and the same trace, and neither folder has changed: no byte, no name, no time.
 
-HOTSYNC names another program than the one that was built. It ends with 1 where something comes out otherwise.
+HOTSYNC names another program than the built one. Ends with 1 where something comes out otherwise.
 """
 import importlib.machinery
 import importlib.util
@@ -16,7 +15,7 @@ import subprocess
 import sys
 import tempfile
 
-TOP = os.path.dirname(os.path.dirname(os.path.abspath(__file__)))
+TOP = os.path.abspath(f"{os.path.dirname(__file__)}/../..")
 PROGRAM = os.environ.get("HOTSYNC") or f"{TOP}/crates/hotsync_cli/out/hotsync_cli"
 DATE = "--date=2001-09-09T01:46:40"
 LATER = "--date=2001-09-10T01:46:40"
@@ -58,7 +57,8 @@ def try_run(title, words):
     run = call(words)
     for what, one, other in zip(("status", "lines", "hints", "trace"), dry, run):
         if one != other:
-            FAILED.append(f"{title}: another {what}: {shlex.join(words)}: {one!r}, and then {other!r}")
+            said = f"{one!r}, and then {other!r}"
+            FAILED.append(f"{title}: another {what}: {shlex.join(words)}: {said}")
     return run[0]
 
 
@@ -80,7 +80,8 @@ def try_transcript(folder):
 def pdb(name, records):
     """The bytes of a database with these records: attributes, id, bytes."""
     place = 78 + 8 * len(records) + 2
-    head = struct.pack(">32sHHIIIIII4s4sIIH", name.encode(), 0, 0, 1, 1, 0, 0, 0, 0, b"DATA", b"test", 0, 0, len(records))
+    head = struct.pack(">32sHHIIIIII", name.encode(), 0, 0, 1, 1, 0, 0, 0, 0)
+    head += struct.pack(">4s4sIIH", b"DATA", b"test", 0, 0, len(records))
     entries, data = b"", b""
     for attributes, number, text in records:
         entries += struct.pack(">IB", place + len(data), attributes) + number.to_bytes(3, "big")
@@ -94,25 +95,32 @@ def put(path, content):
         file.write(content)
 
 
+def some_bytes(dice):
+    return dice.randbytes(dice.randint(1, 50)) + b"\0"
+
+
 def sides(dice):
     """Two folders of a few databases each, some of them on both sides."""
     for side in ("handheld", "desktop"):
         os.makedirs(side)
         for name in dice.sample(("MemoDB", "ToDoDB", "AddressDB", "Notes"), dice.randint(0, 3)):
             numbers = dice.sample(range(1, 40), dice.randint(0, 8))
-            records = [(dice.choice((0, 0, 0x40)), number, dice.randbytes(dice.randint(1, 50)) + b"\0") for number in numbers]
+            records = [(dice.choice((0, 0, 0x40)), number, some_bytes(dice)) for number in numbers]
             put(f"{side}/{name}.pdb", pdb(name, records))
 
 
 def made(seed):
-    """Made folders, synchronised three times, with edits between, over a line that loses some frames."""
+    """Made folders, synchronised three times, with edits between, over a line that loses frames."""
     dice = random.Random(seed)
     sides(dice)
-    put("line.txt", b"".join(b"%d lost\n" % number for number in sorted(dice.sample(range(1, 300), 12))))
+    lost = sorted(dice.sample(range(1, 300), 12))
+    put("line.txt", b"".join(b"%d lost\n" % number for number in lost))
     for day in (10, 11, 12):
-        try_run(f"made of {seed}", ["run", "handheld", "desktop", f"--date=2001-09-{day}T01:46:40", "--script=line.txt", "--trace=trace.txt"])
+        words = ["run", "handheld", "desktop", f"--date=2001-09-{day}T01:46:40"]
+        try_run(f"made of {seed}", [*words, "--script=line.txt", "--trace=trace.txt"])
         numbers = dice.sample(range(1, 40), 5)
-        put("handheld/MemoDB.pdb", pdb("MemoDB", [(0x40, number, b"%d at %d\0" % (number, day)) for number in numbers]))
+        records = [(0x40, number, b"%d at %d\0" % (number, day)) for number in numbers]
+        put("handheld/MemoDB.pdb", pdb("MemoDB", records))
 
 
 def around():
@@ -156,14 +164,17 @@ def around():
     run2 = ["run", "handheld", "desktop2", DATE]
     try_run("a session", run2)
     try_run("a session of the same date", run2)
-    try_run("a session by the desktop", ["run", "handheld", "desktop2", LATER, "--actions=*:desktop"])
+    run3 = ["run", "handheld", "desktop2", LATER, "--actions=*:desktop"]
+    try_run("a session by the desktop", run3)
     with_missing = subprocess.run([PROGRAM, *run, "--dry-run"], capture_output=True)
-    if (with_missing.returncode, with_missing.stdout, os.path.exists("desktop")) != (4, b"desktop folder failed\n", False):
+    told = with_missing.returncode, with_missing.stdout, os.path.exists("desktop")
+    if told != (4, b"desktop folder failed\n", False):
         FAILED.append(f"a folder that is not there: {with_missing}")
 
 
 def journal():
-    """A journal that a stopped run left: the desktop's information file and one of memos, as bytes that lay over them."""
+    """A journal that a stopped run left: the desktop's information file and one of memos, as bytes
+    that lay over them."""
     name, content = b"MemoDB.pdb", pdb("MemoDB", [(0, 7, b"from the journal\0")])
     entry = bytes([len(name)]) + name + struct.pack(">I", len(content)) + content
     os.makedirs("handheld")
@@ -172,9 +183,9 @@ def journal():
 
 
 def rows():
-    """The runs of the cases, over real folders, as scripts/device-rows has them."""
-    loader = importlib.machinery.SourceFileLoader("device_rows", f"{TOP}/scripts/device-rows")
-    cases = importlib.util.module_from_spec(importlib.util.spec_from_loader("device_rows", loader))
+    """The runs of the cases, over real folders, as scripts/device-sessions has them."""
+    loader = importlib.machinery.SourceFileLoader("device_sessions", f"{TOP}/scripts/device-sessions")
+    cases = importlib.util.module_from_spec(importlib.util.spec_from_loader("device_sessions", loader))
     sys.dont_write_bytecode = True
     loader.exec_module(cases)
     count = 0
@@ -187,33 +198,43 @@ def rows():
     return count
 
 
+def into(folder):
+    os.makedirs(folder)
+    os.chdir(folder)
+
+
+def transcripts(scratch):
+    """The runs of the demo and of the examples."""
+    runs, names = 0, sorted(os.listdir(f"{TOP}/examples"))
+    for folder in [f"{TOP}/demo", *(f"{TOP}/examples/{name}" for name in names)]:
+        if os.path.exists(f"{folder}/transcript"):
+            name = os.path.basename(folder)
+            shutil.copytree(folder, f"{scratch}/{name}")
+            os.chdir(f"{scratch}/{name}")
+            os.makedirs("desktop", exist_ok=True)
+            runs += try_transcript(name)
+    return runs
+
+
 def main():
     if not os.access(PROGRAM, os.X_OK):
-        sys.exit(f"dry-run: {PROGRAM} is not built: scripts/build")
-    runs = 0
+        sys.exit(f"transcripts: {PROGRAM} is not built: scripts/build")
     with tempfile.TemporaryDirectory() as scratch:
-        examples = [f"{TOP}/demo", *(f"{TOP}/examples/{name}" for name in sorted(os.listdir(f"{TOP}/examples")))]
-        for folder in [it for it in examples if os.path.exists(f"{it}/transcript")]:
-            shutil.copytree(folder, f"{scratch}/{os.path.basename(folder)}")
-            os.chdir(f"{scratch}/{os.path.basename(folder)}")
-            os.makedirs("desktop", exist_ok=True)
-            runs += try_transcript(os.path.basename(folder))
+        runs = transcripts(scratch)
         for seed in range(20):
-            os.makedirs(f"{scratch}/made{seed}")
-            os.chdir(f"{scratch}/made{seed}")
+            into(f"{scratch}/made{seed}")
             made(seed)
         for title, situation in (("around", around), ("journal", journal)):
-            os.makedirs(f"{scratch}/{title}")
-            os.chdir(f"{scratch}/{title}")
+            into(f"{scratch}/{title}")
             situation()
-        os.makedirs(f"{scratch}/rows")
-        os.chdir(f"{scratch}/rows")
+        into(f"{scratch}/rows")
         cases = rows()
         os.chdir(TOP)
     for failed in FAILED:
-        print(f"dry-run: {failed}", file=sys.stderr)
+        print(f"transcripts: {failed}", file=sys.stderr)
     if not FAILED:
-        print(f"dry-run: {runs} runs of the examples, {cases} of the cases and those of made folders print what their dry runs printed")
+        print(f"{runs} runs of the examples, {cases} of the cases and those of made folders:"
+              " what their dry runs printed")
     sys.exit(bool(FAILED))
 
 

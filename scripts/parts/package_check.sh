@@ -1,9 +1,8 @@
-#!/bin/sh
-# Looks at what scripts/package makes: both packages are the same byte for byte when they are made twice, lintian has no
-# error where it is there, and the program of each, unpacked into an empty root with nothing but the C library, runs
-# `check` and `run` there.
+# What `scripts/package --check` runs. Both packages are the same byte for byte when they are made twice, lintian has no error
+# where it is there, and the program of each, unpacked into an empty root with nothing but the C library, runs `check` and
+# `run` there.
 set -eu
-cd "$(dirname "$0")/.."
+cd "$(dirname "$0")/../.."
 scratch=$(mktemp -d)
 trap 'rm -rf "$scratch"' EXIT
 scripts/package "$scratch/one" >/dev/null
@@ -11,7 +10,7 @@ scripts/package "$scratch/two" >/dev/null
 for file in "$scratch"/one/*; do
     cmp "$file" "$scratch/two/${file##*/}"
 done
-echo "package-check: both packages are the same when they are made twice"
+echo "package: both packages are the same when they are made twice"
 
 deb=$(ls "$scratch"/one/*.deb)
 tar=$(ls "$scratch"/one/*.tar.gz)
@@ -20,9 +19,9 @@ if command -v lintian >/dev/null; then
         cat "$scratch/lintian" >&2
         exit 1
     }
-    echo "package-check: lintian has no error"
+    echo "package: lintian has no error"
 else
-    echo "package-check: lintian is not here: it was not asked"
+    echo "package: lintian is not here: it was not asked"
 fi
 
 # Runs the program that lies at this path of a root.
@@ -44,7 +43,7 @@ try() {
 }
 
 if ! chroot / true 2>/dev/null; then
-    echo "package-check: this user may not change the root: the program was not tried there"
+    echo "package: this user may not change the root: the program was not tried there"
     exit 0
 fi
 mkdir "$scratch/deb" "$scratch/tar" "$scratch/installed"
@@ -53,4 +52,4 @@ try "$scratch/deb" /usr/bin/hotsync
 tar -C "$scratch/tar" -xzf "$tar"
 "$scratch"/tar/*/install "$scratch/installed/home" >/dev/null
 try "$scratch/installed" /home/bin/hotsync
-echo "package-check: unpacked into an empty root, the program runs"
+echo "package: unpacked into an empty root, the program runs"

@@ -1,12 +1,10 @@
-#!/usr/bin/env python3
-"""Tries README as a new user would: in a copy of what git keeps, its steps are taken as they stand there.
+"""Tries README as a new user would: in a copy of what git keeps, its steps are taken as they stand.
 
-  scripts/first-steps [PROGRAM]     PROGRAM, or HOTSYNC, stands for the program that the kit would build
-
-The program is proved, built and installed by the scripts that README names; where it is proved already, that takes half a
-minute. Then each command in a block of a
-console has to print what stands below it, the files that README names have to lie where it says, and each example of a
-command, with names in place of capitals, has to be done. It ends with 1 where something comes out otherwise.
+The program is proved, built and installed by the scripts that README names, but for the gate;
+HOTSYNC stands for the program that the kit would build. Then each command in a block of a console
+has to print what stands below it, the files that README names have to lie where it says, and each
+example of a command, with names in place of capitals, has to be done. Ends with 1 where something
+is otherwise.
 """
 import os
 import re
@@ -16,7 +14,7 @@ import subprocess
 import sys
 import tempfile
 
-TOP = os.path.dirname(os.path.dirname(os.path.abspath(__file__)))
+TOP = os.path.abspath(f"{os.path.dirname(__file__)}/../..")
 BUILT = "crates/hotsync_cli/out/hotsync_cli"
 STEPS = "## Your memos in five minutes"
 LEFT = ["desktop/MemoDB.pdb", "desktop/MemoDB.base", "desktop/desktop.inf", "handheld/device.inf"]
@@ -28,27 +26,29 @@ failed = []
 
 def fail(text):
     failed.append(text)
-    print(f"first-steps: {text}", file=sys.stderr)
+    print(f"transcripts: {text}", file=sys.stderr)
 
 
 def fresh_copy(to):
     """What a clone would have."""
-    kept = subprocess.run(["git", "ls-files", "-z"], cwd=TOP, capture_output=True, check=True).stdout
-    for name in filter(None, kept.decode().split("\0")):
+    kept = subprocess.run(["git", "ls-files", "-z"], cwd=TOP, capture_output=True, check=True)
+    for name in filter(None, kept.stdout.decode().split("\0")):
         if os.path.exists(f"{TOP}/{name}"):
             os.makedirs(os.path.dirname(f"{to}/{name}"), exist_ok=True)
             shutil.copy2(f"{TOP}/{name}", f"{to}/{name}")
 
 
 def with_kit(scratch):
-    """The surroundings of a new user: a home of its own, and where a program is named an `rt` that has built it."""
+    """The surroundings of a new user: a home of its own, and where a program is named an `rt` that
+    has built it."""
     os.makedirs(f"{scratch}/kit")
-    program = sys.argv[1] if len(sys.argv) > 1 else os.environ.get("HOTSYNC")
+    program = os.environ.get("HOTSYNC")
     if program:
         if not os.access(program, os.X_OK):
-            sys.exit(f"first-steps: there is no program at {program}: build it, or name another one")
+            sys.exit(f"transcripts: there is no program at {program}")
         with open(f"{scratch}/kit/rt", "w", encoding="utf-8") as file:
-            file.write(f"#!/bin/sh\nmkdir -p {os.path.dirname(BUILT)}\ncp '{os.path.abspath(program)}' {BUILT}\n")
+            file.write(f"#!/bin/sh\nmkdir -p {os.path.dirname(BUILT)}\n")
+            file.write(f"cp '{os.path.abspath(program)}' {BUILT}\n")
         os.chmod(f"{scratch}/kit/rt", 0o755)
     home = f"{scratch}/home"
     os.makedirs(home)
@@ -58,15 +58,17 @@ def with_kit(scratch):
 
 def run(command, where, surroundings):
     """What a command prints and its status."""
-    ran = subprocess.run(["bash", "-c", command], cwd=where, env=surroundings, stdin=subprocess.DEVNULL,
-                         stdout=subprocess.PIPE, stderr=subprocess.STDOUT, text=True, check=False)
+    ran = subprocess.run(["bash", "-c", command], cwd=where, env=surroundings, check=False,
+                         stdin=subprocess.DEVNULL, stdout=subprocess.PIPE,
+                         stderr=subprocess.STDOUT, text=True)
     return ran.stdout, ran.returncode
 
 
 def must_run(command, where, surroundings):
     said, status = run(command, where, surroundings)
     if status != 0:
-        fail(f"`{command}` ends with {status}, and last says\n" + "\n".join(said.splitlines()[-20:]))
+        last = "\n".join(said.splitlines()[-20:])
+        fail(f"`{command}` ends with {status}, and last says\n{last}")
     return said
 
 
@@ -93,7 +95,8 @@ def try_blocks(text, where, surroundings):
 
 def program_file():
     """The file of a small program: a database of one resource."""
-    head = struct.pack(">32sHHIIIIII4s4sIIH", b"Chess", 1, 1, 0, 0, 0, 0, 0, 0, b"appl", b"Chss", 0, 0, 1)
+    head = struct.pack(">32sHHIIIIII", b"Chess", 1, 1, 0, 0, 0, 0, 0, 0)
+    head += struct.pack(">4s4sIIH", b"appl", b"Chss", 0, 0, 1)
     return head + struct.pack(">4sHI", b"code", 1, 90) + b"\0\0" + b"\x4e\x75"
 
 
@@ -110,7 +113,8 @@ def prepare(repository, place, surroundings):
     with open(f"{place}/Chess.prc", "wb") as file:
         file.write(program_file())
     must_run("hotsync export MemoDB.pdb --as=txt >memos.txt", place, surroundings)
-    must_run("cp -r handheld other && mkdir side && hotsync run other side --date=now --trace=trace.txt", place, surroundings)
+    must_run("cp -r handheld other && mkdir side", place, surroundings)
+    must_run("hotsync run other side --date=now --trace=trace.txt", place, surroundings)
     with open(f"{place}/trace.txt", encoding="utf-8") as file:
         frames = [line.split() for line in file]
     with open(f"{place}/sent", "wb") as file:
@@ -120,9 +124,12 @@ def prepare(repository, place, surroundings):
 def try_examples(text, repository, scratch, surroundings):
     """Each example of a command, in a folder of its own."""
     prepare(repository, f"{scratch}/place", surroundings)
-    # A command alone, as `hotsync device`, is no example, and what reads the desktop's files is one of the steps.
-    commands = [one for one in quoted(text, "hotsync ") if len(one.split()) > 2 and " desktop/" not in one]
-    commands += [f"hotsync run handheld desktop --date=now '{one}'" for one in quoted(text, "--(?:actions|only)=")]
+    # A command alone, as `hotsync device`, is no example, and what reads the desktop's files is one
+    # of the steps.
+    commands = [one for one in quoted(text, "hotsync ") if len(one.split()) > 2]
+    commands = [one for one in commands if " desktop/" not in one]
+    options = quoted(text, "--(?:actions|only)=")
+    commands += [f"hotsync run handheld desktop --date=now '{one}'" for one in options]
     for number, command in enumerate(commands):
         shutil.copytree(f"{scratch}/place", f"{scratch}/{number}")
         must_run(command, f"{scratch}/{number}", surroundings)
@@ -138,7 +145,11 @@ def main():
         with open(f"{repository}/README.md", encoding="utf-8") as file:
             readme = file.read()
         steps = readme[readme.index(STEPS):]
-        for command in re.findall(r"^(scripts/\S+)", re.search(r"^```sh\n(.*?)^```", steps, re.M | re.S)[1], re.M):
+        if "HOTSYNC" in os.environ:
+            must_run("scripts/build", repository, surroundings)
+        block = re.search(r"^```sh\n(.*?)^```", steps, re.M | re.S)[1]
+        commands = re.findall(r"^(scripts/\S+)", block, re.M)
+        for command in commands + quoted(steps, "scripts/package --install"):
             must_run(command, repository, surroundings)
         for command in quoted(steps, "(?:cp|mkdir) "):
             must_run(command, repository, surroundings)
@@ -151,7 +162,7 @@ def main():
         count = try_examples(readme, repository, scratch, surroundings)
     if failed:
         sys.exit(1)
-    print(f"first-steps: README's steps come out as shown, and its {count} examples of commands are done")
+    print(f"README's steps come out as shown, and its {count} examples of commands are done")
 
 
 if __name__ == "__main__":

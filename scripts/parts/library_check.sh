@@ -1,20 +1,19 @@
-#!/bin/sh
-# Calls the library from C and from Python, as its callers do: each function in room that fits, in none, in one byte too few
-# and over no bytes, also where each access is watched (-fsanitize=address). What it shows of the files of the demo and of
-# the examples has to be what the program shows, and what it leaves of their folders what a run of the program leaves that
-# reads all records. What is not here (a C compiler, python3, the program) is named and left out. With --left the library is
-# built over what the gate left in this checkout.
+# What `scripts/library --check` runs. It calls the library from C and from Python, as its callers do: each function in room
+# that fits, in none, in one byte too few and over no bytes, also where each access is watched (-fsanitize=address). What it
+# shows of the files of the demo and of the examples has to be what the program shows, and what it leaves of their folders
+# what a run of the program leaves that reads all records. What is not here (a C compiler, python3, the program) is named and
+# left out. With --left the library is built over what the gate left in this checkout.
 set -u
-cd "$(dirname "$0")/.." || exit 1
+cd "$(dirname "$0")/../.." || exit 1
 top=$PWD
 if ! command -v cc >/dev/null; then
-    echo "check-library: there is no cc here: the library was not called"
+    echo "library: there is no cc here: the library was not called"
     exit 0
 fi
 scratch=$(mktemp -d) || exit 1
 trap 'rm -rf "$scratch"' EXIT
 fail() {
-    echo "check-library: $1" >&2
+    echo "library: $1" >&2
     exit 1
 }
 scripts/library "$scratch" ${1+"$1"} >/dev/null || fail "it was not built"
@@ -42,13 +41,13 @@ if cc -fsanitize=address -o "$scratch/nothing" "$scratch/nothing.c" 2>/dev/null 
     build each "$scratch/watched" -g -fsanitize=address || fail "each.c was not built to be watched"
     "$scratch/watched" || fail "each.c, watched: not as wanted"
 else
-    echo "check-library: no -fsanitize=address here: accesses were not watched"
+    echo "library: no -fsanitize=address here: accesses were not watched"
 fi
 
 build show "$scratch/show" || fail "show.c was not built"
 program=$top/crates/hotsync_cli/out/hotsync_cli
 python=
-if command -v python3 >/dev/null; then python=yes; else echo "check-library: python3 is not here: hotsync.py was not run"; fi
+if command -v python3 >/dev/null; then python=yes; else echo "library: python3 is not here: hotsync.py was not run"; fi
 count=0
 for file in $(find demo examples -name '*.pdb' -o -name '*.prc' | sort); do
     "$scratch/show" "$file" >"$scratch/shown" 2>/dev/null
@@ -104,21 +103,20 @@ for name in bad-line categories conflict pulled-cable; do merges "examples/$name
 # The handheld in memory says and leaves what that of each session of the examples, of the demo and of the cases said and left.
 build device "$scratch/device" || fail "device.c was not built"
 if [ -x "$program" ]; then
-    DEVICE=$scratch/device scripts/device-frames >"$scratch/sessions" || fail "device.c isn't what hotsync device is"
-    sessions=$(sed 's/^device-frames: \([0-9]*\) .*/\1/' "$scratch/sessions")
+    sessions=0
     if [ -n "$python" ]; then
         cp -r examples/conflict "$scratch/conflict"
         "$program" run "$scratch/conflict/handheld" "$scratch/conflict/desktop" --date=2001-09-09T01:46:40 \
             "--trace=$scratch/trace" >/dev/null 2>&1
         HOTSYNC_LIBRARY=$scratch/lib/libhotsync.so python3 -B examples/library/each.py \
             "$scratch/conflict/handheld/MemoDB.pdb" "$scratch/trace" || fail "each.py: not as wanted"
-        DEVICE=$scratch/device scripts/device-rows >"$scratch/rows" || fail "device.c isn't what hotsync device is"
-        sessions=$((sessions + $(sed 's/^device-rows: \([0-9]*\) .*/\1/' "$scratch/rows")))
+        DEVICE=$scratch/device scripts/device-sessions >"$scratch/sessions" || fail "device.c isn't what hotsync device is"
+        sessions=$(sed 's/^device-sessions: \([0-9]*\) .*/\1/' "$scratch/sessions")
         HOTSYNC_LIBRARY=$scratch/lib/libhotsync.so DEVICE="python3 -B $top/examples/library/hotsync.py device" \
-            scripts/device-frames >/dev/null || fail "hotsync.py isn't what hotsync device is"
+            scripts/device-sessions examples >/dev/null || fail "hotsync.py isn't what hotsync device is"
     fi
 else
     sessions=0
-    echo "check-library: the program was not built: what the library shows, merges and answers was not compared with it"
+    echo "library: the program was not built: what the library shows, merges and answers was not compared with it"
 fi
-echo "check-library: as its callers want it, over $count files, $merges pairs of folders and $sessions sessions"
+echo "library: as its callers want it, over $count files, $merges pairs of folders and $sessions sessions"
