@@ -37,8 +37,9 @@ pub trait Port {
         ensures given { given self.new ≡ given self.old }
         ensures taken { taken self.new ≡ taken self.old }
 
-        // The handheld says its wake, and nothing is under way.
-        ensures first { OnOk result (IsFirstTold (palm self.new)) }
+        // Nothing happens to the handheld. It says its wake, and nothing is under way.
+        ensures palm { palm self.new ≡ palm self.old }
+        ensures first { OnOk result (IsFirstTold (palm self.old)) }
 
         ensures cause { HasCause (faults self.old) (faults self.new)
             (IsErrOf result PortFault.Failed) };

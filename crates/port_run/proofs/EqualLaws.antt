@@ -76,9 +76,9 @@ module _ {cable : Cable} {device : Device} {after : Option Palm} {desk desk_afte
       }
 
 pub ends-equal : (cable : Cable) (before after : SyncTold) (status : Status) (report : CableReport) → (ran : SessionRan cable before after status report)
-    → report.end ≡ Ended → IfSome ran.opened.palm (λ (palm : Palm). IsAtRest palm.hand.device
+    → report.end ≡ Ended → IfSome before.port.palm (λ (palm : Palm). IsAtRest palm.hand.device
     → EndsEqual cable palm.hand.device after.port.palm before.desk after.desk)
-ends-equal cable before after status report ran end = go ran.opened.palm ran.both where
+ends-equal cable before after status report ran end = go before.port.palm ran.both where
   go : (told : Option Palm)
       → IfSome told (λ (palm : Palm). IsAtRest palm.hand.device
       → BothLeft cable palm.hand.device after.port.palm before.desk after.desk ran.link.last report)

@@ -175,7 +175,8 @@ module _ {cable : Cable} {slots : List SlotValue} (before after : SyncTold) {por
     changed = desktop_ran opened.finished_is opened.stands had.changed;
     tells = record { said = talk.said; over = had.over; traced = talk.traces.stands.status_is };
     traced = traced_from before.trace opened.trace_taken opened.trace_later talk.traces.traced_is;
-    both = both_sync had.link.last port.palm had.both;
+    both = subst (λ (told : Option Palm). IfSome told (λ (palm : Palm). IsAtRest palm.hand.device
+        → BothLeft cable palm.hand.device after.port.palm before.desk after.desk had.link.last report)) opened.unsaid.palm (both_sync had.link.last port.palm had.both);
   }
 
   not_in_use : (end : End) → status ≡ InUse end → ⊥

@@ -32,9 +32,9 @@ pub record EndsEqual (cable : Cable) (device : Device) (after : Option Palm)
       → HasEqualSides (holding palm.hand.device
       (slot_at (merged_slots meeting given) meeting.picked) name)
 
--- so a session leaves both sides where the opened port told a handheld on which nothing was open
+-- so a session leaves both sides where the port told a handheld on which nothing was open
 abbrev pub LeavesEqual : {cable : Cable} {before after : SyncTold} {status : Status}
     {report : CableReport} → SessionRan cable before after status report → Type 0
 LeavesEqual {cable} {before} {after} ran =
-    IfSome ran.opened.palm (λ (palm : Palm). IsAtRest palm.hand.device
+    IfSome before.port.palm (λ (palm : Palm). IsAtRest palm.hand.device
     → EndsEqual cable palm.hand.device after.port.palm before.desk after.desk)

@@ -52,9 +52,9 @@ pub record TellsSession (report : CableReport) (status : Status) : Type 0 where
   pub over : IsOver report.end report.cause said
   pub traced : IsTracedStatus said status
 
--- What was said over the port that was opened, what became of the desktop's folder, what the status
--- says of both, and what the trace took; and where the opened port tells a handheld on which
--- nothing is open, what is left of both sides.
+-- What was said over the port once it was opened, what became of the desktop's folder, what the
+-- status says of both, and what the trace took; and where the port tells a handheld on which nothing
+-- is open, what is left of both sides.
 pub record SessionRan (cable : Cable) (before after : SyncTold) (status : Status)
     (report : CableReport) : Type 0 where
   pub desktop : HasDesktop before.desk.contents
@@ -66,7 +66,7 @@ pub record SessionRan (cable : Cable) (before after : SyncTold) (status : Status
   pub tells : TellsSession report status
   pub traced : TakesTrace cable.trace (cable_text (log_entries report.log)) before.trace after.trace
       status
-  pub both : IfSome opened.palm (λ (palm : Palm). IsAtRest palm.hand.device
+  pub both : IfSome before.port.palm (λ (palm : Palm). IsAtRest palm.hand.device
       → BothLeft cable palm.hand.device after.port.palm before.desk after.desk link.last report)
 
 -- a session over opened objects, with a desktop of these slots, whose trace was to be written then

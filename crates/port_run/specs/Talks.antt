@@ -25,10 +25,11 @@ use Rattle.port_run.specs.Reports.{IsOver, IsSilent}
 use Rattle.port_run.specs.Told.{PortTold}
 use Rattle.port_run.specs.declared.synced.CableReport.{CableReport}
 
--- nothing was said or heard
+-- nothing was said or heard, and the handheld behind the port is as it was
 pub record StaysUnsaid (before after : PortTold) : Type 0 where
   pub given : after.given ≡ before.given
   pub taken : after.taken ≡ before.taken
+  pub palm : after.palm ≡ before.palm
 
 -- The desktop's folder, whose files are these once a journal that was left is finished, was changed
 -- once at most, whatever came over the port: an ended session has put some files over the others,

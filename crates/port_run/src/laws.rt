@@ -8,8 +8,8 @@ ghost use Rattle.port_run.specs.Told.{SyncTold};
 ghost use Rattle.port_run.specs.declared.synced.CableReport.{CableReport};
 ghost use Rattle.run_words.specs.Cables.{Cable};
 
-/// An ended session over a cable leaves both sides equal, where the opened port told a handheld on which
-/// nothing was open.
+/// An ended session over a cable leaves both sides equal, where the port told a handheld on which nothing
+/// was open.
 pub fn an_ended_session_over_a_cable_leaves_both_sides_equal()
     ensures { (cable : Cable) (before after : SyncTold) (status : Status) (report : CableReport)
         → (ran : SessionRan cable before after status report) → report.end ≡ Ended

@@ -16,6 +16,7 @@ pub fn open_port<P: Port>(port: P, path: &str) -> Result<P, (Status, P)>
         → Rose (P.faults port) (P.faults refused.1)) }
 
     ensures first { IfOk result (λ port. IsFirstTold (P.palm port)) }
+    ensures palm { P.palm (port_in result) ≡ P.palm port }
 
     ensures given { P.given (port_in result) ≡ P.given port }
     ensures taken { P.taken (port_in result) ≡ P.taken port }

@@ -14,7 +14,7 @@ returns-in-Ok-open_trace-clause-ran g c =
       stays = record { contents = c.in-Ok.ensures.contents; moments = c.in-Ok.ensures.moments };
       palm_opened = c.in-Ok.ensures.opened;
       palm_later = c.in-Ok.ensures.later;
-      unsaid = record { given = c.in-Ok-open_port.ensures.given; taken = c.in-Ok-open_port.ensures.taken };
+      unsaid = record { given = c.in-Ok-open_port.ensures.given; taken = c.in-Ok-open_port.ensures.taken; palm = c.in-Ok-open_port.ensures.palm };
       port_opened = c.in-Ok-open_port.ensures.opened;
       port_later = c.in-Ok-open_port.ensures.later;
       trace_at_most = c.in-Ok-open_trace.ensures.path;
@@ -34,7 +34,7 @@ returns-in-Err-open_port-clause-ran g c =
     (ap (λ p. port_told g.P.Port p) end.ensures.port) end.ensures.report
     (record { side = c.in-Ok.ensures.side; databases = store.databases; user = store.user; holds = c.in-Ok.ensures.held })
     (record { contents = c.in-Ok.ensures.contents; moments = c.in-Ok.ensures.moments }) c.in-Ok.ensures.opened c.in-Err-open_port.refusal
-    end.ensures.status (inl refused.refused) (record { given = refused.given; taken = refused.taken }) refused.path refl (inl refl) refused.failed
+    end.ensures.status (inl refused.refused) (record { given = refused.given; taken = refused.taken; palm = refused.palm }) refused.path refl (inl refl) refused.failed
     (λ e. absurd (port_not_trace c.in-Err-open_port.refusal refused.refused e))
 
 pub returns-in-Err-open_trace-clause-ran : goal.returns-in-Err-open_trace-clause-ran
@@ -51,5 +51,5 @@ returns-in-Err-open_trace-clause-ran g c =
     (ap (λ p. port_told g.P.Port p) end.ensures.port) end.ensures.report
     (record { side = c.in-Ok.ensures.side; databases = store.databases; user = store.user; holds = c.in-Ok.ensures.held })
     (record { contents = c.in-Ok.ensures.contents; moments = c.in-Ok.ensures.moments }) c.in-Ok.ensures.opened c.in-Err-open_trace.refusal
-    end.ensures.status (inr refused.refused) (record { given = port.given; taken = port.taken }) (inr port.opened) refused.taken refused.path
+    end.ensures.status (inr refused.refused) (record { given = port.given; taken = port.taken; palm = port.palm }) (inr port.opened) refused.taken refused.path
     (λ e. absurd (trace_not_port c.in-Err-open_trace.refusal refused.refused e)) (λ e. refused.failed (ap (λ s. Err s) e))

@@ -7,7 +7,7 @@ returns-in-Ok-open_trace-clause-ran g c =
     let before = sync_told g.P.Port g.D.Folder g.T.Sink c.args.port c.args.desk c.args.trace.now in
     let after = sync_told g.P.Port g.D.Folder g.T.Sink c.traced_talk.result.port c.traced_talk.result.desk c.traced_talk.new.trace in
     by_session before after (record {
-      unsaid = record { given = c.in-Ok.ensures.given; taken = c.in-Ok.ensures.taken };
+      unsaid = record { given = c.in-Ok.ensures.given; taken = c.in-Ok.ensures.taken; palm = c.in-Ok.ensures.palm };
       port_opened = c.in-Ok.ensures.opened;
       port_later = c.in-Ok.ensures.later;
       desktop = c.in-Ok-open_desktop.ensures.desktop;
