@@ -1,5 +1,5 @@
 -- The command of a form, made argument by argument.
-use Rattle.std.proofs.Common.{◌≡◌, ◌+◌, List, [], ◌∷◌, ◌++◌, map, append-nil, append_assoc, refl, sym, ap, ◌∙◌}
+use Rattle.std.proofs.Common.{◌≡◌, ◌+◌, ◌<◌, ℕ, List, [], ◌∷◌, ◌++◌, map, drop, get_or, length, append-nil, append_assoc, refl, sym, ap, ◌∙◌, add-one, drop-cons}
 use Rattle.clap.specs.Words.{App, Rule, with_rule}
 use Rattle.run_clap.specs.Apps.{empty_app, flag_rule, form_app, form_rules, option_rule, plain_rule, with_rules}
 use Rattle.run_words.specs.Forms.{WordFormValue}
@@ -34,3 +34,12 @@ form_app-made form empty plain named whole a b c d =
     d ∙ ap (λ (app : App). with_rules app flags) c ∙ sym (with_rules-append plain options flags)
     ∙ ap (λ (app : App). with_rules app (options ++ flags)) (b ∙ ap (λ (app : App). with_rules app (map plain_rule form.plain)) a)
     ∙ sym (with_rules-append empty_app (map plain_rule form.plain) (options ++ flags))
+
+-- one argument more: with those that are left it is the same command
+pub one_more : {A B : Type 0} (rule : B → Rule) (view : A → B) (xs : List A) (place : ℕ) (none : A) (app next : App) {made : Rule} → place < length xs
+    → made ≡ rule (view (get_or xs place none)) → next ≡ with_rule app made
+    → with_rules next (map rule (map view (drop (place + 1) xs))) ≡ with_rules app (map rule (map view (drop place xs)))
+one_more {A = A} rule view xs place none app next less is more =
+    let here : drop place xs ≡ get_or xs place none ∷ drop (place + 1) xs = rw add-one (drop-cons xs place none less) in
+    ap (λ (a : App). with_rules a (map rule (map view (drop (place + 1) xs)))) (more ∙ ap (with_rule app) is)
+    ∙ sym (ap (λ (left : List A). with_rules app (map rule (map view left))) here)
