@@ -61,6 +61,13 @@ abbrev pub Along : (ℕ → Device → Type 0) → ℕ → List Act → Device �
 Along P writes [] device = P writes device
 Along P writes (one ∷ acts) device = P writes device × Along P (stepped (is_write one) writes) acts (acted one device).1
 
+-- what holds on the way, by what holds
+pub along_map : {P Q : ℕ → Device → Type 0} → ((writes : ℕ) (device : Device) → P writes device → Q writes device)
+    → (writes : ℕ) (acts : List Act) (device : Device) → Along P writes acts device → Along Q writes acts device
+along_map each writes [] device along = each writes device along
+along_map each writes (one ∷ acts) device along =
+    (each writes device along.0, along_map each (stepped (is_write one) writes) acts (acted one device).1 along.1)
+
 -- an act that writes nothing, and leaves this handheld as it is
 pub record IsStill (device : Device) (one : Act) : Type 0 where
   pub quiet : is_write one ≡ false

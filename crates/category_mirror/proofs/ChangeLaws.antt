@@ -15,13 +15,13 @@ use Rattle.desk_store.specs.declared.change.DbChange.{DbChange}
 use Rattle.session_plan.specs.Fits.{Rise}
 use Rattle.category_mirror.specs.declared.job.FilingJob.{FilingJob}
 use Rattle.category_mirror.specs.Blocks.{MergeValue}
-use Rattle.category_mirror.specs.Changes.{change_filed, change_for, changes_filed, cleared_archive, copied_database, copied_record, is_changed}
+use Rattle.category_mirror.specs.Changes.{change_filed, change_for, changes_filed, cleared_archive, cleared_database, cleared_record, is_changed}
 use Rattle.category_mirror.specs.Courses.{did_of, report_filed, reports_filed}
 use Rattle.session_parts.specs.declared.report.Did.{Did}
 use Rattle.session_parts.specs.declared.report.DbReport.{DbReport}
 use Rattle.mirrors.proofs.NewsLaws.{SplitAt}
 use Rattle.category_mirror.specs.Jobs.{names_filed}
-use Rattle.category_mirror.specs.Refiled.{refiled_rows}
+use Rattle.category_mirror.specs.Refiled.{refiled_base, refiled_rows}
 
 -- a change of the database of a name, such as a desktop takes
 pub record IsChangeOf (name : List ℕ) (change : DbChange) : Type 0 where
@@ -35,12 +35,12 @@ IsOneOf name (change ∷ []) = IsChangeOf name change
 IsOneOf name (change ∷ more ∷ changes) = ⊥
 
 archive_fits : (archive : DatabaseValue) (b : Bool) → (holds_resources archive.head.attributes || (length archive.records == 0)) ≡ b
-    → IfSome (if b then None else Some (copied_database true archive)) (λ (copy : DatabaseValue). IsOf archive.head.name copy × (0 < length copy.records))
-unfolding copied_database
+    → IfSome (if b then None else Some (cleared_database archive)) (λ (copy : DatabaseValue). IsOf archive.head.name copy × (0 < length copy.records))
+unfolding cleared_database
 archive_fits archive true is = tt
 archive_fits archive false is =
     let both = or_parts (holds_resources archive.head.attributes) (length archive.records == 0) is in
-    let count = length-map archive.records (copied_record true) in (
+    let count = length-map archive.records cleared_record in (
       record { records = both.0; named = refl },
       grind (arith, nat_tests, both.1, count),
     )
@@ -54,8 +54,8 @@ cleared_fits name (Some archive) is =
 
 one_by : (name : List ℕ) (merge : MergeValue) (rows base : DatabaseValue) (archive : Option DatabaseValue) (b : Bool) → is_changed merge rows base ≡ b
     → rows.head.name ≡ name → base.head.name ≡ name → IfSome archive (λ (a : DatabaseValue). a.head.name ≡ name)
-    → IsOneOf name (if b then record { rows = refiled_rows merge rows; base = copied_database false base; archive = cleared_archive archive } ∷ [] else [])
-unfolding refiled_rows copied_database
+    → IsOneOf name (if b then record { rows = refiled_rows merge rows; base = refiled_base merge base; archive = cleared_archive archive } ∷ [] else [])
+unfolding refiled_base refiled_rows
 one_by name merge rows base archive false is rows_named base_named archive_named = tt
 one_by name merge rows base archive true is rows_named base_named archive_named =
     let both = and_parts (not (holds_resources rows.head.attributes)) _ is in

@@ -22,8 +22,9 @@ use Rattle.session_parts.proofs.RestLaws.{greeting_same, listing_same}
 use Rattle.session_plan.specs.Fits.{Rise}
 use Rattle.session_plan.specs.Tasks.{names_of, with_names}
 use Rattle.session_plan.proofs.RiseLaws.{rise-with_names}
-use Rattle.category_mirror.specs.Sides.{Filing, before_end, device_among, filed_database, filed_device, filed_where, filing_acts, heads_of, is_among, job_acts, jobs, names, shelves_of}
+use Rattle.category_mirror.specs.Sides.{Filing, before_end, before_mark, device_among, filed_database, filed_device, filed_where, filing_acts, filing_changes, heads_of, is_among, job_acts, jobs, mark_acts, names, shelves_of}
 use Rattle.category_mirror.proofs.EvolveLaws.{IsBehind, Turns, behind_none, free_none, jobs_named, turns}
+use Rattle.category_mirror.proofs.MarkLaws.{marks_go}
 use Rattle.category_mirror.proofs.NamedMaps.{KeepsNames, among-given, among-kept, found-among, listed_of, map-is}
 use Rattle.category_mirror.proofs.OneLaws.{Goes, goes_none, goes_one, goes_then, goes_to}
 
@@ -120,20 +121,35 @@ module _ (filing : Filing) where
     pub all_turns : Turns filing (names filing) [] filing.device
     all_turns = turns filing (names filing) [] filing.device (behind_none filing rests) names_rise (free_none (names filing))
 
-    pub filed_is : all_turns.after ≡ filed_device filing
-    unfolding filed_device
-    filed_is = λ k. record {
+    -- all blocks are written, and it is not marked yet
+    abbrev pub blocks_device : Device
+    blocks_device = record filing.device { databases = map (filed_database filing) held }
+
+    blocks_are : all_turns.after ≡ blocks_device
+    blocks_are = λ k. record {
       databases = all_are all_turns.after all_turns.behind k;
       user = all_turns.behind.user k;
       handles = (all_turns.behind.rests.closed ∙ sym rests.closed) k;
     }
 
-    pub before_goes : Goes (before_end filing) filing.device (filed_device filing)
-    unfolding before_end jobs
-    before_goes =
+    pub before_mark_goes : Goes (before_mark filing) filing.device blocks_device
+    unfolding before_mark jobs
+    before_mark_goes =
         goes_then greeting (listings list_count ++ flat_map (job_acts filing) (jobs_named filing (names filing))) (greeting_goes filing.device)
         (goes_then (listings list_count) (flat_map (job_acts filing) (jobs_named filing (names filing)))
-        (listings_go filing.device list_count few_lists) (goes_to all_turns.goes filed_is))
+        (listings_go filing.device list_count few_lists) (goes_to all_turns.goes blocks_are))
+
+    pub mark_goes : Goes (mark_acts filing) blocks_device (filed_device filing)
+    unfolding mark_acts filed_device
+    mark_goes = marks_go blocks_device rests.proper.bounded.user (filing_changes filing)
+
+    pub before_goes : Goes (before_end filing) filing.device (filed_device filing)
+    unfolding before_end
+    before_goes = goes_then (before_mark filing) (mark_acts filing) before_mark_goes mark_goes
+
+    -- all databases of the session are all of the handheld's
+    pub among_all : (device_among filing (names filing)).databases ≡ map (filed_database filing) held
+    among_all = sym (among_are (names filing) all_turns.after all_turns.behind) ∙ all_are all_turns.after all_turns.behind
 
     pub filed_closed : (filed_device filing).handles ≡ no_handles
     unfolding filed_device

@@ -34,19 +34,20 @@ use Rattle.session_parts.specs.declared.stop.Stop.TheVariants as stop
 use Rattle.session_parts.proofs.LinkWords.{Act, Does, Ended, Halted, LinkFault, SessionFault, SessionValue, Stops, Talk, ending, link_ended, reading_user, saying, text}
 use Rattle.session_parts.proofs.MeetLaws.{greeted_seated}
 use Rattle.session_parts.proofs.StretchLaws.{Tells}
+use Rattle.mirrors.specs.Asks.{Asks}
 use Rattle.session_plan.specs.Commits.{Commits}
 use Rattle.category_mirror.specs.declared.job.FilingJob.{FilingJob}
 use Rattle.session_parts.specs.declared.report.DbReport.{DbReport}
 use Rattle.session_parts.specs.declared.outcome.Outcome.{Outcome}
 use Rattle.category_mirror.specs.Blocks.{MergeValue}
 use Rattle.category_mirror.specs.Changes.{CommitsFiled, changes_filed, entries_filed, slots_filed}
-use Rattle.category_mirror.specs.Courses.{AfterCommit, AfterFiling, AfterMeeting, Files, FilingRan, closed, picked_for, reports_filed, report_filed, stopped}
-use Rattle.category_mirror.specs.FilingActs.{SaysFiled, files_under}
+use Rattle.category_mirror.specs.Courses.{AfterCommit, AfterFiling, AfterMark, AfterMeeting, Files, FilingRan, Marks, closed, picked_for, reports_filed, report_filed, stopped}
+use Rattle.category_mirror.specs.FilingActs.{SaysFiled, files_under, marks_for}
 use Rattle.category_mirror.specs.FilingEnds.{FilingEnds, IsCommitted, IsFilingStop, IsUncommitted, StandsFiled, StopsFor, seat_of, users_in}
 use Rattle.session_plan.specs.Jobs.{names_with}
 use Rattle.pdb_values.specs.declared.user.UserInfo.{UserInfo}
 use Rattle.category_mirror.specs.Jobs.{filing_job, filing_jobs}
-use Rattle.category_mirror.specs.Sides.{Filing, before_end, filed_slots, filing_acts, filing_changes, filing_of, filing_reports, heads_of, job_acts, jobs, merge_of, names, shelves_of}
+use Rattle.category_mirror.specs.Sides.{Filing, before_end, before_mark, filed_slots, filing_acts, filing_changes, filing_of, filing_reports, heads_of, job_acts, jobs, mark_acts, merge_of, names, shelves_of}
 use Rattle.category_mirror.proofs.DoneLaws.{names_rise}
 use Rattle.category_mirror.proofs.EvolveLaws.{behind_none, free_none, jobs_named}
 use Rattle.category_mirror.proofs.MeetLaws.{Joins, later_stop, meeting_front, meets_join, meets_lead, met_stop, seat_greeted, seat_within, seated_says, unmet_stops}
@@ -208,9 +209,17 @@ module _ {L F : Type 0} (talk : L → Option Talk) (since : L → L → Type 0) 
         abbrev all_files : List Act
         all_files = flat_map (job_acts filing) all_jobs
 
-        before_is : meeting_front filing ++ all_files ≡ before_end filing
-        unfolding before_end jobs
+        before_is : meeting_front filing ++ all_files ≡ before_mark filing
+        unfolding before_mark jobs
         before_is = append_assoc greeting (listings (max 1 (length filing.device.databases))) all_files
+
+        -- what begins all up to the mark begins all but the end
+        mark_stop : {new : L} → Stops talk since fault downs (map text (before_mark filing)) old new
+            → Stops talk since fault downs (map text (before_end filing)) old new
+        unfolding before_end
+        mark_stop {new} stops =
+            rw (map-append text (before_mark filing) (mark_acts filing))
+            (stops_more talk since fault downs (map text (before_mark filing)) (map text (mark_acts filing)) old new stops)
 
         -- what begins the meeting begins it all
         meets_stop : {answer : Result (Met L) (Halted L)} {new : L} (meets : Meets talk since fault downs (users_in filing) false old answer)
@@ -218,10 +227,10 @@ module _ {L F : Type 0} (talk : L → Option Talk) (since : L → L → Type 0) 
         meets_stop {new = new} meets stops =
             let lead = meets_lead filing rests tells meets in
             let first : List Act = meeting_acts meets.count in
-            subst (λ (acts : List Act). Stops talk since fault downs (map text acts) old new)
+            mark_stop (subst (λ (acts : List Act). Stops talk since fault downs (map text acts) old new)
             (sym (append_assoc first lead.rest all_files) ∙ ap (λ (acts : List Act). acts ++ all_files) lead.is ∙ before_is)
             (rw (map-append text first (lead.rest ++ all_files))
-            (stops_more talk since fault downs (map text first) (map text (lead.rest ++ all_files)) old new stops))
+            (stops_more talk since fault downs (map text first) (map text (lead.rest ++ all_files)) old new stops)))
 
         -- both sides did not meet
         unmet_ends : (folder : F) (halted : Halted L) {left : Outcome L F} → MeetsOrNot talk since fault downs (users_in filing) false old (Err halted)
@@ -279,7 +288,7 @@ module _ {L F : Type 0} (talk : L → Option Talk) (since : L → L → Type 0) 
 
           -- what went out of the blocks' requests begins it all
           files_stop : {now : SessionValue L} {answer : Result (Vec (Option MergeValue)) SessionFault} → (files : Spans now answer)
-              → Stops talk since fault downs (map text (before_end filing)) old now.link
+              → Stops talk since fault downs (map text (before_mark filing)) old now.link
           files_stop {now} files =
               let lead = files_lead filing (names filing) [] filing.device (talk met.linked.link) files.stretches now_tells (behind_none filing rests)
               (names_rise filing) (free_none (names filing)) files.firsts in
@@ -300,28 +309,61 @@ module _ {L F : Type 0} (talk : L → Option Talk) (since : L → L → Type 0) 
           unfolding filing_reports jobs
           reports_all = reports-are filing all_jobs
 
+          -- the handheld is marked where the desktop's rows change, and the desktop commits
+          marks_end : (now : SessionValue L) {changes : List DbChange} → Does talk (before_mark filing) old now.link
+              → Stops talk since fault downs (map text (before_mark filing)) old now.link → (reports : Vec DbReport) → reports.items ≡ filing_reports filing
+              → changes ≡ filing_changes filing → now.user ≡ filing.device.user → {left : Outcome L F}
+              → Marks talk since fault downs contents moments paths faults changes reports now here left → Ends folder left
+          unfolding before_end mark_acts
+          marks_end now {changes} does stops reports told are user {left} marks = by marks.answer asks marks.cause marks.goes
+            where
+              marks_are : marks_for changes now.user ≡ mark_acts filing
+              marks_are = ap (λ (cs : List DbChange). marks_for cs now.user) are ∙ ap (marks_for (filing_changes filing)) user
+
+              asks : Asks talk since fault downs (mark_acts filing) now marks.now marks.answer
+              asks = subst (λ (acts : List Act). Asks talk since fault downs acts now marks.now marks.answer) marks_are marks.asks
+
+              stops_all : Stops talk since fault downs (map text (before_end filing)) old marks.now.link
+              stops_all =
+                  rw (map-append text (before_mark filing) (mark_acts filing))
+                  (stops_then talk since fault downs since_more (before_mark filing) (map text (mark_acts filing)) old now.link marks.now.link does stops asks.stops)
+
+              by : (answer : Result (Unit {0}) SessionFault) → Asks talk since fault downs (mark_acts filing) now marks.now answer
+                  → IfErr answer (IsLater (talk marks.now.link) (fault marks.now.link))
+                  → AfterMark talk since fault downs contents moments paths faults changes reports marks.now here answer left → Ends folder left
+              by (Err why) asks cause goes =
+                  ends_before folder goes stops_all (later_stop talk fault filing old marks.now.link why cause)
+                  (λ other is_so. seated_says filing _ other seated is_so)
+              by (Ok done) asks cause carries =
+                  filed_ends marks.now here changes reports carries.answer are
+                  (λ none. subst (IsDesk (contents folder)) (sym (slots-none filing own_ordered (sym are ∙ none))) desk_is)
+                  (ap (λ (cs : List DbChange). slots_filed cs here) are ∙ slots-are filing own_ordered folder picked_within)
+                  (record {
+                    does = does_then talk (before_mark filing) (mark_acts filing) old now.link marks.now.link does asks.does;
+                    stops = stops_all;
+                    seated = seated;
+                  }) told carries.commits carries.goes
+
           files_ends : (now : SessionValue L) (answer : Result (Vec (Option MergeValue)) SessionFault) {left : Outcome L F} → Spans now answer
               → AfterFiling talk since fault downs contents moments paths faults all_jobs now here answer left → Ends folder left
           files_ends now (Err cause) files goes =
-              ends_before folder goes (files_stop files) (later_stop talk fault filing old now.link cause files.cause) (λ why is_so. seated_says filing _ why seated is_so)
+              ends_before folder goes (mark_stop (files_stop files)) (later_stop talk fault filing old now.link cause files.cause)
+              (λ why is_so. seated_says filing _ why seated is_so)
           files_ends now (Ok merges) files (inr goes) =
-              ends_before folder goes (files_stop files) tt (λ why is_so. seated_says filing _ why seated is_so)
+              ends_before folder goes (mark_stop (files_stop files)) tt (λ why is_so. seated_says filing _ why seated is_so)
           files_ends now (Ok merges) {left} files (inl turns) =
               let join = files_join filing (names filing) [] filing.device (talk met.linked.link) files.stretches merges.items now_tells (behind_none filing rests)
               (names_rise filing) (free_none (names filing)) files.firsts files.said in
               let behind : Does talk all_files met.linked.link now.link =
               subst (λ (acts : List Act). Does talk acts met.linked.link now.link) join.acts_same files.does in
-              let does : Does talk (before_end filing) old now.link =
+              let does : Does talk (before_mark filing) old now.link =
               subst (λ (acts : List Act). Does talk acts old now.link) before_is
               (does_then talk (meeting_front filing) all_files old met.linked.link now.link front_does behind) in
               let changes_are : changes_filed (shelves_of filing) all_jobs merges.items ≡ filing_changes filing =
               ap (changes_filed (shelves_of filing) all_jobs) join.merges_are ∙ changes_all in
               let told : turns.reports.items ≡ filing_reports filing =
               turns.told ∙ ap (reports_filed (shelves_of filing) all_jobs) join.merges_are ∙ reports_all in
-              filed_ends now here (changes_filed (shelves_of filing) all_jobs merges.items) turns.reports turns.carries.answer changes_are
-              (λ none. subst (IsDesk (contents folder)) (sym (slots-none filing own_ordered (sym changes_are ∙ none))) desk_is)
-              (ap (λ (cs : List DbChange). slots_filed cs here) changes_are ∙ slots-are filing own_ordered folder picked_within)
-              (record { does = does; stops = files_stop files; seated = seated }) told turns.carries.commits turns.carries.goes
+              marks_end now does (files_stop files) turns.reports told changes_are (files.user ∙ joined.user) turns.marks
 
 -- ---- the whole
 

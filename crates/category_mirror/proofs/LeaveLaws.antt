@@ -15,6 +15,7 @@ use Rattle.desk_store.specs.declared.change.DbChange.{DbChange}
 use Rattle.desk_store.specs.declared.fault.CommitFault.{CommitFault}
 use Rattle.desk_store.specs.declared.fault.CommitFault.TheVariants as commit
 use Rattle.desktop_session.proofs.StopLaws.{fell_none, stops_none, stops_then}
+use Rattle.mirrors.specs.Asks.{Asks}
 use Rattle.session_plan.specs.Commits.{Commits}
 use Rattle.session_parts.specs.Leaving.{Leaves}
 use Rattle.session_parts.specs.Meets.{MeetsOrNot}
@@ -29,8 +30,8 @@ use Rattle.session_parts.specs.declared.report.DbReport.{DbReport}
 use Rattle.session_parts.specs.declared.outcome.Outcome.{Outcome}
 use Rattle.category_mirror.specs.Blocks.{MergeValue}
 use Rattle.category_mirror.specs.Changes.{CommitsFiled, changes_filed, entries_filed}
-use Rattle.category_mirror.specs.Courses.{AfterCommit, AfterFiling, AfterMeeting, FilingRan, closed, picked_for, stopped}
-use Rattle.category_mirror.specs.FilingActs.{SaysFiled, files_under}
+use Rattle.category_mirror.specs.Courses.{AfterCommit, AfterFiling, AfterMark, AfterMeeting, FilingRan, Marks, closed, picked_for, stopped}
+use Rattle.category_mirror.specs.FilingActs.{SaysFiled, files_under, marks_for}
 use Rattle.category_mirror.specs.Leaving.{LeavesFolder}
 
 -- ---- causes
@@ -135,13 +136,21 @@ module _ {L F : Type 0} (talk : L → Option Talk) (since : L → L → Type 0) 
         desk = both.desk;
       }
 
+      after_mark : (changes : List DbChange) (reports : Vec DbReport) {old : SessionValue L} (desk : DeskValue F) {left : Outcome L F}
+          → Marks talk since fault downs contents moments paths faults changes reports old desk left → LeavesBoth old.link desk.folder left
+      after_mark changes reports {old} desk {left} marks = by marks.answer marks.asks marks.goes
+        where
+          by : (answer : Result (Unit {0}) SessionFault) → Asks talk since fault downs (marks_for changes old.user) old marks.now answer
+              → AfterMark talk since fault downs contents moments paths faults changes reports marks.now desk answer left → LeavesBoth old.link desk.folder left
+          by (Ok done) asks carries = both_behind asks.stops asks.does (after_commit changes reports marks.now desk carries.answer carries.commits carries.goes)
+          by (Err cause) asks goes = both_stopped asks.stops goes (λ other. cc)
+
       after_filing : (jobs : List FilingJob) {old now : SessionValue L} (desk : DeskValue F) (answer : Result (Vec (Option MergeValue)) SessionFault)
           {left : Outcome L F}
           → SpansEach talk since fault downs (files_under (shelves_in desk)) (SaysFiled (shelves_in desk)) jobs (λ (made : Vec (Option MergeValue)). made.items) old now answer
           → AfterFiling talk since fault downs contents moments paths faults jobs now desk answer left → LeavesBoth old.link desk.folder left
-      after_filing jobs {now = now} desk (Ok merges) files (inl turns) =
-          both_behind files.stops files.does
-          (after_commit (changes_filed (shelves_in desk) jobs merges.items) turns.reports now desk turns.carries.answer turns.carries.commits turns.carries.goes)
+      after_filing jobs desk (Ok merges) files (inl turns) =
+          both_behind files.stops files.does (after_mark (changes_filed (shelves_in desk) jobs merges.items) turns.reports desk turns.marks)
       after_filing jobs desk (Ok merges) files (inr is) = both_stopped files.stops is (λ other. cc)
       after_filing jobs desk (Err cause) files is = both_stopped files.stops is (λ other. cc)
 

@@ -1,10 +1,12 @@
 pub mod AgainLaws
 pub mod AlongLaws
+pub mod BaseLaws
 pub mod BlockLaws
 pub mod ChangeLaws
 pub mod CommitLaws
 pub mod CountLaws
 pub mod DoneLaws
+pub mod EditLaws
 pub mod EndLaws
 pub mod EvolveLaws
 pub mod FileLaws
@@ -12,6 +14,7 @@ pub mod JobLaws
 pub mod LabelLaws
 pub mod LeaveLaws
 pub mod MadeAgain
+pub mod MarkLaws
 pub mod MeetLaws
 pub mod NamedMaps
 pub mod OneLaws

@@ -1,21 +1,25 @@
 -- A merge that is made again, and a filing that stopped in front of its commit.
 use Rattle.std.proofs.lemmas.Simd.{map-map}
 use Rattle.std.proofs.Common.{◌≡◌, ◌∙◌, ap, refl, sym, ℕ, Bool, true, false, cond, List, [], ◌∷◌, map}
-use Rattle.std.specs.Prelude.{Option, Some, None, not, option_and_then, slice_set}
+use Rattle.std.specs.Prelude.{Option, Some, None, flat_map, not, option_and_then, slice_set}
 use Rattle.std.specs.Option.{option_map}
 use Rattle.pdb_values.specs.Databases.{DatabaseValue}
 use Rattle.pdb_values.specs.NamedDatabases.{database_of}
 use Rattle.pdb_values.specs.declared.head.DbHead.{DbHead}
 use Rattle.pdb_values.proofs.NamedLaws.{database_of-name}
 use Rattle.pdb_values.specs.declared.slot.Slot.TheVariants as slot
+use Rattle.pdb_values.specs.declared.user.UserInfo.{UserInfo}
+use Rattle.desk_store.specs.declared.change.DbChange.{DbChange}
 use Rattle.session_parts.specs.declared.skip.Skip.{Skip}
+use Rattle.session_plan.specs.Jobs.{names_with}
 use Rattle.category_mirror.specs.declared.job.FilingJob.{FilingJob}
 use Rattle.category_mirror.specs.Blocks.{MergeValue, block_table, blocks_merge, merged_block, tables_merge}
-use Rattle.category_mirror.specs.FilingActs.{rows_app}
+use Rattle.category_mirror.specs.Changes.{change_filed}
+use Rattle.category_mirror.specs.FilingActs.{marked_user, rows_app}
 use Rattle.category_mirror.specs.Filings as one
 use Rattle.category_mirror.specs.Filings.{block_by, rows_by}
 use Rattle.category_mirror.specs.Jobs.{filing_job}
-use Rattle.category_mirror.specs.Sides.{Filing, app_named, archive_by, change_by, device_among, filed_database, filed_device, filed_shelves, filed_slots, filed_where, heads_of, is_among, job_named, merge_named, merge_of, merge_unless, shelves_of, slot_of, with_merge}
+use Rattle.category_mirror.specs.Sides.{Filing, app_named, archive_by, base_by, change_by, device_among, filed_database, filed_device, filed_shelves, filed_slots, filed_where, filing_changes, heads_of, is_among, job_named, merge_named, merge_of, merge_unless, names, shelves_of, slot_of, with_merge}
 use Rattle.category_mirror.proofs.AgainLaws.{again_before, block_read, made, merged_read, merged_same}
 use Rattle.category_mirror.proofs.EvolveLaws.{merge_none, whole}
 use Rattle.category_mirror.proofs.NamedMaps.{KeepsNames, database_of-map}
@@ -81,12 +85,12 @@ merge_from filing n = by (job_named filing n).skip refl
 
 -- ---- before the commit: some of the databases have their merged tables
 
-module _ (filing : Filing) (done : List (List ℕ)) where
+module _ (filing : Filing) (done : List (List ℕ)) (user : UserInfo) where
   abbrev held : List DatabaseValue
   held = filing.device.databases
 
   abbrev pub next : Filing
-  next = record { device = device_among filing done; slots = filing.slots; picked = filing.picked }
+  next = record { device = record (device_among filing done) { user = user }; slots = filing.slots; picked = filing.picked }
 
   where_head : (d : DatabaseValue) → (filed_where filing done d).head ≡ d.head
   where_head d = by (is_among d.head.name done)
@@ -147,12 +151,20 @@ module _ (filing : Filing) (done : List (List ℕ)) where
           let from = merge_from filing d.head.name in
           λ k. record d { app = block_twice d.app from.0 from.1 (merge_named filing d.head.name) from.2 k }
 
-  pub next_device : filed_device next ≡ filed_device filing
+  next_changes : filing_changes next ≡ filing_changes filing
+  unfolding filing_changes
+  next_changes =
+      ap (λ (heads : List DbHead). flat_map (λ name. change_filed (shelves_of filing) name (merge_named next name)) (names_with heads (shelves_of filing))) next_heads
+      ∙ (λ k. flat_map (λ name. change_filed (shelves_of filing) name (next_merge name k)) (names filing))
+
+  -- it knows no desktop once more where it was to know none
+  pub next_device : marked_user (filing_changes filing) user ≡ marked_user (filing_changes filing) filing.device.user → filed_device next ≡ filed_device filing
   unfolding filed_device device_among
-  next_device =
-      ap (λ (ds : List DatabaseValue). record filing.device { databases = ds })
-      (map-map (filed_database next) (filed_where filing done) held
-      ∙ map-same (λ d. filed_database next (filed_where filing done d)) (filed_database filing) held next_database)
+  next_device stays = λ k. record filing.device {
+    databases = (map-map (filed_database next) (filed_where filing done) held
+        ∙ map-same (λ d. filed_database next (filed_where filing done d)) (filed_database filing) held next_database) k;
+    user = (ap (λ (cs : List DbChange). marked_user cs user) next_changes ∙ stays) k;
+  }
 
   pub next_slots : filed_slots next ≡ filed_slots filing
   unfolding filed_slots filed_shelves
@@ -160,7 +172,8 @@ module _ (filing : Filing) (done : List (List ℕ)) where
     marks = (slot_of filing).marks;
     shelves = record {
       rows = map (λ (rows : DatabaseValue). rows_by (next_merge rows.head.name k) rows) (shelves_of filing).rows;
-      bases = (shelves_of filing).bases;
+      bases = map (λ (base : DatabaseValue). base_by (next_merge base.head.name k) (database_of base.head.name (shelves_of filing).rows) base)
+          (shelves_of filing).bases;
       archives = map (λ (archive : DatabaseValue). archive_by (change_by (next_merge archive.head.name k)
           (database_of archive.head.name (shelves_of filing).rows)) archive) (shelves_of filing).archives;
     };

@@ -62,7 +62,8 @@ find-by : {A B : Type 0} (b : Bool) (f : A → B) (x : A) (rest : Option A)
 find-by true f x rest = refl
 find-by false f x rest = refl
 
-find-map : {A B : Type 0} (test : B → Bool) (f : A → B) (xs : List A) → find test (map f xs) ≡ option_map f (find (λ x. test (f x)) xs)
+-- what is found among these is made of what is found so before
+pub find-map : {A B : Type 0} (test : B → Bool) (f : A → B) (xs : List A) → find test (map f xs) ≡ option_map f (find (λ x. test (f x)) xs)
 find-map test f [] = refl
 find-map test f (x ∷ xs) = rw (find-map test f xs) (find-by (test (f x)) f x (find (λ x. test (f x)) xs))
 

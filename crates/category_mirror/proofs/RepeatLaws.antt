@@ -3,7 +3,7 @@ use Rattle.std.proofs.lemmas.List.{length-map, length-set, set-set}
 use Rattle.std.proofs.Math.Seq.{map-set_same}
 use Rattle.std.proofs.lemmas.Simd.{map-map}
 use Rattle.std.proofs.Common.{arith, ◌≡◌, ◌∙◌, ◌<◌, ◌+◌, ap, refl, sym, subst, ℕ, zero, suc, Bool, true, false, List, [], ◌∷◌, ◌++◌, length, map}
-use Rattle.std.specs.Prelude.{IsOk, Option, Some, None, flat_map, max, not, option_and_then, slice_set, ◌&&◌, if◌then◌else◌}
+use Rattle.std.specs.Prelude.{IsOk, Option, Some, None, flat_map, is_some, max, not, option_and_then, slice_set, ◌&&◌, if◌then◌else◌}
 use Rattle.std.specs.List.{AllByRecursion}
 use Rattle.std.specs.Option.{option_map}
 use Rattle.pdb_values.specs.Databases.{DatabaseValue}
@@ -30,25 +30,30 @@ use Rattle.category_mirror.proofs.MeetLaws.{seat_within}
 use Rattle.desktop_session.specs.Acts.{Act}
 use Rattle.desktop_session.specs.Lists.{listings}
 use Rattle.desktop_session.specs.Requests.{listing}
+use Rattle.session_parts.specs.Rests.{IsAtRest}
 use Rattle.session_parts.specs.declared.skip.Skip.{Skip}
-use Rattle.session_plan.specs.Skips.{head_of}
+use Rattle.conduit_rules.specs.declared.action.Action.TheVariants as action
+use Rattle.session_plan.specs.Skips.{head_of, reason}
 use Rattle.category_mirror.specs.Blocks.{MergeValue, blocks_merge, written_block}
 use Rattle.pdb_values.specs.Heads.{holds_resources}
 use Rattle.session_plan.specs.Jobs.{head_named}
-use Rattle.category_mirror.specs.Changes.{change_filed, change_for, cleared_archive, copied_database}
-use Rattle.category_mirror.specs.FilingActs.{rows_app}
+use Rattle.category_mirror.specs.Changes.{change_filed, change_for, cleared_archive}
+use Rattle.category_mirror.specs.FilingActs.{marked_user, marks_for, rows_app}
 use Rattle.category_mirror.specs.Filings as one
 use Rattle.category_mirror.specs.Filings.{AreOfCategories, block_by, rows_by}
-use Rattle.category_mirror.specs.Jobs.{filing_job, filing_reason}
-use Rattle.category_mirror.specs.Refiled.{is_refiled, refiled_rows}
-use Rattle.category_mirror.specs.Sides.{Filing, archive_by, before_end, block_writes, change_by, device_among, filed_archive, filed_database, filed_device, filed_rows, filed_shelves, filed_slots, filing_changes, filing_of, heads_of, job_acts, job_named, jobs, merge_named, names, shelves_of, slot_of, with_merge, write_count}
+use Rattle.category_mirror.specs.Jobs.{filing_job, filing_reason, or_missing}
+use Rattle.category_mirror.specs.Refiled.{is_refiled, refiled_base, refiled_rows}
+use Rattle.category_mirror.specs.Sides.{Filing, archive_by, before_end, before_mark, block_writes, change_by, device_among, filed_archive, filed_base, filed_database, filed_device, filed_rows, filed_shelves, filed_slots, filing_changes, filing_of, heads_of, job_acts, job_named, jobs, mark_acts, merge_named, names, shelves_of, slot_of, with_merge, write_count}
 use Rattle.category_mirror.proofs.AgainLaws.{IsMade, IsStill, made, still}
 use Rattle.category_mirror.proofs.AlongLaws.{count-append, count-is, count_of}
+use Rattle.category_mirror.proofs.BaseLaws.{base-head, base-quiet}
 use Rattle.category_mirror.proofs.OneLaws.{acts_with}
+use Rattle.category_mirror.proofs.DoneLaws.{among_all}
 use Rattle.category_mirror.proofs.EvolveLaws.{acts_are, acts_none, jobs_named, merge_none, own_written, skipped_same, whole}
 use Rattle.category_mirror.proofs.NamedMaps.{KeepsNames, NamesRise-map, database_of-map}
 use Rattle.category_mirror.proofs.WholeLaws.{IsWhole}
-use Rattle.category_mirror.proofs.MadeAgain.{heads-map, map-same, merge_kept, next_device, next_slots}
+use Rattle.category_mirror.proofs.MadeAgain.{heads-map, map-same, merge_kept, next, next_device, next_slots}
+use Rattle.category_mirror.proofs.MarkLaws.{marked-user, marked_twice, marks-none}
 
 -- ---- behind the commit: both sides have the merged tables
 
@@ -90,7 +95,7 @@ none_for (Some merge) (Some rows) None archive none = refl
 none_for (Some merge) (Some rows) (Some base) archive none =
     by (holds_resources rows.head.attributes) (holds_resources base.head.attributes) (is_refiled merge rows) none (record {
       rows = refiled_rows merge rows;
-      base = copied_database false base;
+      base = refiled_base merge base;
       archive = cleared_archive archive;
     })
   where
@@ -126,7 +131,7 @@ module _ (filing : Filing) (within : filing.picked < length filing.slots) where
   unfolding filed_shelves
   rows_are = ap (λ (s : ShelvesValue). s.rows) behind_shelves
 
-  bases_are : (shelves_of behind).bases ≡ (shelves_of filing).bases
+  bases_are : (shelves_of behind).bases ≡ map (filed_base filing) (shelves_of filing).bases
   unfolding filed_shelves
   bases_are = ap (λ (s : ShelvesValue). s.bases) behind_shelves
 
@@ -136,6 +141,9 @@ module _ (filing : Filing) (within : filing.picked < length filing.slots) where
 
   rows_keep : KeepsNames (filed_rows filing)
   rows_keep = record { at = λ d. ap (λ (h : DbHead). h.name) (rows_head (merge_named filing d.head.name) d) }
+
+  filed_head : (d : DatabaseValue) → (filed_base filing d).head ≡ d.head
+  filed_head d = base-head (merge_named filing d.head.name) (database_of d.head.name own_rows) d
 
   filed_keeps : KeepsNames (filed_database filing)
   filed_keeps = record { at = λ d. refl }
@@ -161,13 +169,27 @@ module _ (filing : Filing) (within : filing.picked < length filing.slots) where
   head_same None = refl
   head_same (Some d) = ap (λ (h : DbHead). Some h) (rows_head (merge_named filing d.head.name) d)
 
+  bases_keep : KeepsNames (filed_base filing)
+  bases_keep = record { at = λ d. ap (λ (h : DbHead). h.name) (filed_head d) }
+
+  found_bases : (n : List ℕ) → database_of n (shelves_of behind).bases ≡ option_map (filed_base filing) (database_of n (shelves_of filing).bases)
+  found_bases n = ap (database_of n) bases_are ∙ database_of-map bases_keep n (shelves_of filing).bases
+
+  -- base rows that go along leave no other reason
+  reason_same : (handheld rows : Option DbHead) (o : Option DatabaseValue)
+      → filing_reason handheld rows (option_map (filed_base filing) o) ≡ filing_reason handheld rows o
+  reason_same handheld rows None = refl
+  reason_same handheld rows (Some d) =
+      ap (λ (h : DbHead). or_missing (reason action.Sync handheld rows true)
+      (is_some handheld && (is_some rows && not (holds_resources h.attributes)))) (filed_head d)
+
   behind_job : (n : List ℕ) → (job_named behind n).skip ≡ (job_named filing n).skip
   behind_job n =
       ap (λ (heads : List DbHead). (filing_job heads (shelves_of behind) n).skip) behind_heads
       ∙ ap (λ (h : Option DbHead). filing_reason (head_named n (heads_of filing.device.databases)) h (database_of n (shelves_of behind).bases))
       (ap head_of (found_rows n) ∙ head_same (database_of n own_rows))
-      ∙ ap (λ (bases : List DatabaseValue). filing_reason (head_named n (heads_of filing.device.databases)) (head_of (database_of n own_rows)) (database_of n bases))
-      bases_are
+      ∙ ap (λ (o : Option DatabaseValue). filing_reason (head_named n (heads_of filing.device.databases)) (head_of (database_of n own_rows)) o) (found_bases n)
+      ∙ reason_same (head_named n (heads_of filing.device.databases)) (head_of (database_of n own_rows)) (database_of n (shelves_of filing).bases)
 
   -- ---- under each name
 
@@ -220,7 +242,7 @@ module _ (filing : Filing) (within : filing.picked < length filing.slots) where
     own_still : (n : List ℕ) (kept : (job_named filing n).skip ≡ None) → IsStill (block n kept) (both n kept).rows
     own_still n kept = still (block n kept) (both n kept).rows (categories n kept)
 
-    -- ---- the handheld
+    -- ---- the handheld's databases
 
     app_again : (n : List ℕ) (kept : (job_named filing n).skip ≡ None)
         → block_by (filed_database filing (both n kept).handheld).app (merge_named behind n) ≡ (filed_database filing (both n kept).handheld).app
@@ -252,21 +274,6 @@ module _ (filing : Filing) (within : filing.picked < length filing.slots) where
             ap (λ (m : Option MergeValue). with_merge m (filed_database filing d)) (merge_none behind n (behind_job n ∙ un))
             ∙ (λ k. record d { app = skipped_same (filed_database filing d).app k })
         by None kept = kept_again n kept d (some_same (sym (both n kept).there ∙ is))
-
-    pub device_again : NamesRise filing.device.databases → filed_device behind ≡ filed_device filing
-    unfolding filed_device
-    device_again rise =
-        let first : List DatabaseValue = map (filed_database filing) filing.device.databases in
-        let first_rise = NamesRise-map filed_keeps filing.device.databases rise in
-        ap (λ (ds : List DatabaseValue). record filing.device { databases = ds })
-        (database_of-same (map (filed_database behind) first) first (NamesRise-map behind_keeps first first_rise) first_rise (λ n.
-        database_of-map behind_keeps n first ∙ ap (option_map (filed_database behind)) (database_of-map filed_keeps n filing.device.databases)
-        ∙ by n (database_of n filing.device.databases) refl ∙ sym (database_of-map filed_keeps n filing.device.databases)))
-      where
-        by : (n : List ℕ) (o : Option DatabaseValue) → database_of n filing.device.databases ≡ o
-            → option_map (filed_database behind) (option_map (filed_database filing) o) ≡ option_map (filed_database filing) o
-        by n None is = refl
-        by n (Some d) is = ap (λ (x : DatabaseValue). Some x) (database_again n d is)
 
     -- ---- the desktop
 
@@ -303,6 +310,11 @@ module _ (filing : Filing) (within : filing.picked < length filing.slots) where
             ap (change_by (merge_named behind n)) (found_filed n kept)
             ∙ still_by (block n kept) (both n kept).rows (own_still n kept) (merge_named behind n) (second_merge n kept)
 
+    base_again : (d : DatabaseValue) → filed_base behind (filed_base filing d) ≡ filed_base filing d
+    base_again d =
+        base-quiet (merge_named behind (filed_base filing d).head.name) (database_of (filed_base filing d).head.name (shelves_of behind).rows)
+        (no_change (filed_base filing d).head.name) (filed_base filing d)
+
     archive_again : (d : DatabaseValue) → filed_archive behind (filed_archive filing d) ≡ filed_archive filing d
     archive_again d = ap (λ b. archive_by b (filed_archive filing d)) (no_change (filed_archive filing d).head.name)
 
@@ -323,7 +335,9 @@ module _ (filing : Filing) (within : filing.picked < length filing.slots) where
     unfolding filed_shelves
     shelves_again rise = λ k. record {
       rows = (ap (map (filed_rows behind)) rows_are ∙ rows_again_all rise) k;
-      bases = bases_are k;
+      bases = (ap (map (filed_base behind)) bases_are
+          ∙ map-map (filed_base behind) (filed_base filing) (shelves_of filing).bases
+          ∙ map-same (λ (d : DatabaseValue). filed_base behind (filed_base filing d)) (filed_base filing) (shelves_of filing).bases base_again) k;
       archives = (ap (map (filed_archive behind)) archives_are
           ∙ map-map (filed_archive behind) (filed_archive filing) (shelves_of filing).archives
           ∙ map-same (λ (d : DatabaseValue). filed_archive behind (filed_archive filing d)) (filed_archive filing) (shelves_of filing).archives archive_again) k;
@@ -354,6 +368,27 @@ module _ (filing : Filing) (within : filing.picked < length filing.slots) where
     unfolding filing_changes
     changes_none = none_changes (names behind)
 
+    -- ---- the handheld once more
+
+    pub device_again : NamesRise filing.device.databases → filed_device behind ≡ filed_device filing
+    unfolding filed_device
+    device_again rise =
+        let first : List DatabaseValue = map (filed_database filing) filing.device.databases in
+        let first_rise = NamesRise-map filed_keeps filing.device.databases rise in
+        let databases : map (filed_database behind) first ≡ first =
+        database_of-same (map (filed_database behind) first) first (NamesRise-map behind_keeps first first_rise) first_rise (λ n.
+        database_of-map behind_keeps n first ∙ ap (option_map (filed_database behind)) (database_of-map filed_keeps n filing.device.databases)
+        ∙ by n (database_of n filing.device.databases) refl ∙ sym (database_of-map filed_keeps n filing.device.databases)) in
+        λ k. record filing.device {
+          databases = databases k;
+          user = marked_user (changes_none k) (marked_user (filing_changes filing) filing.device.user);
+        }
+      where
+        by : (n : List ℕ) (o : Option DatabaseValue) → database_of n filing.device.databases ≡ o
+            → option_map (filed_database behind) (option_map (filed_database filing) o) ≡ option_map (filed_database filing) o
+        by n None is = refl
+        by n (Some d) is = ap (λ (x : DatabaseValue). Some x) (database_again n d is)
+
     written_none : (n : List ℕ) (kept : (job_named behind n).skip ≡ None) → own_written behind n kept ≡ None
     written_none n kept =
         let first : (job_named filing n).skip ≡ None = sym (behind_job n) ∙ kept in
@@ -380,9 +415,15 @@ module _ (filing : Filing) (within : filing.picked < length filing.slots) where
         let same : write_count (job_acts behind (job_named behind n)) + write_count (flat_map (job_acts behind) (jobs_named behind ns)) ≡ 0 =
         omega (arith, one_none, rest_none) in same)
 
+    mark_none : mark_acts behind ≡ []
+    unfolding mark_acts
+    mark_none = ap (λ (cs : List DbChange). marks_for cs (filed_device filing).user) changes_none ∙ marks-none (filed_device filing).user
+
     pub writes_none : block_writes behind ≡ 0
-    unfolding before_end jobs
+    unfolding before_end before_mark jobs
     writes_none =
+        let both = count-append (before_mark behind) (mark_acts behind) in
+        let last = ap write_count mark_none in
         let lists : List Act = listings (max 1 (length behind.device.databases)) in
         let files : List Act = flat_map (job_acts behind) (jobs_named behind (names behind)) in
         let first = count-append greeting (lists ++ files) in
@@ -390,7 +431,7 @@ module _ (filing : Filing) (within : filing.picked < length filing.slots) where
         let one_none = count-is greeting in
         let two_none = listings_quiet (max 1 (length behind.device.databases)) in
         let three_none = jobs_quiet (names behind) in
-        omega (arith, first, second, one_none, two_none, three_none)
+        omega (arith, both, last, first, second, one_none, two_none, three_none)
 
 -- ---- two sessions of the same sides
 
@@ -404,12 +445,34 @@ module _ (device : Device) (slots : List SlotValue) where
   pub stopped_device : (done : List (List ℕ))
       → filed_device (filing_of (device_among (filing_of device slots) done) slots) ≡ filed_device (filing_of device slots)
   unfolding device_among
-  stopped_device done = next_device (filing_of device slots) done
+  stopped_device done = next_device (filing_of device slots) done device.user refl
 
   pub stopped_slots : (done : List (List ℕ))
       → filed_slots (filing_of (device_among (filing_of device slots) done) slots) ≡ filed_slots (filing_of device slots)
   unfolding device_among
-  stopped_slots done = next_slots (filing_of device slots) done
+  stopped_slots done = next_slots (filing_of device slots) done device.user
+
+  -- behind its mark
+  module _ (rests : IsAtRest device) where
+    abbrev own : Filing
+    own = filing_of device slots
+
+    abbrev marked : UserInfo
+    marked = marked_user (filing_changes own) device.user
+
+    marked_next : filing_of (filed_device own) slots ≡ next own (names own) marked
+    unfolding filed_device device_among
+    marked_next = λ k. record {
+      device = record device { databases = (sym (among_all own rests)) k; user = marked };
+      slots = slots;
+      picked = place_of (length slots) (slot_for (users_of (marks_of slots)) (marked-user (filing_changes own) device.user k) false);
+    }
+
+    pub marked_device : filed_device (filing_of (filed_device own) slots) ≡ filed_device own
+    marked_device = ap filed_device marked_next ∙ next_device own (names own) marked (marked_twice (filing_changes own) device.user)
+
+    pub marked_slots : filed_slots (filing_of (filed_device own) slots) ≡ filed_slots own
+    marked_slots = ap filed_slots marked_next ∙ next_slots own (names own) marked
 
   module _ (may : IsFileable device slots) where
     abbrev first : Filing
@@ -435,7 +498,7 @@ module _ (device : Device) (slots : List SlotValue) where
     picked_same : place_of (length (filed_slots first)) (slot_for (users_of (marks_of (filed_slots first))) (filed_device first).user.user false)
         ≡ first.picked
     unfolding filed_device
-    picked_same = λ k. place_of (count_same k) (slot_for (users_of (marks_same k)) device.user.user false)
+    picked_same = λ k. place_of (count_same k) (slot_for (users_of (marks_same k)) (marked-user (filing_changes first) device.user k) false)
 
     second_is : filing_of (filed_device first) (filed_slots first) ≡ behind first picked_within
     second_is = λ k. record { device = filed_device first; slots = filed_slots first; picked = picked_same k }

@@ -23,7 +23,7 @@ none_moved : (numbers : List ℕ) (item : Record) (records : List Record) (b : B
 none_moved numbers item records true is none = absurd (omega (arith, none))
 none_moved numbers item records false is none = (grind (arith, nat_tests, is), none)
 
-records_stay : (numbers : List ℕ) (records : List Record) → moved_count numbers records ≡ 0 → map (refiled_record numbers) records ≡ records
+pub records_stay : (numbers : List ℕ) (records : List Record) → moved_count numbers records ≡ 0 → map (refiled_record numbers) records ≡ records
 records_stay numbers [] none = refl
 records_stay numbers (item ∷ records) none =
     let both = none_moved numbers item records (is_moved numbers item) refl none in
@@ -43,7 +43,13 @@ rows_by_app merge rows (Some block) is some begins none =
     ∙ ap (λ (rs : List Record). record rows { app = Some block; records = rs }) (records_stay merge.numbers rows.records none)
     ∙ ap (λ (o : Option (List ℕ)). record rows { app = o }) (sym is)
 
+-- where rows don't change no record is in another category then
+pub moved_none : (merge : MergeValue) (rows : DatabaseValue) → is_refiled merge rows ≡ false → moved_count merge.numbers rows.records ≡ 0
+moved_none merge rows still =
+    let both = or_parts (not (begins_with merge.table (block_bytes rows.app))) (not (moved_count merge.numbers rows.records == 0)) still in
+    eqb-true (moved_count merge.numbers rows.records) 0 (true_of _ both.1)
+
 pub rows_stay : (merge : MergeValue) (rows : DatabaseValue) → IsSome rows.app → is_refiled merge rows ≡ false → refiled_rows merge rows ≡ rows
 rows_stay merge rows some still =
     let both = or_parts (not (begins_with merge.table (block_bytes rows.app))) (not (moved_count merge.numbers rows.records == 0)) still in
-    rows_by_app merge rows rows.app refl some (true_of _ both.0) (eqb-true (moved_count merge.numbers rows.records) 0 (true_of _ both.1))
+    rows_by_app merge rows rows.app refl some (true_of _ both.0) (moved_none merge rows still)

@@ -9,9 +9,8 @@ use Rattle.std.specs.Str.{bytes_eq}
 use Rattle.pdb_values.specs.Databases.{DatabaseValue}
 use Rattle.pdb_values.specs.Heads.{holds_resources}
 use Rattle.pdb_values.specs.NamedDatabases.{NamesRise, database_of}
-use Rattle.pdb_values.specs.declared.record.Record.{Record}
-use Rattle.pdb_values.proofs.NamedLaws.{bytes_eq-is, bytes_eq-own, database_of-name, database_of-same}
-use Rattle.palm_device.specs.Records.{with_records}
+use Rattle.pdb_values.specs.declared.head.DbHead.{DbHead}
+use Rattle.pdb_values.proofs.NamedLaws.{bytes_eq-is, bytes_eq-own, database_of-name}
 use Rattle.desk_store.specs.Changes.{IsDbChange, changed, changed_to, with_changes}
 use Rattle.desk_store.specs.Shelves.{AreOrdered, ShelvesValue, SlotValue, new_slot, number_of, shelf_of, with_place}
 use Rattle.desk_store.specs.declared.change.DbChange.{DbChange}
@@ -21,12 +20,13 @@ use Rattle.desk_store.proofs.ChangedLaws.{found_changed, ordered_changes}
 use Rattle.session_parts.specs.declared.skip.Skip.{Skip}
 use Rattle.session_plan.specs.Fits.{Rise}
 use Rattle.category_mirror.specs.Blocks.{MergeValue}
-use Rattle.category_mirror.specs.Changes.{change_filed, change_for, changes_filed, cleared_archive, copied_database, copied_record, slots_filed}
+use Rattle.category_mirror.specs.Changes.{change_filed, change_for, changes_filed, cleared_archive, cleared_database, slots_filed}
 use Rattle.category_mirror.specs.FilingActs.{rows_app}
 use Rattle.category_mirror.specs.Filings.{rows_by}
 use Rattle.category_mirror.specs.Jobs.{names_filed}
-use Rattle.category_mirror.specs.Refiled.{is_refiled, refiled_rows}
-use Rattle.category_mirror.specs.Sides.{Filing, archive_by, change_by, filed_archive, filed_rows, filed_shelves, filed_slots, filing_changes, is_among, job_named, merge_named, merge_of, names, shelves_of, slot_of}
+use Rattle.category_mirror.specs.Refiled.{is_refiled, refiled_base, refiled_rows}
+use Rattle.category_mirror.specs.Sides.{Filing, archive_by, base_by, change_by, filed_archive, filed_base, filed_rows, filed_shelves, filed_slots, filing_changes, is_among, job_named, merge_named, merge_of, names, shelves_of, slot_of}
+use Rattle.category_mirror.proofs.BaseLaws.{base-head, base-quiet}
 use Rattle.category_mirror.proofs.ChangeLaws.{IsOneOf, changes-fit, changes-rise, one_filed}
 use Rattle.category_mirror.proofs.DoneLaws.{names_rise, rows-among}
 use Rattle.category_mirror.proofs.EvolveLaws.{found-same, jobs_named, merge_is, merge_none, whole}
@@ -34,23 +34,6 @@ use Rattle.category_mirror.proofs.NamedMaps.{KeepsNames, map-is, not-among}
 use Rattle.category_mirror.proofs.SameLaws.{rows_stay}
 use Rattle.category_mirror.proofs.WholeLaws.{IsWhole}
 use Rattle.category_mirror.proofs.WrittenLaws.{blocks_there}
-
--- ---- base rows as they are
-
-records_same : (items : List Record) → map (copied_record false) items ≡ items
-records_same [] = refl
-records_same (item ∷ items) = λ k. one k ∷ records_same items k
-  where
-    kept : (b : Bool) → (b && true) ≡ b
-    kept true = refl
-    kept false = refl
-
-    one : copied_record false item ≡ item
-    one = λ k. record item { deleted = kept item.deleted k; dirty = kept item.dirty k; busy = kept item.busy k }
-
-base_same : (database : DatabaseValue) → copied_database false database ≡ database
-unfolding copied_database
-base_same database = λ k. with_records (records_same database.records k) database
 
 -- ---- one change among others
 
@@ -124,7 +107,7 @@ module _ (filing : Filing) where
     refiled : is_refiled merge rows ≡ true
     changes : change_at name ≡ record {
       rows = refiled_rows merge rows;
-      base = copied_database false base;
+      base = refiled_base merge base;
       archive = cleared_archive (database_of name shelves.archives);
     } ∷ []
 
@@ -151,7 +134,7 @@ module _ (filing : Filing) where
     changes_for : (merge : MergeValue) → merge_named filing name ≡ Some merge → change_at name
         ≡ (if is_refiled merge own.rows then record {
           rows = refiled_rows merge own.rows;
-          base = copied_database false own.base;
+          base = refiled_base merge own.base;
           archive = cleared_archive (database_of name shelves.archives);
         } ∷ [] else [])
     unfolding change_filed
@@ -161,7 +144,7 @@ module _ (filing : Filing) where
         ∙ ap (λ (o : Option DatabaseValue). change_for (Some merge) (Some own.rows) o (database_of name shelves.archives)) own.base_there
         ∙ ap (λ b. let change : DbChange = record {
           rows = refiled_rows merge own.rows;
-          base = copied_database false own.base;
+          base = refiled_base merge own.base;
           archive = cleared_archive (database_of name shelves.archives);
         } in if b then change ∷ [] else [])
         (holds_both (holds_resources own.rows.head.attributes) (holds_resources own.base.head.attributes) (is_refiled merge own.rows)
@@ -186,14 +169,14 @@ module _ (filing : Filing) where
       refiled = refiled;
       changes = changes_for merge is ∙ ap (λ b. let change : DbChange = record {
         rows = refiled_rows merge own.rows;
-        base = copied_database false own.base;
+        base = refiled_base merge own.base;
         archive = cleared_archive (database_of name shelves.archives);
       } in if b then change ∷ [] else []) refiled;
     })
     merged_view merge is false still = inl (record {
       changes = changes_for merge is ∙ ap (λ b. let change : DbChange = record {
         rows = refiled_rows merge own.rows;
-        base = copied_database false own.base;
+        base = refiled_base merge own.base;
         archive = cleared_archive (database_of name shelves.archives);
       } in if b then change ∷ [] else []) still;
       quiet = ap (λ (m : Option MergeValue). change_by m (rows_at name)) is ∙ ap (change_by (Some merge)) own.rows_there ∙ still;
@@ -226,7 +209,7 @@ module _ (filing : Filing) where
 
   changed_some : (role : Role) (name : List ℕ) (so : IsChangedSo name) → changed role name (changes_at (names filing)) ≡ changed_to role (record {
     rows = refiled_rows so.merge so.rows;
-    base = copied_database false so.base;
+    base = refiled_base so.merge so.base;
     archive = cleared_archive (database_of name shelves.archives);
   })
   unfolding refiled_rows
@@ -237,7 +220,7 @@ module _ (filing : Filing) where
       ∙ ap (changed role name) so.changes
       ∙ ap (λ b. cond b (changed_to role (record {
         rows = refiled_rows so.merge so.rows;
-        base = copied_database false so.base;
+        base = refiled_base so.merge so.base;
         archive = cleared_archive (database_of name shelves.archives);
       })) None) (ap (λ n. bytes_eq n name) named ∙ bytes_eq-own name)
 
@@ -253,16 +236,33 @@ module _ (filing : Filing) where
           ap (λ (o : Option DatabaseValue). option_or o (rows_at name)) (changed_some Rows name so)
           ∙ sym (ap (λ (m : Option MergeValue). option_map (rows_by m) (rows_at name)) so.merge_is ∙ ap (option_map (rows_by (Some so.merge))) so.rows_are)
 
+  abbrev moved : Option MergeValue → Option DatabaseValue → Option DatabaseValue → Option DatabaseValue
+  moved m rows o = option_map (base_by m rows) o
+
   bases_found : (name : List ℕ)
-      → option_or (changed Base name (changes_at (names filing))) (database_of name shelves.bases) ≡ database_of name shelves.bases
-  bases_found name = by (view name)
+      → option_or (changed Base name (changes_at (names filing))) (database_of name shelves.bases)
+      ≡ option_map (filed_base filing) (database_of name shelves.bases)
+  bases_found name =
+      by (view name)
+      ∙ found-same name shelves.bases (database_of name shelves.bases) refl
+      (λ d named. ap (λ n. base_by (merge_named filing n) (rows_at n) d) (sym named))
     where
+      kept : (m : Option MergeValue) (rows : Option DatabaseValue) → change_by m rows ≡ false → (o : Option DatabaseValue) → o ≡ moved m rows o
+      kept m rows quiet None = refl
+      kept m rows quiet (Some d) = ap (λ (x : DatabaseValue). Some x) (sym (base-quiet m rows quiet d))
+
       by : IsUnchanged name ⊎ IsChangedSo name
-          → option_or (changed Base name (changes_at (names filing))) (database_of name shelves.bases) ≡ database_of name shelves.bases
-      by (inl un) = ap (λ (o : Option DatabaseValue). option_or o (database_of name shelves.bases)) (unchanged_none Base name un)
+          → option_or (changed Base name (changes_at (names filing))) (database_of name shelves.bases)
+          ≡ moved (merge_named filing name) (rows_at name) (database_of name shelves.bases)
+      by (inl un) =
+          ap (λ (o : Option DatabaseValue). option_or o (database_of name shelves.bases)) (unchanged_none Base name un)
+          ∙ kept (merge_named filing name) (rows_at name) un.quiet (database_of name shelves.bases)
       by (inr so) =
           ap (λ (o : Option DatabaseValue). option_or o (database_of name shelves.bases)) (changed_some Base name so)
-          ∙ ap (λ (d : DatabaseValue). Some d) (base_same so.base) ∙ sym so.base_is
+          ∙ sym (ap (λ (o : Option DatabaseValue). moved (merge_named filing name) (rows_at name) o) so.base_is
+          ∙ ap (λ (m : Option MergeValue). moved m (rows_at name) (Some so.base)) so.merge_is
+          ∙ ap (λ (r : Option DatabaseValue). moved (Some so.merge) r (Some so.base)) so.rows_are
+          ∙ ap (λ b. let one : Option DatabaseValue = Some (if b then refiled_base so.merge so.base else so.base) in one) so.refiled)
 
   archives_found : (name : List ℕ)
       → option_or (changed Archive name (changes_at (names filing))) (database_of name shelves.archives)
@@ -276,8 +276,8 @@ module _ (filing : Filing) where
       cleared None = refl
       cleared (Some d) = chosen (holds_resources d.head.attributes || (length d.records == 0))
         where
-          chosen : (b : Bool) → option_or (if b then None else Some (copied_database true d)) (Some d)
-              ≡ Some (if true && not b then copied_database true d else d)
+          chosen : (b : Bool) → option_or (if b then None else Some (cleared_database d)) (Some d)
+              ≡ Some (if true && not b then cleared_database d else d)
           chosen true = refl
           chosen false = refl
 
@@ -308,11 +308,14 @@ module _ (filing : Filing) where
       by None d = refl
       by (Some merge) d = refl
 
+  bases_keep : KeepsNames (filed_base filing)
+  bases_keep = record { at = λ d. ap (λ (h : DbHead). h.name) (base-head (merge_named filing d.head.name) (rows_at d.head.name) d) }
+
   archives_keep : KeepsNames (filed_archive filing)
-  unfolding copied_database
+  unfolding cleared_database
   archives_keep = record { at = λ d. by (change_by (merge_named filing d.head.name) (rows_at d.head.name)) d }
     where
-      chosen : (b : Bool) (d : DatabaseValue) → (if b then copied_database true d else d).head.name ≡ d.head.name
+      chosen : (b : Bool) (d : DatabaseValue) → (if b then cleared_database d else d).head.name ≡ d.head.name
       chosen true d = refl
       chosen false d = refl
 
@@ -348,8 +351,8 @@ module _ (filing : Filing) where
     shelves-are = λ k. record {
       rows = map-is rows_keep shelves.rows (with_changes (changes_at (names filing)) shelves).rows ordered.rows after.rows
           (λ name o is. found Rows name ∙ rows_found name ∙ ap (option_map (filed_rows filing)) is) k;
-      bases = database_of-same (with_changes (changes_at (names filing)) shelves).bases shelves.bases after.bases ordered.bases
-          (λ name. found Base name ∙ bases_found name) k;
+      bases = map-is bases_keep shelves.bases (with_changes (changes_at (names filing)) shelves).bases ordered.bases after.bases
+          (λ name o is. found Base name ∙ bases_found name ∙ ap (option_map (filed_base filing)) is) k;
       archives = map-is archives_keep shelves.archives (with_changes (changes_at (names filing)) shelves).archives ordered.archives after.archives
           (λ name o is. found Archive name ∙ archives_found name ∙ ap (option_map (filed_archive filing)) is) k;
     }

@@ -2,10 +2,10 @@
 use Rattle.std.proofs.lemmas.Grind.{flat_map-append}
 use Rattle.std.proofs.lemmas.List.{map-append}
 use Rattle.std.proofs.Math.Seq.{take-append_seam}
-use Rattle.std.proofs.Common.{arith, ◌≡◌, ◌∙◌, ◌+◌, ap, append_assoc, append-nil, refl, sym, subst, ℕ, zero, suc, false, List, [], ◌∷◌, ◌++◌, length, map, take}
+use Rattle.std.proofs.Common.{arith, inl, inr, ◌⊎◌, ◌≡◌, ◌∙◌, ◌+◌, ◌≤◌, ap, append_assoc, append-nil, refl, sym, subst, ℕ, zero, suc, Bool, true, false, List, [], ◌∷◌, ◌++◌, length, map, take}
 use Rattle.std.specs.Prelude.{Option, Some, None, filter, flat_map}
 use Rattle.dlp_commands.specs.Changes.{changes}
-use Rattle.std.proofs.lemmas.List.{take-map}
+use Rattle.std.proofs.lemmas.List.{take-map, take_all}
 use Rattle.std.specs.List.{AllByRecursion}
 use Rattle.pdb_values.specs.Databases.{DatabaseValue}
 use Rattle.pdb_values.specs.Heads.{is_read_only}
@@ -23,10 +23,11 @@ use Rattle.session_parts.specs.Rests.{IsAtRest}
 use Rattle.session_parts.specs.declared.skip.Skip.{Skip}
 use Rattle.session_parts.proofs.RestLaws.{closes_does, greeting_same, listing_same}
 use Rattle.session_plan.specs.Fits.{Rise}
-use Rattle.category_mirror.specs.Sides.{Filing, StandsBehind, before_end, device_among, filed_device, filing_acts, is_among, job_acts, job_named, jobs, names, write_count}
-use Rattle.category_mirror.proofs.AlongLaws.{Along, IsStill, all_plain, along_last, still_along, still_count, along_on, along_take, along_then, count-append, count-is, count_of, run_is, take-texts}
-use Rattle.category_mirror.proofs.DoneLaws.{among_are, before_goes, end_goes, filed_closed, list_count, names_rise, session_goes}
+use Rattle.category_mirror.specs.Sides.{Filing, StandsBehind, before_end, before_mark, block_writes, device_among, filed_device, filing_acts, filing_changes, is_among, job_acts, job_named, jobs, mark_acts, names, write_count}
+use Rattle.category_mirror.proofs.AlongLaws.{Along, IsStill, all_plain, along_last, along_map, is_write, stepped, still_along, still_count, along_on, along_take, along_then, count-append, count-is, count_of, run_is, take-texts}
+use Rattle.category_mirror.proofs.DoneLaws.{among_all, among_are, before_goes, before_mark_goes, blocks_device, end_goes, filed_closed, list_count, mark_goes, names_rise, session_goes}
 use Rattle.category_mirror.proofs.EvolveLaws.{AreFree, IsBehind, acts_are, acts_none, behind_next, behind_none, free_next, free_none, jobs_named, own_there, own_written, turn, whole}
+use Rattle.category_mirror.proofs.MarkLaws.{marks-few}
 use Rattle.category_mirror.proofs.OneLaws.{acts_with, changed, closed_same, opens, read_same, wrote}
 use Rattle.desktop_session.proofs.ListLaws.{listings_same}
 use Rattle.desk_journal.proofs.StepLaws.{all-append}
@@ -158,8 +159,8 @@ module _ (filing : Filing) (rests : IsAtRest filing.device) where
   first_passed : Passed 0 filing.device
   first_passed = passed_at [] (names filing) filing.device 0 refl (behind_none filing rests) refl
 
-  before_along : Along Passed 0 (before_end filing) filing.device
-  unfolding before_end jobs
+  before_along : Along Passed 0 (before_mark filing) filing.device
+  unfolding before_mark jobs
   before_along =
       along_then Passed 0 greeting (listed ++ acts_for (names filing)) filing.device (still_along Passed 0 greeting filing.device greeting_still first_passed)
       (greeting_same filing.device)
@@ -170,18 +171,72 @@ module _ (filing : Filing) (rests : IsAtRest filing.device) where
       (sym (still_count listed filing.device (listings_still (list_count filing rests))))
       (jobs_along (names filing) [] filing.device 0 refl (behind_none filing rests) (names_rise filing) (free_none (names filing)) refl)))
 
-  all_along : Along Passed 0 (filing_acts filing) filing.device
+  -- behind its mark
+  pub record Marked (writes : ℕ) (device : Device) : Type 0 where
+    pub databases : device.databases ≡ (device_among filing (names filing)).databases
+    pub user : device.user ≡ (filed_device filing).user
+    pub written : writes ≡ block_writes filing
+
+  abbrev pub Reached : ℕ → Device → Type 0
+  Reached writes device = Passed writes device ⊎ Marked writes device
+
+  -- ---- the mark
+
+  abbrev blocks_count : ℕ
+  blocks_count = 0 + count_of (before_mark filing)
+
+  blocks_passed : Passed blocks_count (blocks_device filing rests)
+  blocks_passed =
+      subst (Passed blocks_count) (before_mark_goes filing rests).after (along_last Passed 0 (before_mark filing) filing.device before_along)
+
+  -- one act, and what it leads to, where these are all writes then
+  mark_counts : (one : Act) → mark_acts filing ≡ one ∷ [] → stepped (is_write one) blocks_count ≡ block_writes filing
+  unfolding before_end
+  mark_counts one is =
+      let both = count-append (before_mark filing) (mark_acts filing) in
+      let first = count-is (before_mark filing) in
+      let last = ap write_count is ∙ count-is (one ∷ []) in
+      by (is_write one) (sym (both ∙ ap (λ k. write_count (before_mark filing) + k) last ∙ ap (λ k. k + stepped (is_write one) 0) first))
+    where
+      by : (b : Bool) → count_of (before_mark filing) + stepped b 0 ≡ block_writes filing → stepped b blocks_count ≡ block_writes filing
+      by true is = omega (arith, is)
+      by false is = omega (arith, is)
+
+  one_marked : (one : Act) → mark_acts filing ≡ one ∷ [] → (acted one (blocks_device filing rests)).1 ≡ filed_device filing
+      → Marked (stepped (is_write one) blocks_count) (filed_device filing)
+  unfolding filed_device
+  one_marked one is does = record { databases = sym (among_all filing rests); user = refl; written = mark_counts one is }
+
+  mark_along : (acts : List Act) → mark_acts filing ≡ acts → device_after acts (blocks_device filing rests) ≡ filed_device filing
+      → length acts ≤ 1 → Along Reached blocks_count acts (blocks_device filing rests)
+  mark_along [] is after few = inl blocks_passed
+  mark_along (one ∷ []) is after few =
+      along_on Reached blocks_count one [] (inl blocks_passed) after (inr (one_marked one is after))
+  mark_along (one ∷ other ∷ more) is after few = absurd (omega arith)
+
+  few_marks : length (mark_acts filing) ≤ 1
+  unfolding mark_acts
+  few_marks = marks-few (filing_changes filing) filing.device.user
+
+  before_end_along : Along Reached 0 (before_end filing) filing.device
+  unfolding before_end
+  before_end_along =
+      along_then Reached 0 (before_mark filing) (mark_acts filing) filing.device
+      (along_map (λ writes device passed. inl passed) 0 (before_mark filing) filing.device before_along) (before_mark_goes filing rests).after
+      (mark_along (mark_acts filing) refl (mark_goes filing rests).after few_marks)
+
+  all_along : Along Reached 0 (filing_acts filing) filing.device
   unfolding filing_acts
   all_along =
       let goes = before_goes filing rests in
-      let last = along_last Passed 0 (before_end filing) filing.device before_along in
-      let here : Passed (0 + count_of (before_end filing)) (filed_device filing) =
-      subst (Passed (0 + count_of (before_end filing))) goes.after last in
-      along_then Passed 0 (before_end filing) (ending ∷ []) filing.device before_along goes.after
-      (along_on Passed (0 + count_of (before_end filing)) ending [] here (end_goes (filed_device filing) (filed_closed filing rests)).after here)
+      let last = along_last Reached 0 (before_end filing) filing.device before_end_along in
+      let here : Reached (0 + count_of (before_end filing)) (filed_device filing) =
+      subst (Reached (0 + count_of (before_end filing))) goes.after last in
+      along_then Reached 0 (before_end filing) (ending ∷ []) filing.device before_end_along goes.after
+      (along_on Reached (0 + count_of (before_end filing)) ending [] here (end_goes (filed_device filing) (filed_closed filing rests)).after here)
 
   pub front_passed : (writes : ℕ) (given : List ℕ) (after : Device) → (front : Front filing.device (map text (filing_acts filing)) writes given after)
-      → Passed writes front.reached
+      → Reached writes front.reached
   front_passed writes given after front =
       let goes = session_goes filing rests in
       let reached : front.reached ≡ device_after (take front.count (filing_acts filing)) filing.device =
@@ -191,22 +246,39 @@ module _ (filing : Filing) (rests : IsAtRest filing.device) where
       (let same : 0 + count_of (take front.count (filing_acts filing)) ≡ count_of (take front.count (filing_acts filing)) = omega arith in same)
       ∙ sym (count-is (take front.count (filing_acts filing)))
       ∙ ap (λ (requests : List (List ℕ)). length (filter changes requests)) (sym (take-texts front.count (filing_acts filing))) ∙ front.holds in
-      subst (λ (d : Device). Passed writes d) (sym reached)
-      (subst (λ k. Passed k (device_after (take front.count (filing_acts filing)) filing.device)) count
-      (along_take Passed front.count 0 (filing_acts filing) filing.device all_along))
+      subst (λ (d : Device). Reached writes d) (sym reached)
+      (subst (λ k. Reached k (device_after (take front.count (filing_acts filing)) filing.device)) count
+      (along_take Reached front.count 0 (filing_acts filing) filing.device all_along))
 
   pub front_stands : (writes : ℕ) (given : List ℕ) (after : Device) → Front filing.device (map text (filing_acts filing)) writes given after
       → StandsBehind filing writes after
   unfolding jobs
-  front_stands writes given after front =
-      let passed = front_passed writes given after front in
-      let taken : take (length passed.first) (names filing) ≡ passed.first =
-      ap (take (length passed.first)) (sym passed.parts) ∙ take-append_seam passed.first passed.rest in
-      record {
-        count = length passed.first;
-        databases = front.databases ∙ passed.databases ∙ ap (λ (ns : List (List ℕ)). (device_among filing ns).databases) (sym taken);
-        user = front.user ∙ passed.user;
-        written = passed.written
-            ∙ ap (λ (js : List FilingJob). write_count (flat_map (job_acts filing) js))
-            (ap (map (job_named filing)) (sym taken) ∙ sym (take-map (job_named filing) (length passed.first) (names filing)));
-      }
+  front_stands writes given after front = by (front_passed writes given after front)
+    where
+      passed_stands : Passed writes front.reached → StandsBehind filing writes after
+      passed_stands passed =
+          let taken : take (length passed.first) (names filing) ≡ passed.first =
+          ap (take (length passed.first)) (sym passed.parts) ∙ take-append_seam passed.first passed.rest in
+          record {
+            count = length passed.first;
+            databases = front.databases ∙ passed.databases ∙ ap (λ (ns : List (List ℕ)). (device_among filing ns).databases) (sym taken);
+            stage = inl (record {
+              user = front.user ∙ passed.user;
+              written = passed.written
+                  ∙ ap (λ (js : List FilingJob). write_count (flat_map (job_acts filing) js))
+                  (ap (map (job_named filing)) (sym taken) ∙ sym (take-map (job_named filing) (length passed.first) (names filing)));
+            });
+          }
+
+      marked_stands : Marked writes front.reached → StandsBehind filing writes after
+      marked_stands marked =
+          let all : take (length (names filing)) (names filing) ≡ names filing = take_all (length (names filing)) (names filing) (omega arith) in
+          record {
+            count = length (names filing);
+            databases = front.databases ∙ marked.databases ∙ ap (λ (ns : List (List ℕ)). (device_among filing ns).databases) (sym all);
+            stage = inr (record { user = front.user ∙ marked.user; written = marked.written; whole = all });
+          }
+
+      by : Reached writes front.reached → StandsBehind filing writes after
+      by (inl passed) = passed_stands passed
+      by (inr marked) = marked_stands marked

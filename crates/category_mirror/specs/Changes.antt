@@ -1,5 +1,5 @@
 -- What the desktop's picked slot becomes once categories were brought together.
-use Rattle.std.specs.Prelude.{◌≡◌, ◌≤◌, ℕ, Bool, true, false, not, ◌==◌, ◌||◌, ◌&&◌, List, [], ◌∷◌, ◌++◌, length, map, Option, None, Some, if◌then◌else◌, Result, Ok}
+use Rattle.std.specs.Prelude.{◌≡◌, ◌≤◌, ℕ, Bool, false, not, ◌==◌, ◌||◌, ◌&&◌, List, [], ◌∷◌, ◌++◌, length, map, Option, None, Some, if◌then◌else◌, Result, Ok}
 use Rattle.std.specs.List.{AllByRecursion}
 use Rattle.hs_folders.specs.FileMaps.{FileMap}
 use Rattle.hs_folders.specs.Moments.{Moments}
@@ -18,26 +18,22 @@ use Rattle.session_plan.specs.Commits.{Commits}
 use Rattle.session_plan.specs.Takes.{slots_with}
 use Rattle.category_mirror.specs.declared.job.FilingJob.{FilingJob}
 use Rattle.category_mirror.specs.Blocks.{MergeValue}
-use Rattle.category_mirror.specs.Refiled.{is_refiled, refiled_rows}
+use Rattle.category_mirror.specs.Refiled.{is_refiled, refiled_base, refiled_rows}
 
--- a record, live and clean where it is cleared
-abbrev pub copied_record : Bool → Record → Record
-copied_record clear item = record item {
-  deleted = item.deleted && not clear;
-  dirty = item.dirty && not clear;
-  busy = item.busy && not clear;
-}
+-- a record, live and clean
+abbrev pub cleared_record : Record → Record
+cleared_record item = record item { deleted = false; dirty = false; busy = false }
 
--- a database with its flags clear where it is cleared
-unfoldable pub copied_database : Bool → DatabaseValue → DatabaseValue
-copied_database clear database = with_records (map (copied_record clear) database.records) database
+-- a database with its flags clear
+unfoldable pub cleared_database : DatabaseValue → DatabaseValue
+cleared_database database = with_records (map cleared_record database.records) database
 
 -- an archive of records goes along with its flags clear; one without entries stays
 abbrev pub cleared_archive : Option DatabaseValue → Option DatabaseValue
 cleared_archive None = None
 cleared_archive (Some archive) =
     if holds_resources archive.head.attributes || (length archive.records == 0) then None
-    else Some (copied_database true archive)
+    else Some (cleared_database archive)
 
 -- rows and base rows hold records, and the rows change
 abbrev pub is_changed : MergeValue → DatabaseValue → DatabaseValue → Bool
@@ -45,7 +41,7 @@ is_changed merge rows base =
     not (holds_resources rows.head.attributes)
     && (not (holds_resources base.head.attributes) && is_refiled merge rows)
 
--- the change of a database: its rows, its base rows as they are, its archive
+-- the change of a database: its rows, its base rows along with them, its archive
 abbrev pub change_for : Option MergeValue → Option DatabaseValue → Option DatabaseValue
     → Option DatabaseValue → List DbChange
 change_for None rows base archive = []
@@ -55,7 +51,7 @@ change_for (Some merge) (Some rows) (Some base) archive =
     if is_changed merge rows base
     then record {
       rows = refiled_rows merge rows;
-      base = copied_database false base;
+      base = refiled_base merge base;
       archive = cleared_archive archive;
     } ∷ []
     else []

@@ -25,6 +25,7 @@ use Rattle.desktop_session.specs.Lasts.{IsByLastReply}
 use Rattle.desktop_session.specs.Requests.{ending}
 use Rattle.desktop_session.specs.Sessions.{SessionValue}
 use Rattle.desktop_session.specs.Stops.{Does, Stops}
+use Rattle.mirrors.specs.Asks.{Asks}
 use Rattle.session_parts.specs.declared.meeting.Met.{Met}
 use Rattle.session_parts.specs.declared.report.Did.{Did}
 use Rattle.session_parts.specs.declared.skip.Skip.{Skip}
@@ -43,7 +44,7 @@ use Rattle.session_parts.specs.declared.report.DbReport.{DbReport}
 use Rattle.session_parts.specs.declared.outcome.Outcome.{Outcome}
 use Rattle.category_mirror.specs.Blocks.{MergeValue}
 use Rattle.category_mirror.specs.Changes.{CommitsFiled, changes_filed}
-use Rattle.category_mirror.specs.FilingActs.{SaysFiled, files_under}
+use Rattle.category_mirror.specs.FilingActs.{SaysFiled, files_under, marks_for}
 use Rattle.category_mirror.specs.Jobs.{filing_jobs}
 use Rattle.category_mirror.specs.Refiled.{moved_count, used_count}
 
@@ -118,6 +119,31 @@ pub record Carries {L F : Type 0} (talk : L → Option Talk) (since : L → L �
   pub commits : CommitsFiled contents moments paths faults changes desk answer
   pub goes : AfterCommit talk since fault downs reports old answer left
 
+-- the handheld knows no desktop where it was to, and then the desktop was to commit
+abbrev pub AfterMark : {L F : Type 0} → (L → Option Talk) → (L → L → Type 0)
+    → (L → Option LinkFault) → (L → ℕ) → (F → Option FileMap) → (F → Moments)
+    → (F → Option (List (List ℕ))) → (F → ℕ) → List DbChange → Vec DbReport → SessionValue L
+    → DeskValue F → Result (Unit {0}) SessionFault → Outcome L F → Type 0
+AfterMark talk since fault downs contents moments paths faults made reports now desk (Ok done) left =
+    Carries talk since fault downs contents moments paths faults made reports now desk left
+AfterMark talk since fault downs contents moments paths faults made reports now desk (Err why) left =
+    left ≡ stopped now.link desk.folder (stop.Session why)
+
+-- The handheld was marked where the desktop has changes, the desktop was to commit them, and the
+-- session to end then.
+pub record Marks {L F : Type 0} (talk : L → Option Talk) (since : L → L → Type 0)
+    (fault : L → Option LinkFault) (downs : L → ℕ)
+    (contents : F → Option FileMap) (moments : F → Moments) (paths : F → Option (List (List ℕ)))
+    (faults : F → ℕ)
+    (changes : List DbChange) (reports : Vec DbReport) (old : SessionValue L)
+    (desk : DeskValue F) (left : Outcome L F) : Type 0 where
+  pub now : SessionValue L
+  pub answer : Result (Unit {0}) SessionFault
+  pub asks : Asks talk since fault downs (marks_for changes old.user) old now answer
+  pub cause : IfErr answer (IsLater (talk now.link) (fault now.link))
+  pub goes : AfterMark talk since fault downs contents moments paths faults changes reports now desk
+      answer left
+
 -- The desktop was to commit what changes by these merges, and the session to end then.
 pub record Turns {L F : Type 0} (talk : L → Option Talk) (since : L → L → Type 0)
     (fault : L → Option LinkFault) (downs : L → ℕ)
@@ -127,7 +153,7 @@ pub record Turns {L F : Type 0} (talk : L → Option Talk) (since : L → L → 
     (desk : DeskValue F) (left : Outcome L F) : Type 0 where
   pub reports : Vec DbReport
   pub told : reports.items ≡ reports_filed (shelves_in desk) jobs merges
-  pub carries : Carries talk since fault downs contents moments paths faults
+  pub marks : Marks talk since fault downs contents moments paths faults
       (changes_filed (shelves_in desk) jobs merges) reports old desk left
 
 -- all blocks are written where they differ, or not; behind them memory may be wanted before the

@@ -1,18 +1,21 @@
 -- What a session says that brings categories together.
-use Rattle.std.specs.Prelude.{◌≡◌, ℕ, List, [], ◌∷◌, Option, None, Some, IfSome, Result, Ok, Err, option_and_then}
+use Rattle.std.specs.Prelude.{◌≡◌, ℕ, Bool, true, false, ◌==◌, List, [], ◌∷◌, Option, None, Some, IfSome, Result, Ok, Err, option_and_then}
 use Rattle.pdb_values.specs.Databases.{DatabaseValue}
 use Rattle.pdb_values.specs.NamedDatabases.{database_of}
+use Rattle.pdb_values.specs.declared.user.UserInfo.{UserInfo}
 use Rattle.palm_device.specs.Devices.{Device}
 use Rattle.dlp_replies.specs.ReplyReading.{reply_at}
 use Rattle.dlp_commands.specs.Talks.{Talk}
 use Rattle.desk_store.specs.Shelves.{ShelvesValue}
+use Rattle.desk_store.specs.declared.change.DbChange.{DbChange}
 use Rattle.desktop_session.specs.declared.fault.SessionFault.{SessionFault}
 use Rattle.desktop_session.specs.Acts.{Act, acted}
 use Rattle.desktop_session.specs.Answers.{block_of, or_none, said_in}
-use Rattle.desktop_session.specs.Requests.{opening, reading_app, writing_app}
+use Rattle.desktop_session.specs.Requests.{marking, opening, reading_app, writing_app}
 use Rattle.desktop_session.specs.Says.{saying}
 use Rattle.session_parts.specs.declared.skip.Skip.{Skip}
 use Rattle.session_parts.specs.Spans.{within}
+use Rattle.session_plan.specs.Users.{begun_user}
 use Rattle.category_mirror.specs.declared.job.FilingJob.{FilingJob}
 use Rattle.category_mirror.specs.Blocks.{MergeValue, blocks_merge, written_block}
 
@@ -50,6 +53,22 @@ abbrev pub files_of : List ℕ → Option (List ℕ) → Option Talk → ℕ →
 files_of name rows_app told =
     within (opening name)
     (λ handle given. filed_under rows_app (saying (opening name ∷ []) told) handle)
+
+-- a handheld that knows a desktop is to know none
+abbrev pub marks_unless : Bool → UserInfo → List Act
+marks_unless true user = []
+marks_unless false user = marking (begun_user user) 0x40 ∷ []
+
+-- so it is where the desktop's rows change, since a base row that goes along may not be what the
+-- handheld has in a record that it never marked
+unfoldable pub marks_for : List DbChange → UserInfo → List Act
+marks_for [] user = []
+marks_for (change ∷ changes) user = marks_unless (user.pc == 0) user
+
+-- what the handheld knows then
+abbrev pub marked_user : List DbChange → UserInfo → UserInfo
+marked_user [] user = user
+marked_user (change ∷ changes) user = begun_user user
 
 -- the app block of a slot's rows
 abbrev pub rows_app : ShelvesValue → List ℕ → Option (List ℕ)

@@ -1,6 +1,7 @@
 pub mod Blocks
 pub mod Changes
 pub mod Courses
+pub mod Edits
 pub mod FilingActs
 pub mod FilingEnds
 pub mod Filings

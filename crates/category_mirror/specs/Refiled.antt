@@ -2,6 +2,7 @@
 use Rattle.std.specs.Prelude.{ℕ, zero, suc, ◌+◌, if◌then◌else◌, Bool, not, ◌==◌, ◌||◌, List, [], filter, length, map, Option, None, Some, slice_index}
 use Rattle.pdb_values.specs.Databases.{DatabaseValue}
 use Rattle.pdb_values.specs.declared.record.Record.{Record}
+use Rattle.palm_device.specs.Records.{with_records}
 use Rattle.category_tables.specs.Tables.{TableValue, is_used}
 use Rattle.category_mirror.specs.Blocks.{MergeValue, begins_with, merged_block}
 
@@ -23,6 +24,14 @@ refiled_rows merge rows = record rows {
   app = Some (merged_block merge.table (block_bytes rows.app));
   records = map (refiled_record merge.numbers) rows.records;
 }
+
+-- a base row in the category that its number has in the merge; a gone one stays as it is
+abbrev pub refiled_base_row : List ℕ → Record → Record
+refiled_base_row numbers item = if item.deleted then item else refiled_record numbers item
+
+-- base rows that go along with their rows; all else of them stays
+unfoldable pub refiled_base : MergeValue → DatabaseValue → DatabaseValue
+refiled_base merge base = with_records (map (refiled_base_row merge.numbers) base.records) base
 
 -- a record whose category has another number in the merge
 abbrev pub is_moved : List ℕ → Record → Bool

@@ -1,5 +1,5 @@
 -- Both sides of a session that brings categories together: what it says, and what it makes of them.
-use Rattle.std.specs.Prelude.{◌≡◌, ℕ, Bool, true, false, not, ◌&&◌, ◌||◌, ◌==◌, List, [], ◌∷◌, ◌++◌, filter, length, map, max, slice_set, take}
+use Rattle.std.specs.Prelude.{◌≡◌, ◌⊎◌, ℕ, Bool, true, false, not, ◌&&◌, ◌||◌, ◌==◌, List, [], ◌∷◌, ◌++◌, filter, length, map, max, slice_set, take}
 use Rattle.std.specs.Prelude.{Option, None, Some, option_and_then, if◌then◌else◌}
 use Rattle.std.specs.List.{flat_map, list_any}
 use Rattle.std.specs.Str.{bytes_eq}
@@ -23,12 +23,12 @@ use Rattle.session_plan.specs.Tasks.{place_for}
 use Rattle.category_mirror.specs.declared.job.FilingJob.{FilingJob}
 use Rattle.session_parts.specs.declared.report.DbReport.{DbReport}
 use Rattle.category_mirror.specs.Blocks.{MergeValue, blocks_merge, written_block}
-use Rattle.category_mirror.specs.Changes.{change_filed, copied_database}
+use Rattle.category_mirror.specs.Changes.{change_filed, cleared_database}
 use Rattle.category_mirror.specs.Courses.{report_filed}
-use Rattle.category_mirror.specs.FilingActs.{rows_app, unless_skipped, writes_where}
+use Rattle.category_mirror.specs.FilingActs.{marked_user, marks_for, rows_app, unless_skipped, writes_where}
 use Rattle.category_mirror.specs.Filings.{block_by, rows_by}
 use Rattle.category_mirror.specs.Jobs.{filing_job}
-use Rattle.category_mirror.specs.Refiled.{is_refiled}
+use Rattle.category_mirror.specs.Refiled.{is_refiled, refiled_base}
 
 -- ---- both sides
 
@@ -89,6 +89,12 @@ merge_of filing job =
 abbrev pub merge_named : Filing → List ℕ → Option MergeValue
 merge_named filing name = merge_of filing (job_named filing name)
 
+-- what changes of the desktop: nothing where no row does
+unfoldable pub filing_changes : Filing → List DbChange
+filing_changes filing =
+    flat_map (λ name. change_filed (shelves_of filing) name (merge_named filing name))
+    (names filing)
+
 -- ---- what is said
 
 -- under the handle of a database: its block is read, and the merged one written where it differs
@@ -103,11 +109,19 @@ unfoldable pub job_acts : Filing → FilingJob → List Act
 job_acts filing job =
     unless_skipped job.skip (within (opening job.name) (block_acts filing job) 1 [])
 
--- all but the end
-unfoldable pub before_end : Filing → List Act
-before_end filing =
+-- all up to the mark
+unfoldable pub before_mark : Filing → List Act
+before_mark filing =
     greeting ++ (listings (max 1 (length filing.device.databases))
     ++ flat_map (job_acts filing) (jobs filing))
+
+-- where the desktop's rows change, the handheld is to know no desktop
+unfoldable pub mark_acts : Filing → List Act
+mark_acts filing = marks_for (filing_changes filing) filing.device.user
+
+-- all but the end
+unfoldable pub before_end : Filing → List Act
+before_end filing = before_mark filing ++ mark_acts filing
 
 -- the whole session
 unfoldable pub filing_acts : Filing → List Act
@@ -117,7 +131,7 @@ filing_acts filing = before_end filing ++ ending ∷ []
 abbrev pub write_count : List Act → ℕ
 write_count acts = length (filter changes (map text acts))
 
--- the blocks that are written
+-- the blocks that are written, and the mark
 abbrev pub block_writes : Filing → ℕ
 block_writes filing = write_count (before_end filing)
 
@@ -130,10 +144,13 @@ with_merge merge database = record database { app = block_by database.app merge 
 abbrev pub filed_database : Filing → DatabaseValue → DatabaseValue
 filed_database filing database = with_merge (merge_named filing database.head.name) database
 
--- each database has its merged table; all else is as it was
+-- each database has its merged table, and the handheld knows no desktop where the desktop's rows
+-- change; all else is as it was
 unfoldable pub filed_device : Filing → Device
-filed_device filing =
-    record filing.device { databases = map (filed_database filing) filing.device.databases }
+filed_device filing = record filing.device {
+  databases = map (filed_database filing) filing.device.databases;
+  user = marked_user (filing_changes filing) filing.device.user;
+}
 
 -- a name is among these
 abbrev pub is_among : List ℕ → List (List ℕ) → Bool
@@ -148,14 +165,24 @@ unfoldable pub device_among : Filing → List (List ℕ) → Device
 device_among filing names =
     record filing.device { databases = map (filed_where filing names) filing.device.databases }
 
+-- in front of its mark: as many blocks were written as the first databases need
+pub record StandsUnmarked (filing : Filing) (count writes : ℕ) (after : Device) : Type 0 where
+  pub user : after.user ≡ filing.device.user
+  pub written :
+      writes ≡ write_count (flat_map (job_acts filing) (take count (jobs filing)))
+
+-- behind it: all was written
+pub record StandsMarked (filing : Filing) (count writes : ℕ) (after : Device) : Type 0 where
+  pub user : after.user ≡ (filed_device filing).user
+  pub written : writes ≡ block_writes filing
+  pub whole : take count (names filing) ≡ names filing
+
 -- A handheld behind so many writes of a session: the first databases of the session have their
 -- merged tables, in byte order of their names, and the others are as they were.
 pub record StandsBehind (filing : Filing) (writes : ℕ) (after : Device) : Type 0 where
   pub count : ℕ
   pub databases : after.databases ≡ (device_among filing (take count (names filing))).databases
-  pub user : after.user ≡ filing.device.user
-  pub written :
-      writes ≡ write_count (flat_map (job_acts filing) (take count (jobs filing)))
+  pub stage : StandsUnmarked filing count writes after ⊎ StandsMarked filing count writes after
 
 -- ---- the desktop then
 
@@ -165,14 +192,25 @@ change_by None rows = false
 change_by (Some merge) None = false
 change_by (Some merge) (Some rows) = is_refiled merge rows
 
+-- base rows go along where the rows of their name change
+abbrev pub base_by : Option MergeValue → Option DatabaseValue → DatabaseValue → DatabaseValue
+base_by None rows base = base
+base_by (Some merge) rows base =
+    if change_by (Some merge) rows then refiled_base merge base else base
+
 -- an archive of records has its flags clear where the rows of its name change
 abbrev pub archive_by : Bool → DatabaseValue → DatabaseValue
 archive_by changed archive =
     if changed && not (holds_resources archive.head.attributes || (length archive.records == 0))
-    then copied_database true archive else archive
+    then cleared_database archive else archive
 
 abbrev pub filed_rows : Filing → DatabaseValue → DatabaseValue
 filed_rows filing rows = rows_by (merge_named filing rows.head.name) rows
+
+abbrev pub filed_base : Filing → DatabaseValue → DatabaseValue
+filed_base filing base =
+    base_by (merge_named filing base.head.name)
+    (database_of base.head.name (shelves_of filing).rows) base
 
 abbrev pub filed_archive : Filing → DatabaseValue → DatabaseValue
 filed_archive filing archive =
@@ -180,11 +218,11 @@ filed_archive filing archive =
     (change_by (merge_named filing archive.head.name)
     (database_of archive.head.name (shelves_of filing).rows)) archive
 
--- rows have the merged tables and each record its category in them; base rows stay
+-- rows have the merged tables, and each record its category in them; base rows go along
 unfoldable pub filed_shelves : Filing → ShelvesValue
 filed_shelves filing = record {
   rows = map (filed_rows filing) (shelves_of filing).rows;
-  bases = (shelves_of filing).bases;
+  bases = map (filed_base filing) (shelves_of filing).bases;
   archives = map (filed_archive filing) (shelves_of filing).archives;
 }
 
@@ -193,12 +231,6 @@ unfoldable pub filed_slots : Filing → List SlotValue
 filed_slots filing =
     slice_set filing.slots filing.picked
     (record { marks = (slot_of filing).marks; shelves = filed_shelves filing })
-
--- what changes of it: nothing where no row does
-unfoldable pub filing_changes : Filing → List DbChange
-filing_changes filing =
-    flat_map (λ name. change_filed (shelves_of filing) name (merge_named filing name))
-    (names filing)
 
 -- ---- what is told
 

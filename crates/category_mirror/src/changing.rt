@@ -7,34 +7,34 @@ ghost use Rattle.category_mirror.specs.Changes as changes;
 
 use crate::job::FilingJob;
 use crate::merge::Merge;
-use crate::refiling::{is_refiled, refiled};
+use crate::refiling::{is_refiled, refiled, refiled_base};
 use desk_store::{DbChange, Desk};
 use hs_folders::Folder;
 use pdb_values::{Database, DbName, Record};
 use session_plan::refilled;
 use std::alloc::{AllocError, Global};
 
-// A record once more, live and clean where it is to be cleared.
-fn copied(alloc: Global, item: &Record, clear: bool) -> Result<Record, AllocError>
-    ensures { IfOk result (λ copy. copy ≡ changes.copied_record clear item.now) }
+// A record once more, live and clean.
+fn cleared_record(alloc: Global, item: &Record) -> Result<Record, AllocError>
+    ensures { IfOk result (λ copy. copy ≡ changes.cleared_record item.now) }
 {
     Ok(Record {
         id: item.id,
-        deleted: item.deleted && !clear,
-        dirty: item.dirty && !clear,
-        busy: item.busy && !clear,
+        deleted: false,
+        dirty: false,
+        busy: false,
         content: item.content.copy(alloc)?,
     })
 }
 
-// A database of records once more, with its flags clear where it is to be cleared.
-fn copy_of(alloc: Global, database: &Database, clear: bool) -> Result<Database, AllocError>
+// A database of records once more, with its flags clear.
+fn cleared_database(alloc: Global, database: &Database) -> Result<Database, AllocError>
     requires { holds_resources database.now.head.attributes ≡ false }
-    ensures { IfOk result (λ copy. copy ≡ changes.copied_database clear database.now) }
+    ensures { IfOk result (λ copy. copy ≡ changes.cleared_database database.now) }
 {
     let mut records = Vec::new(alloc);
     for item in database.records() {
-        records.push(copied(alloc, item, clear)?)?;
+        records.push(cleared_record(alloc, item)?)?;
     }
     refilled(alloc, database, records)
 }
@@ -52,7 +52,7 @@ fn cleared_archive(
     if archive.head().holds_resources() || archive.records().is_empty() {
         return Ok(None);
     }
-    Ok(Some(copy_of(alloc, archive, true)?))
+    Ok(Some(cleared_database(alloc, archive)?))
 }
 
 // Whether rows and base rows hold records, and the rows change.
@@ -86,7 +86,7 @@ fn change_of(
     }
     Ok(Some(DbChange {
         rows: refiled(alloc, rows, merge)?,
-        base: copy_of(alloc, base, false)?,
+        base: refiled_base(alloc, base, merge)?,
         archive: cleared_archive(alloc, archive)?,
     }))
 }

@@ -1,6 +1,9 @@
 // What holds of categories that were brought together. Each function here does nothing: its contract is the law.
-ghost use Rattle.std.specs.Prelude.{◌≡◌, ℕ, IsSome, List, [], None, Option, Some, false, map, true};
+ghost use Rattle.conduit_rules.specs.declared.table.Side.{Side};
+ghost use Rattle.std.specs.Prelude.{◌≡◌, ◌≢◌, ℕ, IsSome, List, [], None, Option, Some, false, map, true};
 ghost use Rattle.pdb_values.specs.Databases.{DatabaseValue};
+ghost use Rattle.pdb_values.specs.declared.user.Marks.{Marks};
+ghost use Rattle.mirrors.specs.Agreements.{agreed};
 ghost use Rattle.palm_device.specs.Devices.{Device};
 ghost use Rattle.desktop_session.specs.Acts.{text};
 ghost use Rattle.desktop_session.specs.Orders.{AreInOrder};
@@ -12,7 +15,9 @@ ghost use Rattle.category_tables.specs.Swaps.{AreSwapped};
 ghost use Rattle.category_mirror.specs.Blocks.{MergeValue, begins_with, merged_block, written_block};
 ghost use Rattle.category_mirror.specs.Filings.{AreOfCategories, UndoesSwap, filed_again, filed_block, filed_rows};
 ghost use Rattle.category_mirror.specs.Refiled.{is_refiled, refiled_rows};
-ghost use Rattle.category_mirror.specs.Sides.{Filing, StandsBehind, block_writes, device_among, filed_device, filed_slots, filing_acts, filing_changes, filing_of};
+ghost use Rattle.category_mirror.specs.Edits.{AreRowsOf, RowsGoApart, is_edited, row_state};
+ghost use Rattle.category_mirror.specs.Sides.{filed_rows as rows_filed};
+ghost use Rattle.category_mirror.specs.Sides.{Filing, StandsBehind, block_writes, device_among, filed_base, filed_device, filed_slots, filing_acts, filing_changes, filing_of};
 ghost use Rattle.category_mirror.specs.FilingEnds.{IsFileable};
 ghost use Rattle.desk_store.specs.Shelves.{SlotValue};
 
@@ -50,6 +55,25 @@ pub fn a_swap_is_undone()
         → UndoesSwap handheld desktop i j }
 {}
 
+/// What the run behind it finds of the desktop: no row counts as edited that didn't, and what a row was against its base row it still is,
+/// where two contents of one text that are in different categories go to different ones.
+pub fn no_record_counts_as_edited()
+    ensures unedited { (filing : Filing) (name : List ℕ) (rows base : DatabaseValue) (id : ℕ) (side : Side)
+        → AreRowsOf filing name rows base → is_edited side ≡ false
+        → row_state rows.records base.records id ≡ Some side
+        → row_state (rows_filed filing rows).records (filed_base filing base).records id ≡ Some side }
+    ensures states { (filing : Filing) (name : List ℕ) (rows base : DatabaseValue) (id : ℕ)
+        → AreRowsOf filing name rows base → RowsGoApart filing name rows.records base.records id
+        → row_state (rows_filed filing rows).records (filed_base filing base).records id
+        ≡ row_state rows.records base.records id }
+{}
+
+/// Behind a session that changed the desktop both sides do not agree, so that the next one reads everything.
+pub fn what_moved_is_read_whole()
+    ensures { (filing : Filing) (marks : Marks) → filing_changes filing ≢ [] → marks.pc ≢ 0
+        → agreed (filed_device filing).user marks ≡ false }
+{}
+
 /// A block that begins with the merged table stays as it is where that is put at its head, and rows with a block that do not change stay as
 /// they are.
 pub fn what_does_not_change_stays()
@@ -60,7 +84,7 @@ pub fn what_does_not_change_stays()
 {}
 
 /// On a handheld on which nothing is open each request of a session may be asked at its turn, and behind them all each of its databases has
-/// its merged table, and all else is as it was.
+/// its merged table, the handheld knows no desktop where the desktop's rows change, and all else is as it was.
 pub fn filings_arrive()
     ensures order { (filing : Filing) → IsAtRest filing.device
         → AreInOrder (filing_acts filing) filing.device }
@@ -69,7 +93,7 @@ pub fn filings_arrive()
 {}
 
 /// Wherever a session stops, the first databases of it have their merged tables on a handheld on which nothing was open, as many as blocks
-/// were written, and the others and its user are as they were.
+/// were written, and the others are as they were; so is its user, or all blocks are written and the handheld is marked.
 pub fn blocks_are_written_in_turn()
     ensures { (filing : Filing) (after : Device) (writes : ℕ) (given : List ℕ)
         → IsAtRest filing.device
@@ -77,8 +101,8 @@ pub fn blocks_are_written_in_turn()
         → StandsBehind filing writes after }
 {}
 
-/// Where a session stopped before the desktop's commit, whichever of the handheld's databases had their merged tables by then, and the next
-/// one ends, both sides have what the first would have left.
+/// Where a session stopped before the desktop's commit, whichever of the handheld's databases had their merged tables by then, and whether
+/// it was marked or not, and the next one ends, both sides have what the first would have left.
 pub fn sessions_that_stopped_are_made_up_for()
     ensures handheld { (device : Device) (slots : List SlotValue) (done : List (List ℕ))
         → filed_device (filing_of (device_among (filing_of device slots) done) slots)
@@ -86,6 +110,12 @@ pub fn sessions_that_stopped_are_made_up_for()
     ensures desktop { (device : Device) (slots : List SlotValue) (done : List (List ℕ))
         → filed_slots (filing_of (device_among (filing_of device slots) done) slots)
         ≡ filed_slots (filing_of device slots) }
+    ensures marked_handheld { (device : Device) (slots : List SlotValue) → IsAtRest device
+        → let first = filing_of device slots in
+        filed_device (filing_of (filed_device first) slots) ≡ filed_device first }
+    ensures marked_desktop { (device : Device) (slots : List SlotValue) → IsAtRest device
+        → let first = filing_of device slots in
+        filed_slots (filing_of (filed_device first) slots) ≡ filed_slots first }
 {}
 
 /// A session behind one that ended, or that stopped behind the desktop's commit, writes no block, commits nothing, and leaves both sides as

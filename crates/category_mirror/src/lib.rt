@@ -19,8 +19,9 @@ pub use job::{FilingJob, filing_jobs};
 pub use laws::{
     a_second_session_changes_nothing, a_session_behind_another_changes_nothing,
     a_stopped_session_is_made_up_for, a_swap_is_undone, blocks_are_written_in_turn, filings_arrive,
-    sessions_that_stopped_are_made_up_for, what_does_not_change_stays,
+    no_record_counts_as_edited, sessions_that_stopped_are_made_up_for, what_does_not_change_stays,
+    what_moved_is_read_whole,
 };
 pub use merge::Merge;
-pub use refiling::{is_refiled, refiled};
+pub use refiling::{is_refiled, refiled, refiled_base};
 pub use session::file_session;

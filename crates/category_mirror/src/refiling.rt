@@ -66,6 +66,48 @@ pub fn refiled(alloc: Global, rows: &Database, merge: &Merge) -> Result<Database
     }
 }
 
+// A base row once more, in the category that its number has in the merge; a gone one as it is.
+fn refiled_base_row(alloc: Global, merge: &Merge, item: &Record) -> Result<Record, AllocError>
+    ensures { IfOk result (λ copy. copy ≡ made.refiled_base_row merge.now.numbers item.now) }
+{
+    if !item.deleted {
+        return refiled_record(alloc, merge, item);
+    }
+    Ok(Record {
+        id: item.id,
+        deleted: true,
+        dirty: item.dirty,
+        busy: item.busy,
+        content: item.content.copy(alloc)?,
+    })
+}
+
+// Base rows once more, each in its category.
+fn refiled_base_rows(
+    alloc: Global,
+    merge: &Merge,
+    records: &[Record],
+) -> Result<Vec<Record>, AllocError>
+    ensures { IfOk result (λ copies. copies.items
+        ≡ map (made.refiled_base_row merge.now.numbers) records.now) }
+{
+    let mut copies = Vec::new(alloc);
+    for item in records {
+        copies.push(refiled_base_row(alloc, merge, item)?)?;
+    }
+    Ok(copies)
+}
+
+/// Base rows once more, each that isn't gone in the category that its number has in the merge, as the rows are that they belong to.
+/// All else of them stays.
+pub fn refiled_base(alloc: Global, base: &Database, merge: &Merge) -> Result<Database, AllocError>
+    requires { holds_resources base.now.head.attributes ≡ false }
+    ensures { IfOk result (λ copy. copy ≡ made.refiled_base merge.now base.now) }
+{
+    let records = refiled_base_rows(alloc, merge, base.records())?;
+    refilled(alloc, base, records)
+}
+
 // Whether the category of a record has another number in the merge.
 fn is_moved(merge: &Merge, item: &Record) -> bool
     ensures { result ≡ made.is_moved merge.now.numbers item.now }

@@ -1,17 +1,20 @@
 // A session that brings the categories of both sides together, from the greeting to the end.
-ghost use Rattle.std.specs.Prelude.{◌≡◌, ◌≤◌, ◌⊎◌, IfOk, false, length};
+ghost use Rattle.std.specs.Prelude.{◌≡◌, ◌≤◌, ◌⊎◌, IfErr, IfOk, false, length};
 ghost use Rattle.desk_store.specs.Desks.{IsDesk};
 ghost use Rattle.desk_store.specs.Views.{shelves_in};
 ghost use Rattle.pdb_values.specs.Slots.{slot_for as slot_of};
 ghost use Rattle.desktop_session.specs.declared.fault.SessionFault.TheVariants as session;
 ghost use Rattle.session_parts.specs.declared.stop.Stop.TheVariants as stops;
+ghost use Rattle.mirrors.specs.Asks.{Asks};
+ghost use Rattle.session_parts.specs.Causes.{IsLater};
 ghost use Rattle.session_parts.specs.Leaving.{Leaves};
 ghost use Rattle.session_parts.specs.Meets.{IsSeated};
 ghost use Rattle.session_parts.specs.Rests.{WhereAtRest};
 ghost use Rattle.session_plan.specs.Fits.{Rise};
 ghost use Rattle.category_mirror.specs.Changes.{AreCommittable, changes_filed as changes_of};
-ghost use Rattle.category_mirror.specs.Courses.{Carries, Files, FilingRan, Finishes, Turns, picked_for};
+ghost use Rattle.category_mirror.specs.Courses.{Carries, Files, FilingRan, Finishes, Marks, Turns, picked_for};
 ghost use Rattle.category_mirror.specs.Courses.{reports_filed as reports_of, stopped as left_by};
+ghost use Rattle.category_mirror.specs.FilingActs.{marks_for, marks_unless};
 ghost use Rattle.category_mirror.specs.FilingEnds.{FilingEnds};
 ghost use Rattle.category_mirror.specs.Jobs.{names_filed};
 ghost use Rattle.category_mirror.specs.Leaving.{LeavesFolder};
@@ -29,6 +32,7 @@ use dlp_commands::Link;
 use hs_folders::Folder;
 use pdb_values::slot_for;
 use session_parts::{DbReport, Met, Outcome, Stop, meet_over};
+use session_plan::begun_user;
 use std::alloc::{AllocError, Global};
 
 // A session that stopped, and the desktop as it is.
@@ -70,6 +74,7 @@ fn finish<L: Link, D: Folder>(
 }
 
 // What the desktop gets, and what is told of it.
+#[derive(Drop)]
 struct Prepared {
     changes: Vec<DbChange>,
     reports: Vec<DbReport>,
@@ -99,6 +104,34 @@ fn prepare<D: Folder>(
     Ok(Prepared { changes, reports })
 }
 
+// Marks the handheld as one that knows no desktop.
+fn mark<L: Link>(linked: &mut Linked<L>) -> Result<(), SessionFault>
+    requires { linked.old.abandoned ≡ false }
+    ensures asks { Asks L.talk L.since L.fault L.downs (marks_unless false linked.old.user)
+        linked.old linked.new result }
+    ensures cause { IfErr result (IsLater (L.talk linked.new.link) (L.fault linked.new.link)) }
+{
+    let user = begun_user(linked.user());
+    linked.mark(&user, 0x40)
+}
+
+// Where the desktop's rows change, the handheld is to know no desktop, so that the next session reads all of it.
+fn mark_where<L: Link>(linked: &mut Linked<L>, changes: &[DbChange]) -> Result<(), SessionFault>
+    requires { linked.old.abandoned ≡ false }
+    ensures asks { Asks L.talk L.since L.fault L.downs (marks_for changes.now linked.old.user)
+        linked.old linked.new result }
+    ensures cause { IfErr result (IsLater (L.talk linked.new.link) (L.fault linked.new.link)) }
+{
+    let known = linked.user().pc;
+    if changes.is_empty() {
+        return Ok(());
+    }
+    if known == 0 {
+        return Ok(());
+    }
+    mark(linked)
+}
+
 // The desktop commits what changes, and then the session is ended.
 fn commit<L: Link, D: Folder>(linked: Linked<L>, desk: Desk<D>, prepared: Prepared) -> Outcome<L, D>
     requires open { linked.abandoned ≡ false }
@@ -114,6 +147,24 @@ fn commit<L: Link, D: Folder>(linked: Linked<L>, desk: Desk<D>, prepared: Prepar
             folder,
             end: Err(Stop::from(fault)),
         },
+    }
+}
+
+// The handheld is marked where the desktop's rows change, and the desktop commits what changes.
+fn mark_and_commit<L: Link, D: Folder>(
+    linked: Linked<L>,
+    desk: Desk<D>,
+    prepared: Prepared,
+) -> Outcome<L, D>
+    requires open { linked.abandoned ≡ false }
+    requires fit { AreCommittable prepared.changes.items desk }
+    ensures { Marks L.talk L.since L.fault L.downs D.contents D.moments D.paths D.faults
+        prepared.changes.items prepared.reports linked desk result }
+{
+    let mut linked = linked;
+    match mark_where(&mut linked, &prepared.changes) {
+        Ok(()) => commit(linked, desk, prepared),
+        Err(cause) => stopped(link_of(linked), desk, Stop::Session(cause)),
     }
 }
 
@@ -133,7 +184,7 @@ fn turn<L: Link, D: Folder>(
         ⊎ (result ≡ left_by linked.link desk.folder (stops.Session session.NoMemory)) }
 {
     match prepare(alloc, &desk, jobs, merges) {
-        Ok(prepared) => commit(linked, desk, prepared),
+        Ok(prepared) => mark_and_commit(linked, desk, prepared),
         Err(AllocError) => stopped(link_of(linked), desk, Stop::Session(SessionFault::NoMemory)),
     }
 }
@@ -182,8 +233,9 @@ fn run<L: Link, D: Folder>(alloc: Global, link: L, desk: Desk<D>) -> Outcome<L, 
 }
 
 /// Runs a session that brings the categories of a handheld behind a link and of a desktop together, from the wake to the end: both sides
-/// meet, where the handheld's user has a slot; the block of each database is read, and the merged one written where it differs; the desktop
-/// commits what changes of the picked slot, its marks as they are, and nothing where nothing changes.
+/// meet, where the handheld's user has a slot; the block of each database is read, and the merged one written where it differs; where the desktop's rows
+/// change, the handheld is marked as one that knows no desktop; the desktop commits what changes of the picked slot, its marks as they are,
+/// and nothing where nothing changes.
 ///
 /// The link and the desktop's folder come back however it ended. The desktop's folder changes only behind all writes of the handheld.
 /// Over a link that tells its handheld the session ends with both sides filed, or it stops before the desktop's commit or behind it, and

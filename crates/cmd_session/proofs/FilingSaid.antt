@@ -19,7 +19,7 @@ use Rattle.session_parts.specs.declared.report.DbReport.{DbReport}
 use Rattle.session_parts.specs.declared.stop.Stop.{Stop}
 use Rattle.session_parts.specs.declared.stop.Stop.TheVariants as stop
 use Rattle.category_mirror.specs.FilingEnds.{IsEnded, IsFilingStop, StopsFor, seat_of, users_in}
-use Rattle.category_mirror.specs.Sides.{Filing, before_end, filing_acts}
+use Rattle.category_mirror.specs.Sides.{Filing, before_end, before_mark, filing_acts}
 use Rattle.call_parts.specs.Causes.{IsCutShort, down_status, fault_status, stop_status}
 use Rattle.call_parts.specs.Closings.{left_status}
 use Rattle.cmd_session.specs.Filings.{FilingShows, ShowsFiling}
@@ -50,7 +50,7 @@ one-more filing =
     ap (λ (l : List (List ℕ)). length l) (requests-are filing) ∙ length-append (first_requests filing) (text ending ∷ [])
 
 pub two-first : (filing : Filing) → 2 ≤ length (first_requests filing)
-unfolding before_end
+unfolding before_end before_mark
 two-first filing = omega arith
 
 -- ---- what was said

@@ -1,10 +1,13 @@
 -- Categories that were brought together stay as they are, and those of a session that stopped are made up for.
 use Rattle.std.proofs.Math.Seq.{map-set_same}
-use Rattle.std.proofs.Common.{◌≡◌, ◌∙◌, ap, arith, inl, inr, refl, subst, sym, ℕ, false, List, [], ◌∷◌, length, take}
+use Rattle.std.proofs.Common.{◌≡◌, ◌∙◌, ◌⊎◌, ap, arith, inl, inr, refl, subst, sym, ℕ, false, List, [], ◌∷◌, length, take}
 use Rattle.std.specs.Prelude.{IsErr, IsOk, Option, None, Some, Result, Ok, Err}
 use Rattle.std.specs.Option.{option_map}
 use Rattle.hs_folders.specs.FileMaps.{FileMap}
 use Rattle.pdb_values.specs.Slots.{slot_for}
+use Rattle.pdb_values.specs.declared.slot.Slot.{Slot}
+use Rattle.pdb_values.specs.declared.slot.Slot.TheVariants as slot
+use Rattle.desk_store.specs.declared.change.DbChange.{DbChange}
 use Rattle.pdb_values.specs.declared.user.UserInfo.{UserInfo}
 use Rattle.palm_device.specs.Devices.{Device}
 use Rattle.folder_files.specs.Slots.{users_of}
@@ -19,9 +22,11 @@ use Rattle.desktop_session.specs.Requests.{reading_user}
 use Rattle.desktop_session.specs.Says.{IsPrefix}
 use Rattle.desktop_session.specs.declared.fault.SessionFault.{SessionFault}
 use Rattle.category_mirror.specs.FilingEnds.{IsFileable, StandsFiled, seat_of, users_in}
-use Rattle.category_mirror.specs.Sides.{Filing, block_writes, device_among, filed_device, filed_slots, filing_changes, filing_of, names}
-use Rattle.category_mirror.proofs.DoneLaws.{filed_closed}
-use Rattle.category_mirror.proofs.RepeatLaws.{second_changes, second_device, second_slots, stopped_device, stopped_slots}
+use Rattle.category_mirror.specs.Sides.{Filing, StandsBehind, StandsMarked, StandsUnmarked, block_writes, device_among, filed_device, filed_slots, filing_changes, filing_of, names}
+use Rattle.category_mirror.specs.FilingActs.{marked_user}
+use Rattle.category_mirror.proofs.MarkLaws.{marked-user}
+use Rattle.category_mirror.proofs.DoneLaws.{among_all, filed_closed}
+use Rattle.category_mirror.proofs.RepeatLaws.{marked_device, marked_slots, second_changes, second_device, second_slots, stopped_device, stopped_slots}
 use Rattle.run_words.specs.Betweens.{Between}
 use Rattle.cmd_status.specs.declared.status.Status.{Status}
 use Rattle.hotsync_run.specs.Calls.{Call}
@@ -35,7 +40,7 @@ use Rattle.call_parts.specs.declared.report.SessionEnd.{SessionEnd}
 use Rattle.hotsync_run.proofs.FilingPromises.{filing_ran}
 use Rattle.cmd_session.proofs.FilingSaid.{one-more, two-first}
 use Rattle.hotsync_run.proofs.FilingUnseated.{unseated_changes}
-use Rattle.hotsync_run.proofs.FilingWritten.{written_all}
+use Rattle.hotsync_run.proofs.FilingWritten.{user_all, written_all}
 use Rattle.front_laws.proofs.RequestLaws.{prefix-length}
 use Rattle.hotsync_run.proofs.OneLaws.{IsOne, same_handheld, same_slots, told_slots}
 use Rattle.call_parts.specs.declared.report.SessionEnd.TheVariants.{Ended, NotStarted, Stopped}
@@ -52,6 +57,21 @@ still (Some held) {slots} desk = subst (λ (f : FileMap). IsDesk (Some f) slots)
 filed_users : (filing : Filing) → users_in (record { device = filed_device filing; slots = filed_slots filing; picked = filing.picked }) ≡ users_in filing
 unfolding filed_slots
 filed_users filing = ap users_of (map-set_same (λ (s : SlotValue). s.marks) filing.slots filing.picked _ (new_slot (number_of filing.slots)) refl)
+
+-- a mark leaves a user a slot, or none
+ok_with : (users : List ℕ) (changes : List DbChange) (user : UserInfo) (found : Slot)
+    → IsOk (user_with users (marked_user changes user) found) → IsOk (user_with users user found)
+ok_with users changes user (slot.Old place) is = refl
+ok_with users changes user slot.New is = refl
+ok_with users changes user slot.Refused is = absurd (let never : ⊥ = cc in never)
+ok_with users changes user slot.Full is = absurd (let never : ⊥ = cc in never)
+
+err_with : (users : List ℕ) (changes : List DbChange) (user : UserInfo) (found : Slot)
+    → IsErr (user_with users user found) → IsErr (user_with users (marked_user changes user) found)
+err_with users changes user (slot.Old place) is = absurd (let never : ⊥ = cc in never)
+err_with users changes user slot.New is = absurd (let never : ⊥ = cc in never)
+err_with users changes user slot.Refused is = refl
+err_with users changes user slot.Full is = refl
 
 -- ---- a session that ended
 
@@ -127,12 +147,25 @@ module _ (first second : Call) (is : IsSecondCall first second)
       seated = seat;
     }
 
+    abbrev known : UserInfo
+    known = marked_user (filing_changes filing) one.device.user
+
     -- both have the same users, and the same slot for the handheld's
-    same_seat : seat_of again ≡ seat_of filing
+    again_seat : seat_of again ≡ user_with (users_in filing) known (slot_for (users_in filing) one.device.user.user false)
     unfolding filed_device
-    same_seat =
+    again_seat =
         ap seat_of again_is
-        ∙ ap (λ (users : List ℕ). user_with users one.device.user (slot_for users one.device.user.user false)) (filed_users filing)
+        ∙ ap (λ (users : List ℕ). user_with users known (slot_for users known.user false)) (filed_users filing)
+        ∙ ap (λ n. user_with (users_in filing) known (slot_for (users_in filing) n false)) (marked-user (filing_changes filing) one.device.user)
+
+    ok_seat : IsOk (seat_of again) → IsOk (seat_of filing)
+    ok_seat is =
+        ok_with (users_in filing) (filing_changes filing) one.device.user (slot_for (users_in filing) one.device.user.user false) (subst IsOk again_seat is)
+
+    err_seat : IsErr (seat_of filing) → IsErr (seat_of again)
+    err_seat is =
+        subst IsErr (sym again_seat)
+        (err_with (users_in filing) (filing_changes filing) one.device.user (slot_for (users_in filing) one.device.user.user false) is)
 
     -- no row changes any more
     no_changes : filing_changes again ≡ []
@@ -140,14 +173,14 @@ module _ (first second : Call) (is : IsSecondCall first second)
       where
         by : (seat : Result UserInfo SessionFault) → seat_of filing ≡ seat → filing_changes again ≡ []
         by (Ok user) here = ap filing_changes again_is ∙ second_changes one.device one.slots (fileable (subst IsOk (sym here) refl))
-        by (Err why) here = unseated_changes two.device two.slots (subst IsErr (sym (same_seat ∙ here)) refl)
+        by (Err why) here = unseated_changes two.device two.slots (err_seat (subst IsErr (sym here) refl))
 
     untouched_so : second.after.desk.contents ≡ option_map finished second.before.desk.contents
     untouched_so = two.had.left.untouched no_changes
 
     together_so : second.report.end ≡ Ended → StandsTogether filing second.after
     together_so over =
-        let may = fileable (subst IsOk same_seat (seated is.other second.before second.after second.status second.report two over)) in
+        let may = fileable (ok_seat (seated is.other second.before second.after second.status second.report two over)) in
         stand_so again_is (second_device one.device one.slots may) (second_slots one.device one.slots may) over
 
   -- ---- behind one that ended
@@ -173,27 +206,51 @@ module _ (first second : Call) (is : IsSecondCall first second)
   abbrev reached : Device
   reached = one.had.left.handheld.reached
 
+  abbrev behind : StandsBehind filing first.report.writes reached
+  behind = one.had.left.handheld.behind
+
   abbrev done : List (List ℕ)
-  done = take one.had.left.handheld.behind.count (names filing)
+  done = take behind.count (names filing)
 
   palm_some : IsOne two.device.databases reached.databases two.device.user reached.user
   palm_some = left_palm reached one.had.left.handheld.stands
 
-  device_some : two.device ≡ device_among filing done
+  abbrev Unmarked : Type 0
+  Unmarked = StandsUnmarked filing behind.count first.report.writes reached
+
+  abbrev Marked : Type 0
+  Marked = StandsMarked filing behind.count first.report.writes reached
+
+  device_some : Unmarked → two.device ≡ device_among filing done
   unfolding device_among
-  device_some = same_device two.device (device_among filing done) (palm_some.databases ∙ one.had.left.handheld.behind.databases)
-      (palm_some.user_is ∙ one.had.left.handheld.behind.user) (two.closed ∙ sym one.closed)
+  device_some front = same_device two.device (device_among filing done) (palm_some.databases ∙ behind.databases)
+      (palm_some.user_is ∙ front.user) (two.closed ∙ sym one.closed)
+
+  -- in front of the mark, and behind it
+  front_palm : first.report.writes ≡ block_writes filing → Unmarked
+      → IsOne two.device.databases (filed_device filing).databases two.device.user (filed_device filing).user
+  front_palm written front =
+      let all = sym written ∙ front.written in
+      record {
+        databases = palm_some.databases ∙ behind.databases ∙ written_all filing one.had.left.sound.rests behind.count all;
+        user_is = palm_some.user_is ∙ front.user ∙ user_all filing one.had.left.sound.rests behind.count all;
+      }
+
+  marked_palm : Marked → IsOne two.device.databases (filed_device filing).databases two.device.user (filed_device filing).user
+  unfolding filed_device
+  marked_palm marked = record {
+    databases = palm_some.databases ∙ behind.databases ∙ ap (λ (ns : List (List ℕ)). (device_among filing ns).databases) marked.whole
+        ∙ among_all filing one.had.left.sound.rests;
+    user_is = palm_some.user_is ∙ marked.user;
+  }
 
   all_palm : first.report.writes ≡ block_writes filing
       → IsOne two.device.databases (filed_device filing).databases two.device.user (filed_device filing).user
-  unfolding filed_device
-  all_palm written =
-      let behind = one.had.left.handheld.behind in
-      record {
-        databases = palm_some.databases ∙ behind.databases
-            ∙ written_all filing one.had.left.sound.rests behind.count (sym written ∙ behind.written);
-        user_is = palm_some.user_is ∙ behind.user;
-      }
+  all_palm written = by behind.stage
+    where
+      by : Unmarked ⊎ Marked → IsOne two.device.databases (filed_device filing).databases two.device.user (filed_device filing).user
+      by (inl front) = front_palm written front
+      by (inr marked) = marked_palm marked
 
   pub untouched_filed : StandsFiled filing first.after.desk.contents → first.report.writes ≡ block_writes filing
       → second.after.desk.contents ≡ option_map finished second.before.desk.contents
@@ -204,8 +261,18 @@ module _ (first second : Call) (is : IsSecondCall first second)
       let slots_stay : two.slots ≡ one.slots =
       same_slots first.before.desk.contents second.before.desk.contents is.told.desk is.told_next.desk
       (subst (λ (t : Option FileMap). FinishesAs first.before.desk.contents t) (sym is.desk) stays) one.desktop two.desktop in
-      stand_so (alike (device_among filing done) one.slots device_some slots_stay) (stopped_device one.device one.slots done)
-      (stopped_slots one.device one.slots done)
+      by slots_stay behind.stage
+    where
+      by : two.slots ≡ one.slots → Unmarked ⊎ Marked → second.report.end ≡ Ended → StandsTogether filing second.after
+      by slots_stay (inl front) =
+          stand_so (alike (device_among filing done) one.slots (device_some front) slots_stay) (stopped_device one.device one.slots done)
+          (stopped_slots one.device one.slots done)
+      by slots_stay (inr marked) =
+          let palm = marked_palm marked in
+          let device = same_device two.device (filed_device filing) palm.databases palm.user_is
+          (two.closed ∙ sym (filed_closed filing one.had.left.sound.rests)) in
+          stand_so (alike (filed_device filing) one.slots device slots_stay) (marked_device one.device one.slots one.had.left.sound.rests)
+          (marked_slots one.device one.slots one.had.left.sound.rests)
   made_up_for (inr filed) = together_so (all_palm filed.1) filed.0
 
   pub behind_any : HasBegun first.report.end → second.report.end ≡ Ended → StandsTogether filing second.after

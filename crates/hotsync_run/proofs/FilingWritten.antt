@@ -16,10 +16,11 @@ use Rattle.session_parts.specs.Rests.{IsAtRest}
 use Rattle.session_parts.specs.declared.skip.Skip.{Skip}
 use Rattle.category_mirror.specs.declared.job.FilingJob.{FilingJob}
 use Rattle.category_mirror.specs.Blocks.{written_block}
-use Rattle.category_mirror.specs.Sides.{Filing, before_end, block_writes, device_among, filed_database, filed_device, filed_where, is_among, job_acts, job_named, jobs, merge_named, names, write_count}
+use Rattle.category_mirror.specs.Sides.{Filing, before_end, before_mark, block_writes, device_among, filed_database, filed_device, filed_where, filing_changes, is_among, job_acts, job_named, jobs, mark_acts, merge_named, names, write_count}
 use Rattle.category_mirror.proofs.AlongLaws.{count-append, count-is, count_of}
 use Rattle.category_mirror.proofs.DoneLaws.{filed_keeps, handheld-among}
 use Rattle.category_mirror.proofs.EvolveLaws.{acts_are, filed_none, jobs_named, own_named, whole}
+use Rattle.category_mirror.proofs.MarkLaws.{quiet_same}
 use Rattle.category_mirror.proofs.NamedMaps.{KeepsNames, NamesRise-map, database_of-map, map-is}
 use Rattle.category_mirror.proofs.OneLaws.{acts_with, written_into}
 use Rattle.category_mirror.proofs.WrittenLaws.{written_is}
@@ -104,14 +105,23 @@ module _ (filing : Filing) where
     done_written =
         written ∙ ap (λ (js : List FilingJob). write_count (flat_map (job_acts filing) js)) (take-map (job_named filing) count (names filing))
 
-    later_quiet : write_count (acts_for later) ≡ 0
-    unfolding before_end jobs
-    later_quiet =
+    both_quiet : (write_count (acts_for later) ≡ 0) × (write_count (mark_acts filing) ≡ 0)
+    unfolding before_end before_mark jobs
+    both_quiet =
         let lists : List Act = listings (max 1 (length held)) in
         let files : List Act = acts_for (names filing) in
+        let all = count-append (greeting ++ (lists ++ files)) (mark_acts filing) in
         let first = count-append greeting (lists ++ files) in
         let second = count-append lists files in
-        omega (arith, first, second, parts_written, done_written)
+        (omega (arith, all, first, second, parts_written, done_written), omega (arith, all, first, second, parts_written, done_written))
+
+    later_quiet : write_count (acts_for later) ≡ 0
+    later_quiet = both_quiet.0
+
+    -- and no mark is written
+    pub user_all : filing.device.user ≡ (filed_device filing).user
+    unfolding filed_device mark_acts
+    user_all = sym (quiet_same (filing_changes filing) filing.device.user both_quiet.1)
 
     among_parts : (n : List ℕ) → is_among n (names filing) ≡ true → is_among n done ≡ false → is_among n later ≡ true
     among_parts n among free =

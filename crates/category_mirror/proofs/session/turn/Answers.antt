@@ -6,5 +6,5 @@ pub returns-in-Ok : goal.returns-in-Ok
 returns-in-Ok g c = inl (record {
   reports = c.in-Ok.prepared.reports;
   told = c.in-Ok.ensures.reports;
-  carries = rw c.in-Ok.ensures.changes at c.commit.ensures;
+  marks = rw c.in-Ok.ensures.changes at c.mark_and_commit.ensures;
 })
