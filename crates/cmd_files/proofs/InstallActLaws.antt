@@ -11,14 +11,16 @@ use Rattle.desktop_session.specs.Acts.{Act, acted, text}
 use Rattle.desktop_session.specs.Requests.{closing, ending}
 use Rattle.desktop_session.specs.Tellings.{device_after}
 use Rattle.dlp_commands.specs.DeviceSteps.{tried}
-use Rattle.session_parts.specs.Meets.{greeting}
 use Rattle.session_parts.specs.Rests.{IsAtRest}
-use Rattle.session_parts.proofs.RestLaws.{greeting_same}
+use Rattle.install_backup.specs.declared.mark.Mark.{Mark}
 use Rattle.install_backup.specs.Installed.{with_installed}
-use Rattle.install_backup.specs.InstallActs.{fill_acts, install_acts, install_one, installs_of, is_installable}
+use Rattle.install_backup.specs.InstallActs.{fill_acts, install_acts, install_mark, install_one, installs_of, is_installable}
+use Rattle.install_backup.specs.Installs.{making_acts}
+use Rattle.install_backup.specs.Marks.{marked_greeting, marked_on, marked_user}
 use Rattle.install_backup.specs.Rooms.{has_room}
+use Rattle.install_backup.proofs.MarkLaws.{marked_after, marked_rests}
 use Rattle.install_backup.proofs.WholeLaws.{install_goes}
-use Rattle.cmd_files.specs.Installs.{acts_until_full}
+use Rattle.cmd_files.specs.Installs.{acts_of_install, acts_until_full}
 use Rattle.desktop_session.proofs.ListLaws.{after_append}
 
 kept_one : (b : Bool) (database : DatabaseValue) → b ≡ true
@@ -26,29 +28,43 @@ kept_one : (b : Bool) (database : DatabaseValue) → b ≡ true
 kept_one true database is = append-nil (install_one database 1 [])
 kept_one false database is = absurd cc
 
-pub acts-one : (database : DatabaseValue) → is_installable database ≡ true
-    → install_acts (database ∷ []) ≡ greeting ++ (install_one database 1 [] ++ ending ∷ [])
-unfolding install_acts installs_of
-acts-one database is = ap (λ (acts : List Act). greeting ++ (acts ++ ending ∷ [])) (kept_one (is_installable database) database is)
+-- what is said before the database
+abbrev first_said : Device → DatabaseValue → List Act
+first_said device database = marked_greeting (install_mark database) device.user
 
-more-acts : (database : DatabaseValue) → 4 < length (map text (greeting ++ (install_one database 1 [] ++ ending ∷ [])))
+pub acts-one : (device : Device) (database : DatabaseValue) → is_installable database ≡ true
+    → acts_of_install device database ≡ first_said device database ++ (install_one database 1 [] ++ ending ∷ [])
+unfolding install_acts installs_of
+acts-one device database is =
+    ap (λ (acts : List Act). first_said device database ++ (acts ++ ending ∷ [])) (kept_one (is_installable database) database is)
+
+more-acts : (first : List Act) (database : DatabaseValue)
+    → length (map text (first ++ making_acts database)) < length (map text (first ++ (install_one database 1 [] ++ ending ∷ [])))
 unfolding install_one
-more-acts database =
+more-acts first database =
     let filled : List Act = fill_acts database 1 [] ++ closing 1 ∷ [] in
-    let counted = length-map (filled ++ ending ∷ []) text in
+    let short = length-map (first ++ making_acts database) text in
+    let few = length-append first (making_acts database) in
+    let counted = length-map (first ++ (install_one database 1 [] ++ ending ∷ [])) text in
+    let whole = length-append first (install_one database 1 [] ++ ending ∷ []) in
     let last = length-append filled (ending ∷ []) in
-    omega (arith, counted, last)
+    omega (arith, short, few, counted, whole, last)
 
 -- it is not over where the database was to be made
-pub full-shorter : (database : DatabaseValue) → is_installable database ≡ true
-    → length (map text (acts_until_full database)) < length (map text (install_acts (database ∷ [])))
-full-shorter database is =
-    let whole = ap (λ (acts : List Act). length (map text acts)) (acts-one database is) in
-    let more = more-acts database in
+pub full-shorter : (device : Device) (database : DatabaseValue) → is_installable database ≡ true
+    → length (map text (acts_until_full device database)) < length (map text (acts_of_install device database))
+full-shorter device database is =
+    let whole = ap (λ (acts : List Act). length (map text acts)) (acts-one device database is) in
+    let more = more-acts (first_said device database) database in
     omega (arith, whole, more)
 
-pub some-acts : (database : DatabaseValue) → is_installable database ≡ true → 0 < length (map text (install_acts (database ∷ [])))
-some-acts database is = let more = full-shorter database is in omega (arith, more)
+-- and something was said
+pub some-until : (device : Device) (database : DatabaseValue) → 0 < length (map text (acts_until_full device database))
+unfolding marked_greeting
+some-until device database = omega arith
+
+pub some-acts : (device : Device) (database : DatabaseValue) → is_installable database ≡ true → 0 < length (map text (acts_of_install device database))
+some-acts device database is = let more = full-shorter device database is in omega (arith, more)
 
 -- an end leaves databases and user as they are
 pub record StaysAtEnd (device : Device) : Type 0 where
@@ -59,22 +75,24 @@ pub stays_at_end : (device : Device) → StaysAtEnd device
 unfolding acted tried
 stays_at_end device = record { databases = refl; user = refl }
 
--- the handheld has it then, and all else as before
+-- the handheld has it then, its user has the mark, and all else is as before
 pub record IsInstalledOn (device after : Device) (database : DatabaseValue) : Type 0 where
   pub databases : after.databases ≡ with_installed database device.databases
-  pub user : after.user ≡ device.user
+  pub user : after.user ≡ marked_user (install_mark database) device.user
 
 pub installed-after : (device : Device) (database : DatabaseValue) → IsAtRest device → IsBoundedDatabase database
     → is_read_only database.head.attributes ≡ false → is_installable database ≡ true → has_room database.head.name device.databases ≡ true
-    → IsInstalledOn device (device_after (install_acts (database ∷ [])) device) database
+    → IsInstalledOn device (device_after (acts_of_install device database) device) database
 installed-after device database rests bounded writable is room =
-    let done : Device = record device { databases = with_installed database device.databases } in
-    let whole : device_after (install_acts (database ∷ [])) device ≡ device_after (ending ∷ []) done =
-    ap (λ (acts : List Act). device_after acts device) (acts-one database is)
-    ∙ after_append greeting (install_one database 1 [] ++ ending ∷ []) device
-    ∙ ap (device_after (install_one database 1 [] ++ ending ∷ [])) (greeting_same device)
-    ∙ after_append (install_one database 1 []) (ending ∷ []) device
-    ∙ ap (device_after (ending ∷ [])) (install_goes device rests database bounded room writable).after in
+    let mark : Mark = install_mark database in
+    let marked : Device = marked_on mark device in
+    let done : Device = record marked { databases = with_installed database device.databases } in
+    let whole : device_after (acts_of_install device database) device ≡ device_after (ending ∷ []) done =
+    ap (λ (acts : List Act). device_after acts device) (acts-one device database is)
+    ∙ after_append (first_said device database) (install_one database 1 [] ++ ending ∷ []) device
+    ∙ ap (device_after (install_one database 1 [] ++ ending ∷ [])) (marked_after mark device)
+    ∙ after_append (install_one database 1 []) (ending ∷ []) marked
+    ∙ ap (device_after (ending ∷ [])) (install_goes marked (marked_rests mark device rests) database bounded room writable).after in
     let stays = stays_at_end done in
     record {
       databases = ap (λ (d : Device). d.databases) whole ∙ stays.databases;

@@ -6,6 +6,7 @@ use Rattle.pdb_values.specs.Databases.{DatabaseValue}
 use Rattle.palm_device.specs.Devices.{Device}
 use Rattle.palm_device.specs.Handles.{no_handles}
 use Rattle.handheld_files.specs.Openings.{HoldsAll}
+use Rattle.install_backup.specs.InstallActs.{install_mark}
 use Rattle.run_words.specs.Betweens.{Between}
 use Rattle.trace_text.specs.declared.frame.End.TheVariants as line_end
 use Rattle.hotsync_looks.specs.InstallFiles.{IsInstallFile}
@@ -74,8 +75,8 @@ module _ {words : Between} (before after : CallTold) {palm : FolderTold} {trace 
       left = record {
         ended = had.left.ended;
         beside = had.left.beside;
-        each_moment = subst (λ (m : Moments). EachMomentSince (StandsBeside device (database ∷ [])) m after.palm.moments) opened.stays.moments
-            had.left.each_moment;
+        each_moment = subst (λ (m : Moments). EachMomentSince (StandsBeside (install_mark database) device (database ∷ [])) m after.palm.moments)
+            opened.stays.moments had.left.each_moment;
       };
       shows = had.shows;
     };

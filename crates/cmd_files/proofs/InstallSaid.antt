@@ -13,25 +13,25 @@ use Rattle.desktop_session.specs.Acts.{Act, text}
 use Rattle.desktop_session.specs.Says.{IsPrefix}
 use Rattle.desktop_session.specs.Stops.{Does}
 use Rattle.desktop_session.specs.declared.fault.SessionFault.TheVariants as session_fault
-use Rattle.session_parts.specs.Meets.{greeting}
 use Rattle.session_parts.specs.declared.report.DbReport.{DbReport}
 use Rattle.session_parts.specs.declared.stop.Stop.{Stop}
 use Rattle.session_parts.specs.declared.stop.Stop.TheVariants as stop
 use Rattle.install_backup.specs.declared.moved.Moved.{Moved}
-use Rattle.install_backup.specs.InstallActs.{install_acts, installs_of, is_installable, written_count}
+use Rattle.install_backup.specs.InstallActs.{install_mark, installs_of, is_installable, written_count}
 use Rattle.install_backup.specs.InstallEnds.{InstallEnds, IsFull, IsInstallStop, IsInstalled, StopsAtLimit, first_full}
 use Rattle.install_backup.specs.Installs.{making_acts}
+use Rattle.install_backup.specs.Marks.{marked_greeting}
 use Rattle.install_backup.specs.Rooms.{has_room}
 use Rattle.call_parts.specs.Causes.{IsCutShort, down_status, stop_status}
 use Rattle.call_parts.specs.Closings.{left_status}
-use Rattle.cmd_files.specs.Installs.{InstallShows, ShowsInstall, acts_until_full, install_report}
+use Rattle.cmd_files.specs.Installs.{InstallShows, ShowsInstall, acts_of_install, acts_until_full, install_report}
 use Rattle.call_parts.specs.LineRuns.{SaidAll}
 use Rattle.cmd_files.specs.Moves.{TellsMoves, moved_did, moved_report}
 use Rattle.cmd_files.specs.declared.moved.Way.TheVariants.{ToHandheld}
 use Rattle.call_parts.specs.Told.{FolderTold}
 use Rattle.call_parts.specs.Whole.{StopsAnswered}
 use Rattle.call_parts.proofs.EndLaws.{logged_all}
-use Rattle.cmd_files.proofs.InstallActLaws.{full-shorter, some-acts}
+use Rattle.cmd_files.proofs.InstallActLaws.{full-shorter, some-acts, some-until}
 use Rattle.call_parts.proofs.SaidLaws.{Tells, never_down, down_cut}
 use Rattle.call_parts.proofs.WholeLaws.{SaidOf, SaidShort, SaidWhole}
 use Rattle.call_parts.proofs.SpokeLaws.{IsUnrefusedEnd, IsUnrefusedStop}
@@ -76,7 +76,7 @@ StopsAtFull name (Err other) = ⊥
 
 -- all was said and answered, and this is told
 pub record ToldInstalled {F : Type 0} (database : DatabaseValue) (device : Device) (old new : WorldValue F) (reports : List DbReport) : Type 0 where
-  pub does : Does (λ (world : WorldValue F). Some (world_talk world)) (install_acts (database ∷ [])) old new
+  pub does : Does (λ (world : WorldValue F). Some (world_talk world)) (acts_of_install device database) old new
   pub room : has_room database.head.name device.databases ≡ true
   pub told : reports ≡ install_report database ∷ []
 
@@ -84,7 +84,7 @@ pub record ToldInstalled {F : Type 0} (database : DatabaseValue) (device : Devic
 pub record ToldEnds {F : Type 0} (fault : WorldValue F → Option LinkFault) (database : DatabaseValue) (device : Device) (old new : WorldValue F)
     (answer : Result (Vec DbReport) Stop) : Type 0 where
   pub ended : IfOk answer (λ reports. ToldInstalled database device old new reports.items)
-  pub cause : IfErr answer (IsInstallStop (λ (world : WorldValue F). Some (world_talk world)) fault (database ∷ []) device old new)
+  pub cause : IfErr answer (IsInstallStop (λ (world : WorldValue F). Some (world_talk world)) fault (install_mark database) (database ∷ []) device old new)
   pub full : has_room database.head.name device.databases ≡ false → StopsAtFull database.head.name answer
 
 report-is : (database : DatabaseValue) (b : Bool) → b ≡ true
@@ -98,7 +98,8 @@ module _ {F : Type 0} (since : WorldValue F → WorldValue F → Type 0) (fault 
   is_first full = first_of (is_installable database) (has_room database.head.name device.databases) database.head.name is full
 
   told_installed : {moved : List Moved} {reports : List DbReport}
-      → IsInstalled (λ (world : WorldValue F). Some (world_talk world)) (database ∷ []) device old new moved → reports ≡ map (moved_report ToHandheld) moved
+      → IsInstalled (λ (world : WorldValue F). Some (world_talk world)) (install_mark database) (database ∷ []) device old new moved
+      → reports ≡ map (moved_report ToHandheld) moved
       → ToldInstalled database device old new reports
   told_installed installed told = record {
     does = installed.does;
@@ -108,7 +109,8 @@ module _ {F : Type 0} (since : WorldValue F → WorldValue F → Type 0) (fault 
   }
 
   pub told_ends : (end : Result (Vec Moved) Stop) (answer : Result (Vec DbReport) Stop)
-      → InstallEnds (λ (world : WorldValue F). Some (world_talk world)) since fault downs (database ∷ []) device old new end → TellsMoves ToHandheld end answer
+      → InstallEnds (λ (world : WorldValue F). Some (world_talk world)) since fault downs (install_mark database) (database ∷ []) device old new end
+      → TellsMoves ToHandheld end answer
       → ToldEnds fault database device old new answer
   told_ends (Ok moved) (Ok reports) ends told = record {
     ended = told_installed ends.ended told;
@@ -117,13 +119,15 @@ module _ {F : Type 0} (since : WorldValue F → WorldValue F → Type 0) (fault 
   }
   told_ends (Ok moved) (Err why) ends told = record {
     ended = tt;
-    cause = subst (IsInstallStop (λ (world : WorldValue F). Some (world_talk world)) fault (database ∷ []) device old new) (sym told) (tt, tt);
+    cause = subst (IsInstallStop (λ (world : WorldValue F). Some (world_talk world)) fault (install_mark database) (database ∷ []) device old new) (sym told)
+        (tt, tt);
     full = λ full. absurd (ends.limit database.head.name (is_first full));
   }
   told_ends (Err cause) (Ok reports) ends told = absurd told
   told_ends (Err cause) (Err why) ends told = record {
     ended = tt;
-    cause = subst (IsInstallStop (λ (world : WorldValue F). Some (world_talk world)) fault (database ∷ []) device old new) (sym told) ends.cause;
+    cause = subst (IsInstallStop (λ (world : WorldValue F). Some (world_talk world)) fault (install_mark database) (database ∷ []) device old new) (sym told)
+        ends.cause;
     full = λ full. subst (λ (w : Stop). StopsAtFull database.head.name (Err w)) (sym told) (at_full cause (ends.limit database.head.name (is_first full)));
   }
     where
@@ -136,19 +140,20 @@ module _ {F : Type 0} (since : WorldValue F → WorldValue F → Type 0) (fault 
 -- ---- what was said
 
 until_full : {F : Type 0} {database : DatabaseValue} {device : Device} {old new : WorldValue F} {name : List ℕ}
-    → IsFull (λ (world : WorldValue F). Some (world_talk world)) (database ∷ []) device old new name
-    → Does (λ (world : WorldValue F). Some (world_talk world)) (acts_until_full database) old new
+    → IsFull (λ (world : WorldValue F). Some (world_talk world)) (install_mark database) (database ∷ []) device old new name
+    → Does (λ (world : WorldValue F). Some (world_talk world)) (acts_until_full device database) old new
 unfolding installs_of
 until_full {F} {database} {device} {old} {new} full =
     let it = only full.before full.rest full.one database full.parts in
     let Said : List Act → Type 0 = λ acts. Does (λ (world : WorldValue F). Some (world_talk world)) acts old new in
-    subst (λ (one : DatabaseValue). Said (greeting ++ making_acts one)) it.one_is
-    (subst (λ (before : List DatabaseValue). Said (greeting ++ (installs_of before ++ making_acts full.one))) it.before_is full.does)
+    subst (λ (one : DatabaseValue). Said (marked_greeting (install_mark database) device.user ++ making_acts one)) it.one_is
+    (subst (λ (before : List DatabaseValue). Said (marked_greeting (install_mark database) device.user ++ (installs_of before ++ making_acts full.one)))
+    it.before_is full.does)
 
 module _ {F : Type 0} (fault : WorldValue F → Option LinkFault) (database : DatabaseValue) (device : Device) (old new : WorldValue F)
     (is : is_installable database ≡ true) (cause : Option Down) where
-  stop_said : (why : Stop) → IsInstallStop (λ (world : WorldValue F). Some (world_talk world)) fault (database ∷ []) device old new why
-      → StopsAnswered (stop_status cause why) → SaidShort (map text (install_acts (database ∷ []))) old new
+  stop_said : (why : Stop) → IsInstallStop (λ (world : WorldValue F). Some (world_talk world)) fault (install_mark database) (database ∷ []) device old new why
+      → StopsAnswered (stop_status cause why) → SaidShort (map text (acts_of_install device database)) old new
   stop_said (stop.Session session_fault.Down) stops answered = absurd (never_down cause answered)
   stop_said (stop.Session (session_fault.OtherUser handheld desktop)) stops answered = absurd stops.0
   stop_said (stop.Session session_fault.TooManyUsers) stops answered = absurd stops.0
@@ -156,28 +161,28 @@ module _ {F : Type 0} (fault : WorldValue F → Option LinkFault) (database : Da
   stop_said (stop.Session (session_fault.BadReply function broken)) stops answered = absurd answered
   stop_said (stop.Session session_fault.NoMemory) stops answered = absurd answered
   stop_said (stop.Limit name) stops answered =
-      record { acts = acts_until_full database; does = until_full stops; some = omega arith; short = full-shorter database is }
+      record { acts = acts_until_full device database; does = until_full stops; some = some-until device database; short = full-shorter device database is }
   stop_said (stop.NewHandheld name) stops answered = absurd stops
   stop_said stop.DeskFault stops answered = absurd stops
 
   said_short : (answer : Result (Vec DbReport) Stop) {status : Status}
-      → IfErr answer (IsInstallStop (λ (world : WorldValue F). Some (world_talk world)) fault (database ∷ []) device old new)
-      → (status ≡ left_status cause answer) ⊎ (status ≡ NoMemory) → StopsAnswered status → SaidShort (map text (install_acts (database ∷ []))) old new
+      → IfErr answer (IsInstallStop (λ (world : WorldValue F). Some (world_talk world)) fault (install_mark database) (database ∷ []) device old new)
+      → (status ≡ left_status cause answer) ⊎ (status ≡ NoMemory) → StopsAnswered status → SaidShort (map text (acts_of_install device database)) old new
   said_short answer stops (inr memory) answered = absurd (subst StopsAnswered memory answered)
   said_short (Ok made) stops (inl left) answered = absurd (subst StopsAnswered left answered)
   said_short (Err why) stops (inl left) answered = stop_said why stops (subst StopsAnswered left answered)
 
   ended_whole : (answer : Result (Vec DbReport) Stop) → IfOk answer (λ reports. ToldInstalled database device old new reports.items)
-      → OnOk answer (SaidWhole (map text (install_acts (database ∷ []))) old new)
-  ended_whole (Ok made) over = record { acts = install_acts (database ∷ []); does = over.does; all = refl }
+      → OnOk answer (SaidWhole (map text (acts_of_install device database)) old new)
+  ended_whole (Ok made) over = record { acts = acts_of_install device database; does = over.does; all = refl }
   ended_whole (Err why) over = tt
 
   -- what its call answered says so much of the session
   pub install_said : (answer : Result (Vec DbReport) Stop) {status : Status} → ToldEnds fault database device old new answer
-      → (status ≡ left_status cause answer) ⊎ (status ≡ NoMemory) → IsPrefix new.log.issued (map text (install_acts (database ∷ [])))
-      → SaidOf (map text (install_acts (database ∷ []))) old new answer status
+      → (status ≡ left_status cause answer) ⊎ (status ≡ NoMemory) → IsPrefix new.log.issued (map text (acts_of_install device database))
+      → SaidOf (map text (acts_of_install device database)) old new answer status
   install_said answer ends left begins = record {
-    some = some-acts database is;
+    some = some-acts device database is;
     begins = begins;
     whole = ended_whole answer ends.ended;
     short = said_short answer ends.cause left;
@@ -193,7 +198,7 @@ module _ {F : Type 0} (fault : WorldValue F → Option LinkFault) (database : Da
   said_all : {acts : List Act} → Does (λ (world : WorldValue F). Some (world_talk world)) acts old new → SaidAll (map text acts) report
   said_all does = grind (arith, logged_all tells.silent tells.is_log does)
 
-  stop_shows : (why : Stop) → IsInstallStop (λ (world : WorldValue F). Some (world_talk world)) fault (database ∷ []) device old new why
+  stop_shows : (why : Stop) → IsInstallStop (λ (world : WorldValue F). Some (world_talk world)) fault (install_mark database) (database ∷ []) device old new why
       → InstallShows device database report (stop_status cause why)
   stop_shows (stop.Session session_fault.Down) stops = down_shows device database report cause
   stop_shows (stop.Session (session_fault.OtherUser handheld desktop)) stops = absurd stops.0
@@ -213,7 +218,8 @@ module _ {F : Type 0} (fault : WorldValue F → Option LinkFault) (database : Da
   shows (Ok made) ends (inl left) = subst (InstallShows device database report) (sym left) tt
   shows (Err why) ends (inl left) = subst (InstallShows device database report) (sym left) (stop_shows why ends.cause)
 
-  cut : (why : Stop) → IsUnrefusedStop why → IsInstallStop (λ (world : WorldValue F). Some (world_talk world)) fault (database ∷ []) device old new why
+  cut : (why : Stop) → IsUnrefusedStop why
+      → IsInstallStop (λ (world : WorldValue F). Some (world_talk world)) fault (install_mark database) (database ∷ []) device old new why
       → StopsAtFull database.head.name (Err why) → (stop_status cause why ≡ Limit database.head.name) ⊎ IsCutShort (stop_status cause why)
   cut (stop.Session session_fault.Down) never stops at = inr (down_cut cause)
   cut (stop.Session (session_fault.OtherUser handheld desktop)) never stops at = absurd stops.0

@@ -21,11 +21,12 @@ use Rattle.session_parts.specs.declared.report.DbReport.{DbReport}
 use Rattle.session_parts.specs.declared.stop.Stop.{Stop}
 use Rattle.session_parts.specs.declared.stop.Stop.TheVariants as stop
 use Rattle.install_backup.specs.declared.moved.Moved.{Moved}
-use Rattle.install_backup.specs.InstallActs.{install_acts, is_installable}
+use Rattle.install_backup.specs.declared.mark.Mark.{Mark}
+use Rattle.install_backup.specs.InstallActs.{install_mark, is_installable}
 use Rattle.install_backup.specs.InstallEnds.{InstallEnds, IsInstallStop}
 use Rattle.cmd_files.specs.Besides.{StandsBeside}
 use Rattle.call_parts.specs.Closings.{Closes, left_databases, left_end, left_in}
-use Rattle.cmd_files.specs.Installs.{EndedInstall, HadInstall, InstallLeft, IsInstallTalk, ShowsInstall}
+use Rattle.cmd_files.specs.Installs.{EndedInstall, HadInstall, InstallLeft, IsInstallTalk, ShowsInstall, acts_of_install}
 use Rattle.cmd_files.specs.Moves.{TellsMoves}
 use Rattle.cmd_files.specs.declared.moved.Way.TheVariants.{ToHandheld}
 use Rattle.call_parts.specs.Sessions.{KeptSilent, StandsAtFront}
@@ -42,8 +43,8 @@ use Rattle.call_parts.proofs.SpokeLaws.{by_left, left_desk, palm_blamed, spoke}
 use Rattle.call_parts.specs.declared.report.Report.{Report}
 use Rattle.call_parts.specs.declared.report.SessionEnd.TheVariants.{Ended}
 use Rattle.cmd_status.specs.declared.status.Status.{Status}
-use Rattle.session_parts.specs.Meets.{greeting}
 use Rattle.install_backup.specs.InstallEnds.{until_full}
+use Rattle.install_backup.specs.Marks.{marked_greeting, marked_user}
 use Rattle.call_parts.specs.LineRuns.{log_in}
 use Rattle.cmd_files.proofs.NeverLaws.{IsAnsweredOrFull, install-said, install_never}
 
@@ -61,7 +62,7 @@ ended_install {database = database} {old} {new} {palm_after} {report} rests boun
         issued = ap (λ (l : LogValue). l.issued) tells.said ∙ logged.issued_are;
         performed = ap (λ (l : LogValue). l.performed) tells.said ∙ logged.performed_are;
       };
-      handheld = subst (λ (ds : List DatabaseValue). Stands palm_after.contents ds old.server.device.user)
+      handheld = subst (λ (ds : List DatabaseValue). Stands palm_after.contents ds (marked_user (install_mark database) old.server.device.user))
           (ap (λ (d : Device). d.databases) logged.device ∙ on.databases)
           (subst (λ (user : UserInfo). Stands palm_after.contents new.server.device.databases user)
           (ap (λ (d : Device). d.user) logged.device ∙ on.user) tells.stands);
@@ -77,11 +78,11 @@ told_by {database = database} {device} {old} {new} (Ok reports) report told same
 told_by (Err why) report told same is ended = absurd (let both = sym is ∙ ended in cc)
 
 -- the desktop's folder is never blamed
-pub no_desk : {F : Type 0} (fault : WorldValue F → Option LinkFault) (databases : List DatabaseValue) (device : Device) (old new : WorldValue F)
+pub no_desk : {F : Type 0} (fault : WorldValue F → Option LinkFault) (mark : Mark) (databases : List DatabaseValue) (device : Device) (old new : WorldValue F)
     (answer : Result (Vec DbReport) Stop)
-    → IfErr answer (IsInstallStop (λ (world : WorldValue F). Some (world_talk world)) fault databases device old new) → IsErrOf answer stop.DeskFault → ⊥
-no_desk {F} fault databases device old new answer stops is =
-    let Stops : Stop → Type 0 = IsInstallStop (λ (world : WorldValue F). Some (world_talk world)) fault databases device old new in
+    → IfErr answer (IsInstallStop (λ (world : WorldValue F). Some (world_talk world)) fault mark databases device old new) → IsErrOf answer stop.DeskFault → ⊥
+no_desk {F} fault mark databases device old new answer stops is =
+    let Stops : Stop → Type 0 = IsInstallStop (λ (world : WorldValue F). Some (world_talk world)) fault mark databases device old new in
     subst (λ (a : Result (Vec DbReport) Stop). IfErr a Stops) is stops
 
 -- ---- by all that its calls answered, over a world that was fresh
@@ -92,7 +93,7 @@ pub install_spoke : {F : Type 0} {contents : F → Option FileMap} {moments : F 
     → is_read_only database.head.attributes ≡ false → is_installable database ≡ true → old.log ≡ no_log → old.cause ≡ None → old.script ≡ []
     → WorldSince contents moments paths faults old new
     → InstallEnds (λ (world : WorldValue F). Some (world_talk world)) (λ (first last : WorldValue F). WorldSince contents moments paths faults first last)
-    fault downs (database ∷ []) old.server.device old new end
+    fault downs (install_mark database) (database ∷ []) old.server.device old new end
     → TellsMoves ToHandheld end answer → Closes new answer status report
     → IsInstallTalk old.server.device database (record { palm = folder_told contents moments paths faults old.server.folder; desk = desk })
     (record { palm = folder_told contents moments paths faults new.server.folder; desk = desk }) status report
@@ -109,27 +110,28 @@ install_spoke {F} {contents} {moments} {paths} {faults} fault downs {database} {
     let line = line_ran silent stands since tells in
     let sides : Tells old new palm_after report =
     record { silent = silent; is_log = tells.log; said = tells.said; given = line.given; writes = tells.writes; stands = since.served.stands stands } in
-    let asked : List (List ℕ) = map text (install_acts (database ∷ [])) in
+    let asked : List (List ℕ) = map text (acts_of_install old.server.device database) in
     let begins : IsPrefix new.log.issued asked = issued_begins old new asked silent tells.log ends.stops.only in
     let of = install_said fault database old.server.device old new is new.cause answer told closes.left.status begins in
     let reported : (requests : List (List ℕ)) → IsPrefix new.log.issued requests → IsPrefix (log_in report).issued requests =
     λ requests prefix. subst (λ (l : LogValue). IsPrefix l.issued requests) (sym tells.said) prefix in
-    let until = greeting ++ until_full (database ∷ []) old.server.device.databases in
-    let never = install_never fault (database ∷ []) old.server.device old new (all-talked IsAnsweredOrFull new tells
-    (install-said line (database ∷ []) rests (bounded, tt) (reported asked begins)
+    let mark : Mark = install_mark database in
+    let until = marked_greeting mark old.server.device.user ++ until_full (database ∷ []) old.server.device.databases in
+    let never = install_never fault mark (database ∷ []) old.server.device old new (all-talked IsAnsweredOrFull new tells
+    (install-said line mark (database ∷ []) rests (bounded, tt) (reported asked begins)
     (λ name full. reported (map text until) (issued_begins old new (map text until) silent tells.log (ends.until name full).only)))) answer told.cause in
     let spoken = spoke asked stands silent since never closes of in
     let left : InstallLeft old.server.device database palm palm_after report = record {
       ended = λ ended. ended_install rests bounded writable is sides (told_by answer report told.ended closes.left.databases closes.left.end ended);
-      beside = stands_beside rests (bounded, tt) palm_after.contents (record {
+      beside = stands_beside mark rests (bounded, tt) palm_after.contents (record {
         writes = report.writes;
         given = report.given.items;
         reached = spoken.line.last;
         front = spoken.front;
         stands = spoken.line.stands;
       });
-      each_moment = moments_weaken (StandsAtFront old.server.device asked) (StandsBeside old.server.device (database ∷ [])) palm.moments palm_after.moments
-          spoken.fronts (stands_beside rests (bounded, tt));
+      each_moment = moments_weaken (StandsAtFront old.server.device asked) (StandsBeside mark old.server.device (database ∷ [])) palm.moments palm_after.moments
+          spoken.fronts (stands_beside mark rests (bounded, tt));
     } in
     let had : HadInstall old.server.device database palm palm_after status report =
     record {
@@ -141,7 +143,7 @@ install_spoke {F} {contents} {moments} {paths} {faults} fault downs {database} {
       shown = by_left answer (KeptSilent before after status report) closes.left.end had;
       blames = record {
         handheld = palm_blamed calm since closes;
-        desktop = λ e. absurd (no_desk fault (database ∷ []) old.server.device old new answer told.cause
+        desktop = λ e. absurd (no_desk fault mark (database ∷ []) old.server.device old new answer told.cause
             (left_desk answer new.cause (left_in status report) closes.left e));
       };
       paths = record { handheld = since.served.same_paths; desktop = refl };

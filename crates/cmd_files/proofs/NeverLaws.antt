@@ -29,13 +29,14 @@ use Rattle.desktop_session.proofs.TellLaws.{acted_proper, acted_reads}
 use Rattle.line_script.specs.Rules.{RuleValue}
 use Rattle.line_world.specs.Worlds.{WorldValue, world_talk}
 use Rattle.session_parts.specs.Causes.{IsLater}
-use Rattle.session_parts.specs.Meets.{greeting}
 use Rattle.session_parts.specs.Rests.{IsAtRest}
 use Rattle.session_parts.specs.declared.report.DbReport.{DbReport}
 use Rattle.session_parts.specs.declared.stop.Stop.{Stop}
 use Rattle.install_backup.specs.Backups.{IsBackupCause}
+use Rattle.install_backup.specs.declared.mark.Mark.{Mark}
 use Rattle.install_backup.specs.InstallActs.{install_acts}
 use Rattle.install_backup.specs.InstallEnds.{IsInstallStop, first_full, until_full}
+use Rattle.install_backup.specs.Marks.{marked_greeting}
 use Rattle.install_backup.specs.Rooms.{IsNoLimit}
 use Rattle.install_backup.proofs.BackupOrder.{IsPlain}
 use Rattle.install_backup.proofs.InstallOrder.{IsRefusedLast, install-order, install-refused, install-until_plain, install_session_plain}
@@ -141,18 +142,18 @@ never_full talk fault (session_fault.OtherUser handheld desktop) all later other
 never_full talk fault session_fault.TooManyUsers all later other = tt
 never_full talk fault session_fault.NoMemory all later other = tt
 
-module _ {F : Type 0} (fault : WorldValue F → Option LinkFault) (databases : List DatabaseValue) (device : Device) (old new : WorldValue F)
+module _ {F : Type 0} (fault : WorldValue F → Option LinkFault) (mark : Mark) (databases : List DatabaseValue) (device : Device) (old new : WorldValue F)
     (all : AllByRecursion IsAnsweredOrFull (world_talk new).exchanges) where
-  install_stop : (why : Stop) → IsInstallStop (λ (world : WorldValue F). Some (world_talk world)) fault databases device old new why → IsUnrefusedStop why
+  install_stop : (why : Stop) → IsInstallStop (λ (world : WorldValue F). Some (world_talk world)) fault mark databases device old new why → IsUnrefusedStop why
   install_stop (stop.Session cause) is = never_full (world_talk new) (fault new) cause all is.0 is.1
   install_stop (stop.Limit name) is = tt
   install_stop (stop.NewHandheld name) is = tt
   install_stop stop.DeskFault is = tt
 
   pub install_never : (answer : Result (Vec DbReport) Stop)
-      → IfErr answer (IsInstallStop (λ (world : WorldValue F). Some (world_talk world)) fault databases device old new) → IsUnrefusedEnd answer
+      → IfErr answer (IsInstallStop (λ (world : WorldValue F). Some (world_talk world)) fault mark databases device old new) → IsUnrefusedEnd answer
   install_never answer is =
-      end_never (IsInstallStop (λ (world : WorldValue F). Some (world_talk world)) fault databases device old new) install_stop answer is
+      end_never (IsInstallStop (λ (world : WorldValue F). Some (world_talk world)) fault mark databases device old new) install_stop answer is
 
 pub fit_of : (acts : List Act) → AllByRecursion IsPlain acts → Fit acts
 fit_of [] plain = tt
@@ -236,17 +237,18 @@ or-full [] all = tt
 or-full (e ∷ es) all = (inl all.0, or-full es all.1)
 
 module _ {rules : List RuleValue} {device : Device} {before after : FolderTold} {report : Report} (line : LineRan rules device before after report)
-    (databases : List DatabaseValue) (rests : IsAtRest device) (bounded : AllByRecursion IsBoundedDatabase databases) where
-  pub install-said : IsPrefix (log_in report).issued (map text (install_acts databases))
+    (mark : Mark) (databases : List DatabaseValue) (rests : IsAtRest device) (bounded : AllByRecursion IsBoundedDatabase databases) where
+  pub install-said : IsPrefix (log_in report).issued (map text (install_acts mark device.user databases))
       → ((name : List ℕ) → first_full databases device.databases ≡ Some name
-      → IsPrefix (log_in report).issued (map text (greeting ++ until_full databases device.databases)))
+      → IsPrefix (log_in report).issued (map text (marked_greeting mark device.user ++ until_full databases device.databases)))
       → AllByRecursion IsAnsweredOrFull (exchanges_in report)
   install-said issued until = by (first_full databases device.databases) refl
     where
       by : (o : Option (List ℕ)) → first_full databases device.databases ≡ o → AllByRecursion IsAnsweredOrFull (exchanges_in report)
       by None none = or-full (exchanges_in report) (run-says IsAnsweredExchange line issued (λ count replies last run.
-          all-answered (install_acts databases) count replies last (install_session_plain databases bounded) rests.proper
-          (install-order device databases count rests bounded none) run))
+          all-answered (install_acts mark device.user databases) count replies last (install_session_plain mark device.user databases bounded) rests.proper
+          (install-order mark device databases count rests bounded none) run))
       by (Some name) full = run-says IsAnsweredOrFull line (until name full) (λ count replies last run.
-          refused-last (greeting ++ until_full databases device.databases) count replies last
-          (install-until_plain databases device.databases bounded) rests.proper (install-refused device databases name rests bounded full) run)
+          refused-last (marked_greeting mark device.user ++ until_full databases device.databases) count replies last
+          (install-until_plain mark device.user databases device.databases bounded) rests.proper
+          (install-refused mark device databases name rests bounded full) run)

@@ -10,6 +10,7 @@ use Rattle.pdb_values.specs.Heads.{is_read_only}
 use Rattle.pdb_values.specs.NamedDatabases.{NamesRise, comes_before, database_of}
 use Rattle.pdb_values.specs.Names.{IsName}
 use Rattle.pdb_values.specs.declared.head.DbHead.{DbHead}
+use Rattle.pdb_values.specs.declared.user.UserInfo.{UserInfo}
 use Rattle.pdb_values.proofs.NamedLaws.{bytes_eq-own, comes_before-differs, comes_before-differs_from}
 use Rattle.palm_device.specs.Bounds.{IsBoundedDatabase}
 use Rattle.palm_device.specs.Devices.{Device, most_databases}
@@ -22,17 +23,18 @@ use Rattle.desktop_session.specs.Requests.{deleting, ending, making}
 use Rattle.desktop_session.specs.Says.{IsPrefix}
 use Rattle.desktop_session.specs.Tellings.{device_after}
 use Rattle.desktop_session.proofs.OrderLaws.{name_right}
-use Rattle.session_parts.specs.Meets.{greeting}
 use Rattle.session_parts.specs.Rests.{IsAtRest}
-use Rattle.session_parts.proofs.RestLaws.{greeting_same}
+use Rattle.install_backup.specs.declared.mark.Mark.{Mark}
 use Rattle.install_backup.specs.Installed.{installed_head, with_installed}
 use Rattle.install_backup.specs.InstallActs.{install_acts, install_one, installs_of, is_installable}
 use Rattle.install_backup.specs.InstallEnds.{all_installed, first_full}
 use Rattle.install_backup.specs.Installs.{making_acts}
+use Rattle.install_backup.specs.Marks.{marked_greeting, marked_on, marked_user}
 use Rattle.install_backup.specs.Rooms.{has_room}
 use Rattle.install_backup.proofs.ClosedLaws.{says_one}
 use Rattle.install_backup.proofs.EndLaws.{installs-are}
 use Rattle.install_backup.proofs.GoneLaws.{can_delete, deleted, with_databases, without-none}
+use Rattle.install_backup.proofs.MarkLaws.{marked_after, marked_rests}
 use Rattle.install_backup.proofs.WholeLaws.{install_goes, installed_rests}
 use Rattle.cmd_files.specs.Restores.{acts_until_one}
 use Rattle.cmd_files.proofs.InstallActLaws.{stays_at_end}
@@ -142,22 +144,25 @@ installs_go (database ∷ databases) device rests bounded none =
 
 -- ---- to the end
 
--- the handheld has them all then, and all else as before
-pub record IsRestoredOn (device after : Device) (databases : List DatabaseValue) : Type 0 where
+-- the handheld has them all then, its user has the mark, and all else is as before
+pub record IsRestoredOn (mark : Mark) (device after : Device) (databases : List DatabaseValue) : Type 0 where
   pub databases_are : after.databases ≡ all_installed databases device.databases
-  pub user : after.user ≡ device.user
+  pub user : after.user ≡ marked_user mark device.user
 
-pub restored-after : (device : Device) (databases : List DatabaseValue) → IsAtRest device → AllByRecursion IsBoundedDatabase databases
-    → first_full databases device.databases ≡ None → IsRestoredOn device (device_after (install_acts databases) device) databases
+pub restored-after : (mark : Mark) (device : Device) (databases : List DatabaseValue) → IsAtRest device → AllByRecursion IsBoundedDatabase databases
+    → first_full databases device.databases ≡ None
+    → IsRestoredOn mark device (device_after (install_acts mark device.user databases) device) databases
 unfolding install_acts
-restored-after device databases rests bounded none =
-    let done = with_databases (all_installed databases device.databases) device in
-    let goes = installs_go databases device rests bounded none in
-    let whole : device_after (greeting ++ (installs_of databases ++ ending ∷ [])) device ≡ device_after (ending ∷ []) done =
-    after_append greeting (installs_of databases ++ ending ∷ []) device
-    ∙ ap (device_after (installs_of databases ++ ending ∷ [])) (greeting_same device)
-    ∙ after_append (installs_of databases) (ending ∷ []) device
-    ∙ ap (device_after (ending ∷ [])) (ap (λ (acts : List Act). device_after acts device) (sym (installs-are databases)) ∙ goes.after) in
+restored-after mark device databases rests bounded none =
+    let first : List Act = marked_greeting mark device.user in
+    let marked : Device = marked_on mark device in
+    let done = with_databases (all_installed databases device.databases) marked in
+    let goes = installs_go databases marked (marked_rests mark device rests) bounded none in
+    let whole : device_after (first ++ (installs_of databases ++ ending ∷ [])) device ≡ device_after (ending ∷ []) done =
+    after_append first (installs_of databases ++ ending ∷ []) device
+    ∙ ap (device_after (installs_of databases ++ ending ∷ [])) (marked_after mark device)
+    ∙ after_append (installs_of databases) (ending ∷ []) marked
+    ∙ ap (device_after (ending ∷ [])) (ap (λ (acts : List Act). device_after acts marked) (sym (installs-are databases)) ∙ goes.after) in
     let stays = stays_at_end done in
     record {
       databases_are = ap (λ (d : Device). d.databases) whole ∙ stays.databases;
@@ -184,22 +189,28 @@ making_none device one rests bounded full =
     ∙ ap (λ (databases : List DatabaseValue). with_databases databases device) (without-none one.head.name device.databases none.0) in
     ap (λ (d : Device). (acted (making (installed_head one.head)) d).1) gone ∙ full_made device one.head bounded.head.name rests.closed none.0 none.1
 
-pub stopped-after : (device : Device) (before : List DatabaseValue) (one : DatabaseValue) → IsAtRest device → AllByRecursion IsBoundedDatabase before
-    → IsBoundedDatabase one → StandsFirst before one device.databases
-    → device_after (acts_until_one before one) device ≡ with_databases (all_installed before device.databases) device
-stopped-after device before one rests bounded one_bounded first =
-    let goes = installs_go before device rests bounded first.room in
-    after_append greeting (installs_of before ++ making_acts one) device
-    ∙ ap (device_after (installs_of before ++ making_acts one)) (greeting_same device)
-    ∙ after_append (installs_of before) (making_acts one) device
-    ∙ ap (device_after (making_acts one)) (ap (λ (acts : List Act). device_after acts device) (sym (installs-are before)) ∙ goes.after)
-    ∙ making_none (with_databases (all_installed before device.databases) device) one goes.rests one_bounded first.full
+pub stopped-after : (mark : Mark) (device : Device) (before : List DatabaseValue) (one : DatabaseValue) → IsAtRest device
+    → AllByRecursion IsBoundedDatabase before → IsBoundedDatabase one → StandsFirst before one device.databases
+    → device_after (acts_until_one mark device.user before one) device ≡ with_databases (all_installed before device.databases) (marked_on mark device)
+stopped-after mark device before one rests bounded one_bounded first =
+    let marked : Device = marked_on mark device in
+    let goes = installs_go before marked (marked_rests mark device rests) bounded first.room in
+    after_append (marked_greeting mark device.user) (installs_of before ++ making_acts one) device
+    ∙ ap (device_after (installs_of before ++ making_acts one)) (marked_after mark device)
+    ∙ after_append (installs_of before) (making_acts one) marked
+    ∙ ap (device_after (making_acts one)) (ap (λ (acts : List Act). device_after acts marked) (sym (installs-are before)) ∙ goes.after)
+    ∙ making_none (with_databases (all_installed before device.databases) marked) one goes.rests one_bounded first.full
 
 -- ---- how many there are
 
-pub some-acts : (databases : List DatabaseValue) → 0 < length (map text (install_acts databases))
-unfolding install_acts
-some-acts databases = omega arith
+pub some-acts : (mark : Mark) (user : UserInfo) (databases : List DatabaseValue) → 0 < length (map text (install_acts mark user databases))
+unfolding install_acts marked_greeting
+some-acts mark user databases = omega arith
+
+pub some-until : (mark : Mark) (user : UserInfo) (before : List DatabaseValue) (one : DatabaseValue)
+    → 0 < length (map text (acts_until_one mark user before one))
+unfolding marked_greeting
+some-until mark user before one = omega arith
 
 last_of : List (List ℕ) → List ℕ
 last_of [] = []
@@ -218,23 +229,24 @@ unfolding text request_text
 texts_differ head same = absurd cc
 
 -- it is not over where one was to be made
-pub until-shorter : (databases before : List DatabaseValue) (one : DatabaseValue)
-    → IsPrefix (map text (acts_until_one before one)) (map text (install_acts databases))
-    → length (map text (acts_until_one before one)) < length (map text (install_acts databases))
+pub until-shorter : (mark : Mark) (user : UserInfo) (databases before : List DatabaseValue) (one : DatabaseValue)
+    → IsPrefix (map text (acts_until_one mark user before one)) (map text (install_acts mark user databases))
+    → length (map text (acts_until_one mark user before one)) < length (map text (install_acts mark user databases))
 unfolding install_acts text last_of
-until-shorter databases before one begins = by begins.rest begins.is
+until-shorter mark user databases before one begins = by (marked_greeting mark user) begins.rest begins.is
   where
-    by : (rest : List (List ℕ)) → map text (acts_until_one before one) ++ rest ≡ map text (greeting ++ (installs_of databases ++ ending ∷ []))
-        → length (map text (acts_until_one before one)) < length (map text (greeting ++ (installs_of databases ++ ending ∷ [])))
-    by [] is =
-        let whole : map text (acts_until_one before one) ≡ map text (greeting ++ (installs_of databases ++ ending ∷ [])) =
-        sym (append-nil (map text (acts_until_one before one))) ∙ is in
-        let made = ap (λ (said : List Act). last_of (map text said)) (append_assoc greeting (installs_of before) (making_acts one)) in
-        let ended = ap (λ (said : List Act). last_of (map text said)) (append_assoc greeting (installs_of databases) (ending ∷ [])) in
+    by : (first : List Act) (rest : List (List ℕ))
+        → map text (first ++ (installs_of before ++ making_acts one)) ++ rest ≡ map text (first ++ (installs_of databases ++ ending ∷ []))
+        → length (map text (first ++ (installs_of before ++ making_acts one))) < length (map text (first ++ (installs_of databases ++ ending ∷ [])))
+    by first [] is =
+        let whole : map text (first ++ (installs_of before ++ making_acts one)) ≡ map text (first ++ (installs_of databases ++ ending ∷ [])) =
+        sym (append-nil (map text (first ++ (installs_of before ++ making_acts one)))) ∙ is in
+        let made = ap (λ (said : List Act). last_of (map text said)) (append_assoc first (installs_of before) (making_acts one)) in
+        let ended = ap (λ (said : List Act). last_of (map text said)) (append_assoc first (installs_of databases) (ending ∷ [])) in
         absurd (texts_differ (installed_head one.head)
-        (sym (last_of-map (greeting ++ installs_of before) (making (installed_head one.head) ∷ []) (deleting one.head.name)) ∙ made
-        ∙ ap last_of whole ∙ sym ended ∙ last_of-map (greeting ++ installs_of databases) [] ending))
-    by (x ∷ rest) is =
+        (sym (last_of-map (first ++ installs_of before) (making (installed_head one.head) ∷ []) (deleting one.head.name)) ∙ made
+        ∙ ap last_of whole ∙ sym ended ∙ last_of-map (first ++ installs_of databases) [] ending))
+    by first (x ∷ rest) is =
         let counted = ap length is in
-        let sum = length-append (map text (acts_until_one before one)) (x ∷ rest) in
+        let sum = length-append (map text (first ++ (installs_of before ++ making_acts one))) (x ∷ rest) in
         omega (arith, counted, sum)

@@ -8,6 +8,7 @@ use Rattle.pdb_values.specs.Databases.{DatabaseValue}
 use Rattle.handheld_files.specs.Openings.{HoldsAll}
 use Rattle.backup_files.specs.BackupFolders.{HoldsBackups}
 use Rattle.line_script.specs.Rules.{RuleValue}
+use Rattle.install_backup.specs.InstallActs.{restore_mark}
 use Rattle.run_words.specs.Betweens.{Between}
 use Rattle.trace_text.specs.declared.frame.End.TheVariants as line_end
 use Rattle.cmd_status.specs.Opening.{Opens, OpensGiven, OpensGivenAtMost}
@@ -85,7 +86,8 @@ module _ {words : Between} (before after : CallTold) {palm desk : FolderTold} {t
       left = record {
         ended = had.left.ended;
         beside = had.left.beside;
-        each_moment = subst (λ (m : Moments). EachMomentSince (StandsBeside device databases) m after.palm.moments) opened.stays.moments had.left.each_moment;
+        each_moment = subst (λ (m : Moments). EachMomentSince (StandsBeside (restore_mark databases) device databases) m after.palm.moments)
+            opened.stays.moments had.left.each_moment;
       };
       shows = had.shows;
     };

@@ -23,12 +23,13 @@ use Rattle.session_parts.specs.Rests.{IsAtRest}
 use Rattle.session_parts.specs.declared.report.DbReport.{DbReport}
 use Rattle.session_parts.specs.declared.stop.Stop.{Stop}
 use Rattle.install_backup.specs.declared.moved.Moved.{Moved}
-use Rattle.install_backup.specs.InstallActs.{install_acts}
+use Rattle.install_backup.specs.declared.mark.Mark.{Mark}
+use Rattle.install_backup.specs.InstallActs.{restore_mark}
 use Rattle.install_backup.specs.InstallEnds.{InstallEnds}
 use Rattle.cmd_files.specs.Besides.{StandsBeside}
 use Rattle.call_parts.specs.Closings.{Closes, left_databases, left_end, left_in}
 use Rattle.cmd_files.specs.Moves.{TellsMoves}
-use Rattle.cmd_files.specs.Restores.{EndedRestore, HadRestore, IsRestoreTalk, RestoreLeft, ShowsRestore}
+use Rattle.cmd_files.specs.Restores.{EndedRestore, HadRestore, IsRestoreTalk, RestoreLeft, ShowsRestore, acts_of_restore}
 use Rattle.cmd_files.specs.declared.moved.Way.TheVariants.{ToHandheld}
 use Rattle.call_parts.specs.Sessions.{KeptSilent, StandsAtFront}
 use Rattle.call_parts.specs.Told.{FolderTold, SidesTold, folder_told}
@@ -46,8 +47,8 @@ use Rattle.call_parts.specs.declared.report.Report.{Report}
 use Rattle.call_parts.specs.declared.report.SessionEnd.TheVariants.{Ended}
 use Rattle.cmd_status.specs.declared.status.Status.{Status}
 use Rattle.cmd_status.specs.declared.status.Status.TheVariants.{Done, Limit}
-use Rattle.session_parts.specs.Meets.{greeting}
 use Rattle.install_backup.specs.InstallEnds.{until_full}
+use Rattle.install_backup.specs.Marks.{marked_greeting, marked_user}
 use Rattle.call_parts.specs.LineRuns.{log_in}
 use Rattle.cmd_files.proofs.NeverLaws.{IsAnsweredOrFull, install-said, install_never}
 
@@ -58,14 +59,14 @@ ended_restore : {F : Type 0} {databases : List DatabaseValue} {old new : WorldVa
     → ToldRestored databases old.server.device old new report.databases.items → EndedRestore old.server.device databases palm_after report
 ended_restore {databases = databases} {old} {new} {palm_after} {report} rests bounded tells told =
     let logged = logged_all tells.silent tells.is_log told.does in
-    let on = restored-after old.server.device databases rests bounded told.room in
+    let on = restored-after (restore_mark databases) old.server.device databases rests bounded told.room in
     record {
       room = told.room;
       said = record {
         issued = ap (λ (l : LogValue). l.issued) tells.said ∙ logged.issued_are;
         performed = ap (λ (l : LogValue). l.performed) tells.said ∙ logged.performed_are;
       };
-      handheld = subst (λ (ds : List DatabaseValue). Stands palm_after.contents ds old.server.device.user)
+      handheld = subst (λ (ds : List DatabaseValue). Stands palm_after.contents ds (marked_user (restore_mark databases) old.server.device.user))
           (ap (λ (d : Device). d.databases) logged.device ∙ on.databases_are)
           (subst (λ (user : UserInfo). Stands palm_after.contents new.server.device.databases user)
           (ap (λ (d : Device). d.user) logged.device ∙ on.user) tells.stands);
@@ -87,7 +88,7 @@ pub restore_spoke : {F : Type 0} {contents : F → Option FileMap} {moments : F 
     → Stands (contents old.server.folder) old.server.device.databases old.server.device.user → IsAtRest old.server.device → NamesRise databases
     → AllByRecursion IsBoundedDatabase databases → old.log ≡ no_log → old.cause ≡ None → WorldSince contents moments paths faults old new
     → InstallEnds (λ (world : WorldValue F). Some (world_talk world)) (λ (first last : WorldValue F). WorldSince contents moments paths faults first last)
-    fault downs databases old.server.device old new end
+    fault downs (restore_mark databases) databases old.server.device old new end
     → TellsMoves ToHandheld end answer → Closes new answer status report
     → IsRestoreTalk old.script old.server.device databases (record { palm = folder_told contents moments paths faults old.server.folder; desk = desk })
     (record { palm = folder_told contents moments paths faults new.server.folder; desk = desk }) status report
@@ -104,29 +105,30 @@ restore_spoke {F} {contents} {moments} {paths} {faults} fault downs {databases} 
     let line = line_ran silent stands since tells in
     let sides : Tells old new palm_after report =
     record { silent = silent; is_log = tells.log; said = tells.said; given = line.given; writes = tells.writes; stands = since.served.stands stands } in
-    let asked : List (List ℕ) = map text (install_acts databases) in
+    let asked : List (List ℕ) = map text (acts_of_restore old.server.device databases) in
     let issued : IsPrefix new.log.issued asked = issued_begins old new asked silent tells.log ends.stops.only in
     let of = restore_said fault databases old.server.device old new new.cause answer told closes.left.status issued
     (λ (acts : List Act) (does : Does (λ (world : WorldValue F). Some (world_talk world)) acts old new).
     subst (λ (l : List (List ℕ)). IsPrefix l asked) (logged_all silent tells.log does).issued_are issued) in
     let reported : (requests : List (List ℕ)) → IsPrefix new.log.issued requests → IsPrefix (log_in report).issued requests =
     λ requests prefix. subst (λ (l : LogValue). IsPrefix l.issued requests) (sym tells.said) prefix in
-    let until = greeting ++ until_full databases old.server.device.databases in
-    let never = install_never fault databases old.server.device old new (all-talked IsAnsweredOrFull new tells
-    (install-said line databases rests bounded (reported asked issued)
+    let mark : Mark = restore_mark databases in
+    let until = marked_greeting mark old.server.device.user ++ until_full databases old.server.device.databases in
+    let never = install_never fault mark databases old.server.device old new (all-talked IsAnsweredOrFull new tells
+    (install-said line mark databases rests bounded (reported asked issued)
     (λ name full. reported (map text until) (issued_begins old new (map text until) silent tells.log (ends.until name full).only)))) answer told.cause in
     let spoken = spoke asked stands silent since never closes of in
     let left : RestoreLeft old.server.device databases palm palm_after report = record {
       ended = λ ended. ended_restore rests bounded sides (told_by answer report told.ended closes.left.databases closes.left.end ended);
-      beside = stands_beside rests bounded palm_after.contents (record {
+      beside = stands_beside mark rests bounded palm_after.contents (record {
         writes = report.writes;
         given = report.given.items;
         reached = spoken.line.last;
         front = spoken.front;
         stands = spoken.line.stands;
       });
-      each_moment = moments_weaken (StandsAtFront old.server.device asked) (StandsBeside old.server.device databases) palm.moments palm_after.moments
-          spoken.fronts (stands_beside rests bounded);
+      each_moment = moments_weaken (StandsAtFront old.server.device asked) (StandsBeside mark old.server.device databases) palm.moments palm_after.moments
+          spoken.fronts (stands_beside mark rests bounded);
     } in
     let had : HadRestore old.script old.server.device databases palm palm_after status report =
     record { spoke = spoken; left = left; shows = restore_shows fault databases rests rise bounded sides new.cause answer never told closes.left.status } in
@@ -134,7 +136,7 @@ restore_spoke {F} {contents} {moments} {paths} {faults} fault downs {databases} 
       shown = by_left answer (KeptSilent before after status report) closes.left.end had;
       blames = record {
         handheld = palm_blamed calm since closes;
-        desktop = λ e. absurd (no_desk fault databases old.server.device old new answer told.cause
+        desktop = λ e. absurd (no_desk fault mark databases old.server.device old new answer told.cause
             (left_desk answer new.cause (left_in status report) closes.left e));
       };
       paths = record { handheld = since.served.same_paths; desktop = refl };

@@ -7,12 +7,12 @@ use Rattle.palm_device.specs.Handles.{no_handles}
 use Rattle.handheld_files.specs.Openings.{HoldsAll, Stands}
 use Rattle.trace_text.specs.TraceLines.{trace_text}
 use Rattle.desktop_session.specs.Acts.{Act, text}
-use Rattle.session_parts.specs.Meets.{greeting}
 use Rattle.session_parts.specs.declared.report.DbReport.{DbReport}
 use Rattle.session_parts.specs.declared.report.Did.TheVariants.{Installed}
 use Rattle.install_backup.specs.Installed.{with_installed}
-use Rattle.install_backup.specs.InstallActs.{install_acts, written_count}
+use Rattle.install_backup.specs.InstallActs.{install_acts, install_mark, written_count}
 use Rattle.install_backup.specs.Installs.{making_acts}
+use Rattle.install_backup.specs.Marks.{marked_greeting, marked_user}
 use Rattle.install_backup.specs.Rooms.{has_room}
 use Rattle.run_words.specs.Betweens.{Between}
 use Rattle.hotsync_looks.specs.InstallFiles.{FileRefuses, IsInstallFile}
@@ -48,14 +48,20 @@ InstallRefuses words before refusal =
 
 -- ---- an install with a session
 
+-- what a handheld is asked for, with the mark that a database of records wants
+abbrev pub acts_of_install : Device → DatabaseValue → List Act
+acts_of_install device database =
+    install_acts (install_mark database) device.user (database ∷ [])
+
 -- the session of an install over a line that loses nothing: the handheld, and all of its requests
 abbrev pub install_agenda : Device → DatabaseValue → Agenda
 install_agenda device database =
-    record { rules = []; device = device; asked = map text (install_acts (database ∷ [])) }
+    record { rules = []; device = device; asked = map text (acts_of_install device database) }
 
 -- what a handheld is asked for that has no room for it
-abbrev pub acts_until_full : DatabaseValue → List Act
-acts_until_full database = greeting ++ making_acts database
+abbrev pub acts_until_full : Device → DatabaseValue → List Act
+acts_until_full device database =
+    marked_greeting (install_mark database) device.user ++ making_acts database
 
 -- what is told of it
 abbrev pub install_report : DatabaseValue → DbReport
@@ -63,28 +69,30 @@ install_report database =
     record { name = database.head.name; did = Installed (written_count database) }
 
 -- It ended: each of its requests was issued and performed, and none else; the handheld's folder
--- stands for its databases with the file's in place of the one of its name; and that is told.
+-- stands for its databases with the file's in place of the one of its name, and for its user with
+-- the mark; and that is told.
 pub record EndedInstall (device : Device) (database : DatabaseValue) (palm_after : FolderTold)
     (report : Report) : Type 0 where
   pub room : has_room database.head.name device.databases ≡ true
-  pub said : SaidAll (map text (install_acts (database ∷ []))) report
-  pub handheld : Stands palm_after.contents (with_installed database device.databases) device.user
+  pub said : SaidAll (map text (acts_of_install device database)) report
+  pub handheld : Stands palm_after.contents (with_installed database device.databases)
+      (marked_user (install_mark database) device.user)
   pub told : report.databases.items ≡ install_report database ∷ []
 
 -- what an install leaves where it ended, and however it ended, at each moment
 pub record InstallLeft (device : Device) (database : DatabaseValue) (before after : FolderTold)
     (report : Report) : Type 0 where
   pub ended : report.end ≡ Ended → EndedInstall device database after report
-  pub beside : StandsBeside device (database ∷ []) after.contents
-  pub each_moment : EachMomentSince (StandsBeside device (database ∷ [])) before.moments
-      after.moments
+  pub beside : StandsBeside (install_mark database) device (database ∷ []) after.contents
+  pub each_moment : EachMomentSince (StandsBeside (install_mark database) device (database ∷ []))
+      before.moments after.moments
 
 -- it stopped for want of room for this database: no more was asked for than that it be made
 pub record StopsFull (device : Device) (database : DatabaseValue) (report : Report)
     (name : List ℕ) : Type 0 where
   pub named : name ≡ database.head.name
   pub full : has_room database.head.name device.databases ≡ false
-  pub said : SaidAll (map text (acts_until_full database)) report
+  pub said : SaidAll (map text (acts_until_full device database)) report
 
 -- what a status shows of an install, which knows of no user and touches no desktop
 abbrev pub InstallShows : Device → DatabaseValue → Report → Status → Type 0

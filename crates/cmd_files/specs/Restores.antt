@@ -4,6 +4,7 @@ use Rattle.std.specs.FinMap as finmap
 use Rattle.hs_folders.specs.FileMaps.{FileMap}
 use Rattle.hs_folders.specs.Moments.{EachMomentSince}
 use Rattle.pdb_values.specs.Databases.{DatabaseValue}
+use Rattle.pdb_values.specs.declared.user.UserInfo.{UserInfo}
 use Rattle.pdb_files.specs.declared.bad_kind.BadKind.{BadKind}
 use Rattle.palm_device.specs.Devices.{Device, most_databases}
 use Rattle.palm_device.specs.Handles.{no_handles}
@@ -13,13 +14,14 @@ use Rattle.backup_files.specs.declared.fault.BackupFault.{BackupFault}
 use Rattle.trace_text.specs.TraceLines.{trace_text}
 use Rattle.line_script.specs.Rules.{RuleValue}
 use Rattle.desktop_session.specs.Acts.{Act, text}
-use Rattle.session_parts.specs.Meets.{greeting}
 use Rattle.session_parts.specs.declared.report.DbReport.{DbReport}
 use Rattle.session_parts.specs.declared.report.Did.TheVariants.{Installed, Skipped}
 use Rattle.session_parts.specs.declared.skip.Skip.TheVariants.{ReadOnly}
-use Rattle.install_backup.specs.InstallActs.{install_acts, installs_of, is_installable, written_count}
+use Rattle.install_backup.specs.declared.mark.Mark.{Mark}
+use Rattle.install_backup.specs.InstallActs.{install_acts, installs_of, is_installable, restore_mark, written_count}
 use Rattle.install_backup.specs.InstallEnds.{all_installed, first_full}
 use Rattle.install_backup.specs.Installs.{making_acts}
+use Rattle.install_backup.specs.Marks.{marked_greeting, marked_user}
 use Rattle.run_words.specs.Betweens.{Between}
 use Rattle.cmd_status.specs.FolderFaults.{backup_status}
 use Rattle.cmd_status.specs.Told.{SinkTold}
@@ -67,10 +69,14 @@ RestoreRefuses words before refusal =
 
 -- ---- a restore with a session
 
+-- what a handheld is asked for, which begins another life where a database is installed
+abbrev pub acts_of_restore : Device → List DatabaseValue → List Act
+acts_of_restore device databases = install_acts (restore_mark databases) device.user databases
+
 -- the session of a restore: the handheld, and all of its requests
 abbrev pub restore_agenda : List RuleValue → Device → List DatabaseValue → Agenda
 restore_agenda rules device databases =
-    record { rules = rules; device = device; asked = map text (install_acts databases) }
+    record { rules = rules; device = device; asked = map text (acts_of_restore device databases) }
 
 -- what is told of a database: how many of its entries were installed, or that it is read-only
 abbrev pub restore_report : DatabaseValue → DbReport
@@ -82,27 +88,31 @@ restore_report database = record {
 
 -- It ended: each of its requests was issued and performed, and none else; the handheld's folder
 -- stands for its databases with each of these that is not read-only in place of the one of its
--- name; and each is told.
+-- name, and for its user with the mark; and each is told.
 pub record EndedRestore (device : Device) (databases : List DatabaseValue)
     (palm_after : FolderTold) (report : Report) : Type 0 where
   pub room : first_full databases device.databases ≡ None
-  pub said : SaidAll (map text (install_acts databases)) report
-  pub handheld : Stands palm_after.contents (all_installed databases device.databases) device.user
+  pub said : SaidAll (map text (acts_of_restore device databases)) report
+  pub handheld : Stands palm_after.contents (all_installed databases device.databases)
+      (marked_user (restore_mark databases) device.user)
   pub told : report.databases.items ≡ map restore_report databases
 
 -- what a restore leaves where it ended, and however it ended, at each moment
 pub record RestoreLeft (device : Device) (databases : List DatabaseValue)
     (before after : FolderTold) (report : Report) : Type 0 where
   pub ended : report.end ≡ Ended → EndedRestore device databases after report
-  pub beside : StandsBeside device databases after.contents
-  pub each_moment : EachMomentSince (StandsBeside device databases) before.moments after.moments
+  pub beside : StandsBeside (restore_mark databases) device databases after.contents
+  pub each_moment : EachMomentSince (StandsBeside (restore_mark databases) device databases)
+      before.moments after.moments
 
 -- what a handheld is asked for that has room for these, and none for one behind them
-abbrev pub acts_until_one : List DatabaseValue → DatabaseValue → List Act
-acts_until_one before one = greeting ++ (installs_of before ++ making_acts one)
+abbrev pub acts_until_one : Mark → UserInfo → List DatabaseValue → DatabaseValue → List Act
+acts_until_one mark user before one =
+    marked_greeting mark user ++ (installs_of before ++ making_acts one)
 
 -- It stopped for want of room for the first database that has none: no more was asked for than that
--- it be made, and the handheld's folder stands for its databases with those before it installed.
+-- it be made, and the handheld's folder stands for its databases with those before it installed, and
+-- for its user with the mark.
 pub record StopsAtFirst (device : Device) (databases : List DatabaseValue)
     (palm_after : FolderTold) (report : Report) (name : List ℕ) : Type 0 where
   pub first : first_full databases device.databases ≡ Some name
@@ -111,8 +121,10 @@ pub record StopsAtFirst (device : Device) (databases : List DatabaseValue)
   pub rest : List DatabaseValue
   pub parts : before ++ one ∷ rest ≡ databases
   pub named : name ≡ one.head.name
-  pub said : SaidAll (map text (acts_until_one before one)) report
-  pub handheld : Stands palm_after.contents (all_installed before device.databases) device.user
+  pub said : SaidAll
+      (map text (acts_until_one (restore_mark databases) device.user before one)) report
+  pub handheld : Stands palm_after.contents (all_installed before device.databases)
+      (marked_user (restore_mark databases) device.user)
 
 -- what a status shows of a restore, which knows of no user and changes no file of its folder
 abbrev pub RestoreShows : Device → List DatabaseValue → FolderTold → Report → Status → Type 0

@@ -15,7 +15,7 @@ use cmd_status::Status;
 use handheld_server::Server;
 use handheld_store::Store;
 use hs_folders::Folder;
-use install_backup::{MoveOutcome, install_session};
+use install_backup::{MoveOutcome, install_mark, install_session};
 use line_script::Script;
 use line_world::World;
 use pdb_values::Database;
@@ -70,8 +70,9 @@ fn install_over<H: Folder, D: Folder>(
     ensures unsaid { IsUnsaid result.status }
     ensures desk { result.desk ≡ desk }
 {
+    let mark = install_mark(&database);
     let databases = [database];
-    let outcome = install_session(alloc, world, &databases);
+    let outcome = install_session(alloc, world, mark, &databases);
     let MoveOutcome {
         link,
         folder: (),

@@ -17,9 +17,10 @@ use cmd_status::Status;
 use handheld_server::Server;
 use handheld_store::Store;
 use hs_folders::Folder;
-use install_backup::{MoveOutcome, install_session};
+use install_backup::{MoveOutcome, install_session, restore_mark};
 use line_script::Script;
 use line_world::World;
+use pdb_values::Database;
 use std::alloc::{AllocError, Global};
 
 /// The session that installs the databases of a folder of backups, over a line that does with each frame what the script says. The
@@ -77,7 +78,8 @@ fn restore_over<H: Folder, D: Folder>(
     ensures desk { result.desk ≡ backups.folder }
 {
     let Backups { databases, folder } = backups;
-    let outcome = install_session(alloc, world, &databases);
+    let all: &[Database] = &databases;
+    let outcome = install_session(alloc, world, restore_mark(all), all);
     let MoveOutcome {
         link,
         folder: (),

@@ -2,6 +2,8 @@
 use Rattle.std.proofs.Common.{◌≡◌, subst, sym, [], ◌∷◌}
 use Rattle.std.specs.Prelude.{Option, Some}
 use Rattle.hs_folders.specs.Moments.{EachMomentSince}
+use Rattle.install_backup.specs.InstallActs.{install_mark}
+use Rattle.install_backup.specs.Installed.{with_installed}
 use Rattle.run_words.specs.Betweens.{Between}
 use Rattle.run_words.specs.Commands.{Install, WordTask}
 use Rattle.cmd_files.specs.Besides.{StandsBeside}
@@ -9,9 +11,11 @@ use Rattle.hotsync_run.specs.Calls.{Call, IsAnsweredCall, IsCall}
 use Rattle.call_parts.specs.Causes.{ByEnd, HasBegun}
 use Rattle.hotsync_run.specs.Clean.{GoesThrough}
 use Rattle.cmd_files.specs.Installs.{EndedInstall, InstallRan, IsInstall, install_command}
+use Rattle.hotsync_run.specs.Promises.{IsReadWhole, IsReadWholeOrSame}
 use Rattle.call_parts.specs.SessionCalls.{SentNothing}
 use Rattle.hotsync_run.proofs.CleanLaws.{spoke_through}
 use Rattle.hotsync_run.proofs.HeadlineLaws.{begun_by}
+use Rattle.hotsync_run.proofs.NextLaws.{read_whole, read_whole_or_same}
 use Rattle.call_parts.specs.declared.report.SessionEnd.{SessionEnd}
 use Rattle.call_parts.specs.declared.report.SessionEnd.TheVariants.{Ended, NotStarted}
 
@@ -38,5 +42,18 @@ module _ (call : Call) (words : Between) (is : IsAnsweredCall call) (task : call
   install_ended ended = let ran = install_ran (subst HasBegun (sym ended) tt) in (ran, ran.had.left.ended ended)
 
   pub install_stopped : HasBegun call.report.end
-      → (ran : Session) × EachMomentSince (StandsBeside ran.device (ran.database ∷ [])) call.before.palm.moments call.after.palm.moments
+      → (ran : Session)
+      × EachMomentSince (StandsBeside (install_mark ran.database) ran.device (ran.database ∷ [])) call.before.palm.moments call.after.palm.moments
   install_stopped begun = let ran = install_ran begun in (ran, ran.had.left.each_moment)
+
+  -- the run behind it
+  pub install_read : call.report.end ≡ Ended → (ran : Session) × IsReadWhole (install_mark ran.database) call
+  install_read ended =
+      let over = install_ended ended in
+      (over.0, read_whole (with_installed over.0.database over.0.device.databases) (install_mark over.0.database) over.0.device.user over.1.handheld)
+
+  pub install_read_or_same : HasBegun call.report.end → (ran : Session) × IsReadWholeOrSame (install_mark ran.database) ran.device call
+  install_read_or_same begun =
+      let ran = install_ran begun in
+      let beside = ran.had.left.beside in
+      (ran, read_whole_or_same (install_mark ran.database) ran.device beside.reached beside.stands beside.user)

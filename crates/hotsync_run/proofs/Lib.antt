@@ -18,6 +18,7 @@ pub mod InstallPromises
 pub mod KeptLaws
 pub mod LeftGoodLaws
 pub mod MakeWords
+pub mod NextLaws
 pub mod OneLaws
 pub mod OverLaws
 pub mod PathLaws

@@ -2,15 +2,19 @@
 use Rattle.std.proofs.Common.{◌≡◌, subst, sym}
 use Rattle.std.specs.Prelude.{Option, Some}
 use Rattle.hs_folders.specs.Moments.{EachMomentSince}
+use Rattle.install_backup.specs.InstallActs.{restore_mark}
+use Rattle.install_backup.specs.InstallEnds.{all_installed}
 use Rattle.run_words.specs.Betweens.{Between}
 use Rattle.run_words.specs.Commands.{Restore, WordTask}
 use Rattle.cmd_files.specs.Besides.{StandsBeside}
 use Rattle.hotsync_run.specs.Calls.{Call, IsAnsweredCall, IsCall}
 use Rattle.call_parts.specs.Causes.{ByEnd, HasBegun}
+use Rattle.hotsync_run.specs.Promises.{IsReadWhole, IsReadWholeOrSame}
 use Rattle.cmd_files.specs.Restores.{EndedRestore, IsRestore, RestoreRan, restore_command}
 use Rattle.call_parts.specs.SessionCalls.{SentNothing}
 use Rattle.call_parts.specs.Stays.{StaysAsItWas}
 use Rattle.hotsync_run.proofs.HeadlineLaws.{begun_by}
+use Rattle.hotsync_run.proofs.NextLaws.{read_whole, read_whole_or_same}
 use Rattle.call_parts.specs.declared.report.SessionEnd.{SessionEnd}
 use Rattle.call_parts.specs.declared.report.SessionEnd.TheVariants.{Ended, NotStarted, Stopped}
 
@@ -42,5 +46,17 @@ module _ (call : Call) (words : Between) (is : IsAnsweredCall call) (task : call
   restore_ended ended = let ran = restore_ran (subst HasBegun (sym ended) tt) in (ran, ran.had.left.ended ended)
 
   pub restore_stopped : HasBegun call.report.end
-      → (ran : Session) × EachMomentSince (StandsBeside ran.device ran.databases) call.before.palm.moments call.after.palm.moments
+      → (ran : Session) × EachMomentSince (StandsBeside (restore_mark ran.databases) ran.device ran.databases) call.before.palm.moments call.after.palm.moments
   restore_stopped begun = let ran = restore_ran begun in (ran, ran.had.left.each_moment)
+
+  -- the run behind it
+  pub restore_read : call.report.end ≡ Ended → (ran : Session) × IsReadWhole (restore_mark ran.databases) call
+  restore_read ended =
+      let over = restore_ended ended in
+      (over.0, read_whole (all_installed over.0.databases over.0.device.databases) (restore_mark over.0.databases) over.0.device.user over.1.handheld)
+
+  pub restore_read_or_same : HasBegun call.report.end → (ran : Session) × IsReadWholeOrSame (restore_mark ran.databases) ran.device call
+  restore_read_or_same begun =
+      let ran = restore_ran begun in
+      let beside = ran.had.left.beside in
+      (ran, read_whole_or_same (restore_mark ran.databases) ran.device beside.reached beside.stands beside.user)

@@ -1,12 +1,17 @@
 -- The words of the promises: calls for the words of one command, their sessions, and what they
 -- leave.
-use Rattle.std.specs.Prelude.{◌≡◌, Option, None, Some}
+use Rattle.std.specs.Prelude.{◌≡◌, ◌⊎◌, false, Option, None, Some, IsSome}
 use Rattle.std.specs.Option.{option_map}
 use Rattle.hs_folders.specs.FileMaps.{FileMap}
 use Rattle.hs_folders.specs.Moments.{EachMomentSince}
 use Rattle.desk_journal.specs.Overlays.{finished}
+use Rattle.palm_device.specs.Devices.{Device}
+use Rattle.session_plan.specs.Choosing.{is_fast}
 use Rattle.session_plan.specs.Limits.{first_over}
-use Rattle.session_plan.specs.Tasks.{Meeting}
+use Rattle.session_plan.specs.Tasks.{Meeting, Task}
+use Rattle.install_backup.specs.declared.mark.Mark.{Mark}
+use Rattle.install_backup.specs.declared.mark.Mark.TheVariants.{Unchanged}
+use Rattle.install_backup.specs.InstallFronts.{IsAsItWas}
 use Rattle.category_mirror.specs.FilingEnds.{StandsFiled}
 use Rattle.category_mirror.specs.Sides.{Filing, block_writes, filing_of}
 use Rattle.run_words.specs.Betweens.{Between}
@@ -67,6 +72,24 @@ RestoreSession call words = RestoreRan words call.before call.after call.status 
 -- that of categories
 abbrev pub FilingSession : Call → Between → Type 0
 FilingSession call words = CategoriesRan words call.before call.after call.status call.report
+
+-- a run over the handheld that a call left, with any desktop
+pub record RunsNext (call : Call) (next : RunCall) (meeting : Meeting) : Type 0 where
+  pub told : IsSome next.before.palm.contents
+  pub same : next.before.palm.contents ≡ call.after.palm.contents
+  pub meets : Meets next.run next.before meeting
+
+-- each such run behind a call that said this mark, if it is one, reads no database fast
+abbrev pub IsReadWhole : Mark → Call → Type 0
+IsReadWhole mark call =
+    ¬ (mark ≡ Unchanged) → (next : RunCall) (meeting : Meeting) → RunsNext call next meeting
+    → (task : Task) → is_fast meeting task ≡ false
+
+-- the same, or it meets the handheld as it was
+abbrev pub IsReadWholeOrSame : Mark → Device → Call → Type 0
+IsReadWholeOrSame mark device call =
+    ¬ (mark ≡ Unchanged) → (next : RunCall) (meeting : Meeting) → RunsNext call next meeting
+    → ((task : Task) → is_fast meeting task ≡ false) ⊎ IsAsItWas device meeting.device
 
 -- at each moment of the call the handheld's folder told so
 abbrev pub HandheldStays : (Option FileMap → Type 0) → Call → Type 0

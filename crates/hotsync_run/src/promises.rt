@@ -12,6 +12,7 @@ ghost use Rattle.session_plan.specs.Tasks.{Meeting};
 ghost use Rattle.front_laws.specs.Answered.{IsAnsweredExchange};
 ghost use Rattle.hotsync_run.specs.Again.{AllRan, AreOfOneKind, AreTold, EndsAsOne, IsRepeat};
 ghost use Rattle.cmd_files.specs.Backups.{BackupLeft, backup_command};
+ghost use Rattle.install_backup.specs.InstallActs.{install_mark, restore_mark};
 ghost use Rattle.cmd_files.specs.Besides.{StandsBeside};
 ghost use Rattle.hotsync_run.specs.Calls.{Call, IsAnsweredCall, IsNothing};
 ghost use Rattle.call_parts.specs.Causes.{HasBegun};
@@ -26,7 +27,7 @@ ghost use Rattle.call_parts.specs.LineRuns.{exchanges_in, frames_in};
 ghost use Rattle.hotsync_looks.specs.Looks.{IsLook};
 ghost use Rattle.cmd_session.specs.Meetings.{Meets};
 ghost use Rattle.cmd_status.specs.PrintedNames.{is_printable, printed_name};
-ghost use Rattle.hotsync_run.specs.Promises.{BackupSession, EachCall, FilingSession, HandheldStays, IfCommitted, InstallSession, IsCalmRun, LeavesDesktop, PassesNoLimit, RestoreSession, RunsOverTheSame, filing_in};
+ghost use Rattle.hotsync_run.specs.Promises.{BackupSession, EachCall, FilingSession, HandheldStays, IfCommitted, InstallSession, IsCalmRun, IsReadWhole, IsReadWholeOrSame, LeavesDesktop, PassesNoLimit, RestoreSession, RunsOverTheSame, filing_in};
 ghost use Rattle.cmd_files.specs.Restores.{EndedRestore, restore_command};
 ghost use Rattle.cmd_status.specs.declared.status.Status.TheVariants.{Done};
 ghost use Rattle.cmd_session.specs.Runs.{run_command};
@@ -182,7 +183,7 @@ pub fn an_install_keeps_what_it_promises()
         × EndedInstall ran.device ran.database call.after.palm call.report) }
     ensures stopped { EachCall Install (λ call words. HasBegun call.report.end
         → (ran : InstallSession call words)
-        × HandheldStays (StandsBeside ran.device (ran.database ∷ [])) call) }
+        × HandheldStays (StandsBeside (install_mark ran.database) ran.device (ran.database ∷ [])) call) }
 {}
 
 /// A backup that is refused before its session changes nothing. However it went, the handheld stands at each moment for what it
@@ -209,7 +210,22 @@ pub fn a_restore_keeps_what_it_promises()
         × EndedRestore ran.device ran.databases call.after.palm call.report) }
     ensures stopped { EachCall Restore (λ call words. HasBegun call.report.end
         → (ran : RestoreSession call words)
-        × HandheldStays (StandsBeside ran.device ran.databases) call) }
+        × HandheldStays (StandsBeside (restore_mark ran.databases) ran.device ran.databases) call) }
+{}
+
+/// What is installed counts for no desktop as agreed on. Behind an install of records that ended, and a restore that installed one, no run
+/// reads a database fast, whatever its words and its desktop. Wherever they stopped that is so, or the run meets the handheld as it was.
+pub fn what_is_installed_is_read_next()
+    ensures installed { EachCall Install (λ call words. call.report.end ≡ Ended
+        → (ran : InstallSession call words) × IsReadWhole (install_mark ran.database) call) }
+    ensures restored { EachCall Restore (λ call words. call.report.end ≡ Ended
+        → (ran : RestoreSession call words) × IsReadWhole (restore_mark ran.databases) call) }
+    ensures install_stopped { EachCall Install (λ call words. HasBegun call.report.end
+        → (ran : InstallSession call words)
+        × IsReadWholeOrSame (install_mark ran.database) ran.device call) }
+    ensures restore_stopped { EachCall Restore (λ call words. HasBegun call.report.end
+        → (ran : RestoreSession call words)
+        × IsReadWholeOrSame (restore_mark ran.databases) ran.device call) }
 {}
 
 /// A handheld over captured bytes whose talk ended said all that is to be said to their packets up to that, and no other byte; it did

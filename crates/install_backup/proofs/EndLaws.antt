@@ -9,25 +9,26 @@ use Rattle.palm_device.specs.Bounds.{IsBoundedDatabase}
 use Rattle.palm_device.specs.Devices.{Device}
 use Rattle.desktop_session.proofs.StopLaws.{does_then, stops_more, stops_then}
 use Rattle.session_parts.specs.Causes.{IsLater}
-use Rattle.session_parts.specs.Meets.{greeting}
 use Rattle.session_parts.specs.Rests.{IsAtRest}
 use Rattle.session_parts.specs.Stretches.{EachSays, each_acts}
 use Rattle.session_parts.specs.declared.stop.Stop.{Stop}
 use Rattle.session_parts.specs.declared.stop.Stop.TheVariants as stop
 use Rattle.session_parts.proofs.CloseLaws.{TellsClosed}
 use Rattle.session_parts.proofs.LinkWords.{Act, Does, LinkFault, SessionFault, SessionValue, Stops, Talk, ending, saying, text}
-use Rattle.session_parts.proofs.RestLaws.{greeting_same}
 use Rattle.session_parts.proofs.StretchLaws.{Tells, first_is, flat_map-kept, tells_on}
+use Rattle.install_backup.specs.declared.mark.Mark.{Mark}
 use Rattle.install_backup.specs.declared.moved.MoveOutcome.{MoveOutcome}
 use Rattle.install_backup.specs.declared.moved.Moved.{Moved}
 use Rattle.install_backup.specs.Installed.{with_installed}
 use Rattle.install_backup.specs.InstallActs.{install_acts, install_one, installs_of, installs_under, is_installable}
 use Rattle.install_backup.specs.InstallEnds.{InstallEnds, InstallWent, IsFull, IsInstallCause, IsInstallStop, IsInstalled, StopsAtLimit, all_installed, first_full, until_full}
 use Rattle.install_backup.specs.Installs.{SaysMoved, StopsAt, StopsWithin, making_acts}
+use Rattle.install_backup.specs.Marks.{marked_greeting, marked_on}
 use Rattle.install_backup.specs.Rooms.{IsNoLimit, RestsFor, has_room}
 use Rattle.install_backup.proofs.ClosedLaws.{installs_lead, says_one, under_is}
 use Rattle.install_backup.proofs.EvolveLaws.{Evolves, evolves, judged_at}
 use Rattle.install_backup.proofs.GoneLaws.{with_databases}
+use Rattle.install_backup.proofs.MarkLaws.{marked_after, marked_rests}
 use Rattle.install_backup.proofs.WithinLaws.{room_or, until-append, until_one}
 
 -- ---- lists of databases
@@ -58,29 +59,42 @@ all-parts : (P : DatabaseValue → Type 0) (xs ys : List DatabaseValue) → AllB
 all-parts P [] ys all = (tt, all)
 all-parts P (x ∷ xs) ys all = let rest = all-parts P xs ys all.1 in ((all.0, rest.0), rest.1)
 
+-- what is said before the first database
+abbrev pub first_said : Mark → Device → List Act
+first_said mark device = marked_greeting mark device.user
+
 module _ {L : Type 0} {talk : L → Option Talk} {since : L → L → Type 0} {fault : L → Option LinkFault} {downs : L → ℕ}
     (since_more : (a b c : L) → since a b → since b c → since a c) {databases : List DatabaseValue} {told : Talk} {old : L}
-    (is : talk old ≡ Some told) (rests : IsAtRest told.device) (bounded : AllByRecursion IsBoundedDatabase databases) where
-  -- it was not greeted
-  pub ungreeted_ends : {new : L} {cause : SessionFault} → Stops talk since fault downs (map text greeting) old new → IsLater (talk new) (fault new) cause
-      → IsNoLimit cause → InstallEnds talk since fault downs databases told.device old new (Err (stop.Session cause))
+    (mark : Mark) (is : talk old ≡ Some told) (rests : IsAtRest told.device) (bounded : AllByRecursion IsBoundedDatabase databases) where
+  -- it was not greeted, or the mark was refused
+  pub ungreeted_ends : {new : L} {cause : SessionFault} → Stops talk since fault downs (map text (first_said mark told.device)) old new
+      → IsLater (talk new) (fault new) cause
+      → IsNoLimit cause → InstallEnds talk since fault downs mark databases told.device old new (Err (stop.Session cause))
   unfolding install_acts
   ungreeted_ends {new} {cause} stops later other = record {
-    stops = rw (map-append text greeting (installs_of databases ++ ending ∷ []))
-        (stops_more talk since fault downs (map text greeting) (map text (installs_of databases ++ ending ∷ [])) old new stops);
+    stops = rw (map-append text (first_said mark told.device) (installs_of databases ++ ending ∷ []))
+        (stops_more talk since fault downs (map text (first_said mark told.device)) (map text (installs_of databases ++ ending ∷ [])) old new stops);
     ended = tt;
     cause = (later, other);
     limit = λ name full. tt;
-    until = λ name full. rw (map-append text greeting (until_full databases told.device.databases))
-        (stops_more talk since fault downs (map text greeting) (map text (until_full databases told.device.databases)) old new stops);
+    until = λ name full. rw (map-append text (first_said mark told.device) (until_full databases told.device.databases))
+        (stops_more talk since fault downs (map text (first_said mark told.device)) (map text (until_full databases told.device.databases)) old new stops);
   }
 
-  module _ {F : Type 0} {now : SessionValue L} {left : MoveOutcome L F} (greeted : Stops talk since fault downs (map text greeting) old now.link)
-      (does : Does talk greeting old now.link) (went : InstallWent talk since fault downs databases now left) where
-    tells : Tells told.device (talk now.link)
+  module _ {F : Type 0} {now : SessionValue L} {left : MoveOutcome L F}
+      (greeted : Stops talk since fault downs (map text (first_said mark told.device)) old now.link)
+      (does : Does talk (first_said mark told.device) old now.link) (went : InstallWent talk since fault downs databases now left) where
+    -- the handheld with the mark
+    abbrev marked : Device
+    marked = marked_on mark told.device
+
+    still : IsAtRest marked
+    still = marked_rests mark told.device rests
+
+    tells : Tells marked (talk now.link)
     tells =
-        subst (Tells told.device) (sym does.said)
-        (tells_on told.device told.device greeting (talk old) (record { talk = told; is = is; same = refl }) (greeting_same told.device))
+        subst (Tells marked) (sym does.said)
+        (tells_on told.device marked (first_said mark told.device) (talk old) (record { talk = told; is = is; same = refl }) (marked_after mark told.device))
 
     closed : TellsClosed (talk now.link)
     closed = record { talk = tells.talk; is = tells.is; closed = ap (λ (d : Device). d.handles) tells.same ∙ rests.closed }
@@ -89,8 +103,8 @@ module _ {L : Type 0} {talk : L → Option Talk} {since : L → L → Type 0} {f
     said_all = each_acts installs_under (talk now.link) databases went.stretches
 
     all_evolve : (moved : List Moved) → EachSays installs_under SaysMoved (talk now.link) databases went.stretches moved
-        → Evolves (talk now.link) told.device databases went.stretches moved
-    all_evolve moved said = evolves (talk now.link) told.device databases went.stretches moved tells rests bounded went.firsts said
+        → Evolves (talk now.link) marked databases went.stretches moved
+    all_evolve moved said = evolves (talk now.link) marked databases went.stretches moved tells still bounded went.firsts said
 
     -- what went out begins the whole
     behind_stops : Stops talk since fault downs (map text (installs_of databases ++ ending ∷ [])) now.link left.link
@@ -113,38 +127,38 @@ module _ {L : Type 0} {talk : L → Option Talk} {since : L → L → Type 0} {f
             subst (λ (acts : List Act). Stops talk since fault downs (map text acts) now.link left.link)
             (ap (λ (last : List Act). said_all ++ last) all.0 ∙ ap (λ (acts : List Act). acts ++ ending ∷ []) same) went.stops
 
-    all_stops : Stops talk since fault downs (map text (install_acts databases)) old left.link
+    all_stops : Stops talk since fault downs (map text (install_acts mark told.device.user databases)) old left.link
     unfolding install_acts
     all_stops =
-        rw (map-append text greeting (installs_of databases ++ ending ∷ []))
-        (stops_then talk since fault downs since_more greeting (map text (installs_of databases ++ ending ∷ [])) old now.link left.link does greeted
-        behind_stops)
+        rw (map-append text (first_said mark told.device) (installs_of databases ++ ending ∷ []))
+        (stops_then talk since fault downs since_more (first_said mark told.device) (map text (installs_of databases ++ ending ∷ [])) old now.link left.link
+        does greeted behind_stops)
 
     is_installed : (moved : List Moved) → Does talk (said_all ++ ending ∷ []) now.link left.link
         → EachSays installs_under SaysMoved (talk now.link) databases went.stretches moved
-        → IsInstalled talk databases told.device old left.link moved
+        → IsInstalled talk mark databases told.device old left.link moved
     unfolding install_acts
     is_installed moved done said =
         let evolve = all_evolve moved said in
         let same : said_all ≡ installs_of databases = evolve.acts_are ∙ installs-are databases in
         record {
-          does = does_then talk greeting (installs_of databases ++ ending ∷ []) old now.link left.link does
+          does = does_then talk (first_said mark told.device) (installs_of databases ++ ending ∷ []) old now.link left.link does
               (subst (λ (acts : List Act). Does talk (acts ++ ending ∷ []) now.link left.link) same done);
           room = evolve.room;
           told = evolve.told_are;
         }
 
-    is_full : {name : List ℕ} → StopsAt talk databases name now left.link → IsFull talk databases told.device old left.link name
+    is_full : {name : List ℕ} → StopsAt talk databases name now left.link → IsFull talk mark databases told.device old left.link name
     is_full {name} at =
         let all = all-parts IsBoundedDatabase at.before (at.one ∷ at.rest) (subst (AllByRecursion IsBoundedDatabase) (sym at.parts) bounded) in
-        let evolve = evolves (talk now.link) told.device at.before at.stretches at.moved tells rests all.0 at.firsts at.said in
+        let evolve = evolves (talk now.link) marked at.before at.stretches at.moved tells still all.0 at.firsts at.said in
         let held = all_installed at.before told.device.databases in
         let before_them = each_acts installs_under (talk now.link) at.before at.stretches in
         let same : before_them ≡ installs_of at.before = evolve.acts_are ∙ installs-are at.before in
-        let tells_now = subst (Tells (record told.device { databases = held }))
+        let tells_now = subst (Tells (with_databases held marked))
         (ap (λ (acts : List Act). saying acts (talk now.link)) (sym evolve.acts_are) ∙ sym at.does.said) evolve.tells in
         let none : has_room at.one.head.name held ≡ false =
-        judged_at (RestsFor at.one) false at.one.head.name (record told.device { databases = held }) (talk at.now.link) tells_now
+        judged_at (RestsFor at.one) false at.one.head.name (with_databases held marked) (talk at.now.link) tells_now
         (evolve.rests, all.1.0.head.name) at.room in
         let here : first_full (at.one ∷ at.rest) held ≡ Some at.one.head.name = rw (at.writable, none) refl in
         record {
@@ -155,7 +169,7 @@ module _ {L : Type 0} {talk : L → Option Talk} {since : L → L → Type 0} {f
           rest = at.rest;
           parts = at.parts;
           named = at.named;
-          does = does_then talk greeting (installs_of at.before ++ making_acts at.one) old now.link left.link does
+          does = does_then talk (first_said mark told.device) (installs_of at.before ++ making_acts at.one) old now.link left.link does
               (does_then talk (installs_of at.before) (making_acts at.one) now.link at.now.link left.link
               (subst (λ (acts : List Act). Does talk acts now.link at.now.link) same at.does) at.asked);
         }
@@ -165,9 +179,9 @@ module _ {L : Type 0} {talk : L → Option Talk} {since : L → L → Type 0} {f
         → Stops talk since fault downs (map text (until_full databases told.device.databases)) now.link left.link
     behind_within at =
         let all = all-parts IsBoundedDatabase at.before (at.one ∷ at.rest) (subst (AllByRecursion IsBoundedDatabase) (sym at.parts) bounded) in
-        let evolve = evolves (talk now.link) told.device at.before at.stretches at.moved tells rests all.0 at.firsts at.said in
+        let evolve = evolves (talk now.link) marked at.before at.stretches at.moved tells still all.0 at.firsts at.said in
         let held = all_installed at.before told.device.databases in
-        let there = with_databases held told.device in
+        let there = with_databases held marked in
         let before_them = each_acts installs_under (talk now.link) at.before at.stretches in
         let later = until_full (at.one ∷ at.rest) held in
         let tells_now : Tells there (talk at.now.link) = subst (Tells there)
@@ -188,11 +202,11 @@ module _ {L : Type 0} {talk : L → Option Talk} {since : L → L → Type 0} {f
         ∙ ap (λ (ds : List DatabaseValue). until_full ds told.device.databases) at.parts) whole
 
     until_stops : (name : List ℕ) → first_full databases told.device.databases ≡ Some name
-        → Stops talk since fault downs (map text (greeting ++ until_full databases told.device.databases)) old left.link
+        → Stops talk since fault downs (map text (first_said mark told.device ++ until_full databases told.device.databases)) old left.link
     until_stops name full =
-        rw (map-append text greeting (until_full databases told.device.databases))
-        (stops_then talk since fault downs since_more greeting (map text (until_full databases told.device.databases)) old now.link left.link does greeted
-        (by went.whole))
+        rw (map-append text (first_said mark told.device) (until_full databases told.device.databases))
+        (stops_then talk since fault downs since_more (first_said mark told.device) (map text (until_full databases told.device.databases)) old now.link
+        left.link does greeted (by went.whole))
       where
         by : ((went.last ≡ []) × StopsWithin talk since fault downs databases now left.link)
             ⊎ ((went.last ≡ ending ∷ []) × EachSays installs_under SaysMoved (talk now.link) databases went.stretches went.moved)
@@ -200,7 +214,7 @@ module _ {L : Type 0} {talk : L → Option Talk} {since : L → L → Type 0} {f
         by (inl within) = behind_within within.1
         by (inr all) = absurd (let none = sym (all_evolve went.moved all.1).room ∙ full in cc)
 
-    pub greeted_ends : InstallEnds talk since fault downs databases told.device old left.link left.end
+    pub greeted_ends : InstallEnds talk since fault downs mark databases told.device old left.link left.end
     greeted_ends = record {
       stops = all_stops;
       ended = done left.end went.does went.said;
@@ -211,19 +225,19 @@ module _ {L : Type 0} {talk : L → Option Talk} {since : L → L → Type 0} {f
       where
         done : (r : Result (Vec Moved) Stop) → IfOk r (λ moved. Does talk (said_all ++ ending ∷ []) now.link left.link)
             → IfOk r (λ moved. EachSays installs_under SaysMoved (talk now.link) databases went.stretches moved.items)
-            → IfOk r (λ moved. IsInstalled talk databases told.device old left.link moved.items)
+            → IfOk r (λ moved. IsInstalled talk mark databases told.device old left.link moved.items)
         done (Ok moved) did said = is_installed moved.items did said
         done (Err cause) did said = tt
 
         why_of : (cause : Stop) → IsInstallCause talk fault databases now left.link cause
-            → IsInstallStop talk fault databases told.device old left.link cause
+            → IsInstallStop talk fault mark databases told.device old left.link cause
         why_of (stop.Session cause) later = later
         why_of (stop.Limit name) at = is_full at
         why_of (stop.NewHandheld name) none = absurd none
         why_of stop.DeskFault none = absurd none
 
         why : (r : Result (Vec Moved) Stop) → IfErr r (IsInstallCause talk fault databases now left.link)
-            → IfErr r (IsInstallStop talk fault databases told.device old left.link)
+            → IfErr r (IsInstallStop talk fault mark databases told.device old left.link)
         why (Ok moved) cause = tt
         why (Err other) cause = why_of other cause
 

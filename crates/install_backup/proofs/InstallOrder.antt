@@ -8,6 +8,7 @@ use Rattle.pdb_values.specs.Heads.{is_read_only}
 use Rattle.pdb_values.specs.NamedDatabases.{database_of}
 use Rattle.pdb_values.specs.Names.{IsName}
 use Rattle.pdb_values.specs.declared.head.DbHead.{DbHead}
+use Rattle.pdb_values.specs.declared.user.UserInfo.{UserInfo}
 use Rattle.dlp_replies.specs.ReplyValues as reply
 use Rattle.palm_device.specs.Bounds.{IsBoundedDatabase}
 use Rattle.palm_device.specs.Devices.{Device, most_databases}
@@ -20,22 +21,23 @@ use Rattle.desktop_session.specs.Orders.{AreInOrder, IsPossible}
 use Rattle.desktop_session.specs.Requests.{deleting, ending, making}
 use Rattle.desktop_session.specs.Tellings.{told}
 use Rattle.desktop_session.proofs.OrderLaws.{name_right}
-use Rattle.desktop_session.proofs.RequestFits.{begin_fits, user_fits}
-use Rattle.session_parts.specs.Meets.{greeting}
 use Rattle.session_parts.specs.Rests.{IsAtRest}
+use Rattle.install_backup.specs.declared.mark.Mark.{Mark}
 use Rattle.install_backup.specs.Installed.{installed_head, with_installed}
 use Rattle.install_backup.specs.InstallActs.{install_acts, install_one, installs_of, is_installable}
 use Rattle.install_backup.specs.InstallEnds.{all_installed, first_full, until_full}
 use Rattle.install_backup.specs.Installs.{making_acts}
+use Rattle.install_backup.specs.Marks.{marked_greeting, marked_on}
 use Rattle.install_backup.specs.Rooms.{has_room}
 use Rattle.install_backup.proofs.ArriveLaws.{Goes, goes_none, goes_one, goes_then}
-use Rattle.install_backup.proofs.BackupOrder.{IsPlain, ending_goes, greeting_goes, order-take}
+use Rattle.install_backup.proofs.BackupOrder.{IsPlain, ending_goes, order-take}
 use Rattle.install_backup.proofs.ClosedLaws.{says_one}
 use Rattle.install_backup.proofs.EndLaws.{installs-are}
 use Rattle.install_backup.proofs.EvolveLaws.{with_one}
 use Rattle.install_backup.proofs.GoneLaws.{can_delete, deleted, with_databases, without-none}
+use Rattle.install_backup.proofs.MarkLaws.{marked_goes, marked_plain, marked_rests}
 use Rattle.install_backup.proofs.OthersLaws.{IsMine}
-use Rattle.install_backup.proofs.StayLaws.{one_mine, session_mine}
+use Rattle.install_backup.proofs.StayLaws.{one_mine, rest_mine}
 use Rattle.install_backup.proofs.WholeLaws.{install_goes, installed_rests}
 use Rattle.palm_device.proofs.TellingLaws.{none_where}
 use Rattle.desk_journal.proofs.StepLaws.{all-append}
@@ -76,15 +78,18 @@ installs_go (database ∷ databases) device rests bounded full =
     let now = with_databases (with_one database device.databases) device in
     goes_then (says_one database) (flat_map says_one databases) one.goes (installs_go databases now one.rests bounded.1 one.room)
 
-pub install-order : (device : Device) (databases : List DatabaseValue) (n : ℕ) → IsAtRest device → AllByRecursion IsBoundedDatabase databases
-    → first_full databases device.databases ≡ None → AreInOrder (take n (install_acts databases)) device
+pub install-order : (mark : Mark) (device : Device) (databases : List DatabaseValue) (n : ℕ) → IsAtRest device
+    → AllByRecursion IsBoundedDatabase databases → first_full databases device.databases ≡ None
+    → AreInOrder (take n (install_acts mark device.user databases)) device
 unfolding install_acts
-install-order device databases n rests bounded full =
-    let after = with_databases (all_installed databases device.databases) device in
-    let all = subst (λ (acts : List Act). Goes acts device after) (installs-are databases) (installs_go databases device rests bounded full) in
-    let goes = goes_then greeting (installs_of databases ++ ending ∷ []) (greeting_goes device)
+install-order mark device databases n rests bounded full =
+    let here = marked_on mark device in
+    let after = with_databases (all_installed databases device.databases) here in
+    let all = subst (λ (acts : List Act). Goes acts here after) (installs-are databases) (installs_go databases here (marked_rests mark device rests) bounded
+    full) in
+    let goes = goes_then (marked_greeting mark device.user) (installs_of databases ++ ending ∷ []) (marked_goes mark device)
     (goes_then (installs_of databases) (ending ∷ []) all (ending_goes after)) in
-    order-take n (greeting ++ (installs_of databases ++ ending ∷ [])) device goes.order
+    order-take n (marked_greeting mark device.user ++ (installs_of databases ++ ending ∷ [])) device goes.order
 
 -- ---- each request fits into a message, and asks for no id
 
@@ -96,9 +101,12 @@ all_true : (databases : List DatabaseValue) → AllByRecursion (λ (d : Database
 all_true [] = tt
 all_true (database ∷ databases) = (refl, all_true databases)
 
-pub install_session_plain : (databases : List DatabaseValue) → AllByRecursion IsBoundedDatabase databases → AllByRecursion IsPlain (install_acts databases)
-install_session_plain databases bounded =
-    plain_mine (install_acts databases) (session_mine (λ name. true) databases bounded (all_true (filter is_installable databases)))
+pub install_session_plain : (mark : Mark) (user : UserInfo) (databases : List DatabaseValue) → AllByRecursion IsBoundedDatabase databases
+    → AllByRecursion IsPlain (install_acts mark user databases)
+unfolding install_acts
+install_session_plain mark user databases bounded =
+    all-append IsPlain (marked_greeting mark user) (installs_of databases ++ ending ∷ []) (marked_plain mark user)
+    (plain_mine (installs_of databases ++ ending ∷ []) (rest_mine (λ name. true) databases bounded (all_true (filter is_installable databases))))
 
 -- ---- where one has no room
 
@@ -171,9 +179,12 @@ refused_last (database ∷ databases) device name rests bounded full =
     by true false is room full more rest = one_full device database rests bounded.0 room
     by false c is room full more rest = rest full
 
-pub install-refused : (device : Device) (databases : List DatabaseValue) (name : List ℕ) → IsAtRest device → AllByRecursion IsBoundedDatabase databases
-    → first_full databases device.databases ≡ Some name → IsRefusedLast (greeting ++ until_full databases device.databases) device
-install-refused device databases name rests bounded full = behind greeting (greeting_goes device) (refused_last databases device name rests bounded full)
+pub install-refused : (mark : Mark) (device : Device) (databases : List DatabaseValue) (name : List ℕ) → IsAtRest device
+    → AllByRecursion IsBoundedDatabase databases → first_full databases device.databases ≡ Some name
+    → IsRefusedLast (marked_greeting mark device.user ++ until_full databases device.databases) device
+install-refused mark device databases name rests bounded full =
+    behind (marked_greeting mark device.user) (marked_goes mark device)
+    (refused_last databases (marked_on mark device) name (marked_rests mark device rests) bounded full)
 
 until_plain : (databases held : List DatabaseValue) → AllByRecursion IsBoundedDatabase databases → AllByRecursion IsPlain (until_full databases held)
 unfolding until_full install_one
@@ -190,6 +201,7 @@ until_plain (database ∷ databases) held bounded =
     by true false one more rest = (one.0, (one.1.0, tt))
     by false c one more rest = rest
 
-pub install-until_plain : (databases held : List DatabaseValue) → AllByRecursion IsBoundedDatabase databases
-    → AllByRecursion IsPlain (greeting ++ until_full databases held)
-install-until_plain databases held bounded = ((user_fits, refl), ((begin_fits, refl), until_plain databases held bounded))
+pub install-until_plain : (mark : Mark) (user : UserInfo) (databases held : List DatabaseValue) → AllByRecursion IsBoundedDatabase databases
+    → AllByRecursion IsPlain (marked_greeting mark user ++ until_full databases held)
+install-until_plain mark user databases held bounded =
+    all-append IsPlain (marked_greeting mark user) (until_full databases held) (marked_plain mark user) (until_plain databases held bounded)

@@ -18,6 +18,7 @@ pub mod InstalledLaws
 pub mod KeepLaws
 pub mod LimitLaws
 pub mod ManyLaws
+pub mod MarkLaws
 pub mod MetLaws
 pub mod OpenReadLaws
 pub mod OthersLaws

@@ -1,6 +1,6 @@
 -- What a front of an install leaves as it was.
 use Rattle.std.proofs.lemmas.Bool.Decides.{nat_tests}
-use Rattle.std.proofs.Common.{arith, ◌==◌, ◌≡◌, ◌∙◌, ◌≤◌, ◌<◌, ap, refl, sym, subst, ℕ, not, Bool, true, false, cond, List, [], ◌∷◌, ◌++◌, lit<, map}
+use Rattle.std.proofs.Common.{arith, ◌==◌, ◌≡◌, ◌∙◌, ◌≤◌, ◌<◌, ap, refl, sym, subst, inl, inr, ◌⊎◌, ℕ, not, Bool, true, false, cond, List, [], ◌∷◌, ◌++◌, lit<, map}
 use Rattle.std.specs.Prelude.{Option, Some, None, filter, flat_map}
 use Rattle.std.specs.List.{AllByRecursion}
 use Rattle.std.specs.Str.{bytes_eq}
@@ -11,20 +11,27 @@ use Rattle.pdb_values.specs.NamedDatabases.{database_of}
 use Rattle.pdb_values.proofs.NamedLaws.{bytes_eq-own}
 use Rattle.pdb_values.specs.declared.record.Record.{Record}
 use Rattle.pdb_values.specs.declared.resource.Resource.{Resource}
+use Rattle.pdb_values.specs.declared.user.Marks.{Marks}
+use Rattle.pdb_values.specs.declared.user.UserInfo.{UserInfo}
+use Rattle.mirrors.specs.Agreements.{agreed}
 use Rattle.palm_device.specs.Bounds.{IsBoundedDatabase, IsBoundedRecord, IsBoundedResource}
 use Rattle.palm_device.specs.Devices.{Device}
 use Rattle.palm_device.specs.Handles.{no_handles}
 use Rattle.palm_device.proofs.BoundLaws.{AllByRecursion-filter}
 use Rattle.desktop_session.specs.Acts.{text}
 use Rattle.desktop_session.specs.Requests.{closing, ending, resetting, writing_app, writing_sort}
-use Rattle.desktop_session.proofs.RequestFits.{begin_fits, close_fits, delete_fits, end_fits, make_fits, put_resource_fits, putting_fits, reset_fits, user_fits}
+use Rattle.desktop_session.proofs.RequestFits.{close_fits, delete_fits, end_fits, make_fits, put_resource_fits, putting_fits, reset_fits}
 use Rattle.desktop_session.proofs.RequestFits.{write_app_fits, write_sort_fits}
 use Rattle.session_parts.specs.Fronts.{Front}
-use Rattle.session_parts.specs.Meets.{greeting}
+use Rattle.install_backup.specs.declared.mark.Mark.{Mark}
+use Rattle.install_backup.specs.declared.mark.Mark.TheVariants.{Unchanged}
 use Rattle.install_backup.specs.Installed.{installed_head, installed_records}
 use Rattle.install_backup.specs.InstallActs as acts
 use Rattle.install_backup.specs.InstallActs.{entry_acts, fill_acts, install_acts, install_one, installs_of, is_installable}
+use Rattle.install_backup.specs.InstallFronts.{IsAsItWas, IsMarkedFirst, IsReadNext}
+use Rattle.install_backup.specs.Marks.{marked_on}
 use Rattle.install_backup.proofs.InstalledLaws.{head-bounded}
+use Rattle.install_backup.proofs.MarkLaws.{GoesOn, front_cut, marked_apart}
 use Rattle.install_backup.proofs.OthersLaws.{IsMine, Keeps, OpenMine, keeps-front, none_open_mine}
 use Rattle.install_backup.proofs.RecordLaws.{installed-bounded, installed-numbered}
 use Rattle.desk_journal.proofs.StepLaws.{all-append}
@@ -103,23 +110,23 @@ module _ (mine : List ℕ → Bool) where
       all-append (IsMine mine) (install_one database 1 []) (flat_map (λ (d : DatabaseValue). install_one d 1 []) databases)
       (one_mine database bounded.0 are.0) (all_mine databases bounded.1 are.1)
 
-  pub session_mine : (databases : List DatabaseValue) → AllByRecursion IsBoundedDatabase databases
+  -- behind the mark
+  pub rest_mine : (databases : List DatabaseValue) → AllByRecursion IsBoundedDatabase databases
       → AllByRecursion (λ (d : DatabaseValue). mine d.head.name ≡ true) (filter is_installable databases)
-      → AllByRecursion (IsMine mine) (install_acts databases)
-  unfolding install_acts installs_of
-  session_mine databases bounded are =
-      all-append (IsMine mine) greeting (installs_of databases ++ ending ∷ []) ((user_fits, refl, tt), ((begin_fits, refl, tt), tt))
-      (all-append (IsMine mine) (installs_of databases) (ending ∷ [])
+      → AllByRecursion (IsMine mine) (installs_of databases ++ ending ∷ [])
+  unfolding installs_of
+  rest_mine databases bounded are =
+      all-append (IsMine mine) (installs_of databases) (ending ∷ [])
       (all_mine (filter is_installable databases) (AllByRecursion-filter IsBoundedDatabase is_installable databases bounded) are)
-      ((end_fits, refl, tt), tt))
+      ((end_fits, refl, tt), tt)
 
-  front_keeps : (device after : Device) (databases : List DatabaseValue) (writes : ℕ) (given : List ℕ) → device.handles ≡ no_handles
+  rest_keeps : (mark : Mark) (device after : Device) (databases : List DatabaseValue) → device.handles ≡ no_handles
       → AllByRecursion IsBoundedDatabase databases
       → AllByRecursion (λ (d : DatabaseValue). mine d.head.name ≡ true) (filter is_installable databases)
-      → (front : Front device (map text (install_acts databases)) writes given after) → Keeps mine device front.reached
-  front_keeps device after databases writes given closed bounded are front =
-      keeps-front mine front.count (install_acts databases) device front.reached front.replies (session_mine databases bounded are)
-      (subst (OpenMine mine) (sym closed) (none_open_mine mine)) front.run.ran
+      → (on : GoesOn mark device (installs_of databases ++ ending ∷ []) after) → Keeps mine (marked_on mark device) on.reached
+  rest_keeps mark device after databases closed bounded are on =
+      keeps-front mine on.ran.0 (installs_of databases ++ ending ∷ []) (marked_on mark device) on.reached on.ran.1.0 (rest_mine databases bounded are)
+      (subst (OpenMine mine) (sym closed) (none_open_mine mine)) on.ran.1.1
 
 -- ---- the user, and the others
 
@@ -127,10 +134,25 @@ all_any : (databases : List DatabaseValue) → AllByRecursion (λ (d : DatabaseV
 all_any [] = tt
 all_any (d ∷ databases) = (refl, all_any databases)
 
-pub user_stays : (device after : Device) (databases : List DatabaseValue) (writes : ℕ) (given : List ℕ) → device.handles ≡ no_handles
-    → AllByRecursion IsBoundedDatabase databases → Front device (map text (install_acts databases)) writes given after → after.user ≡ device.user
-user_stays device after databases writes given closed bounded front =
-    front.user ∙ (front_keeps (λ name. true) device after databases writes given closed bounded (all_any (filter is_installable databases)) front).user
+-- it has the mark, or is as it was
+pub user_marked : (mark : Mark) (device after : Device) (databases : List DatabaseValue) (writes : ℕ) (given : List ℕ) → device.handles ≡ no_handles
+    → AllByRecursion IsBoundedDatabase databases → Front device (map text (install_acts mark device.user databases)) writes given after
+    → IsMarkedFirst mark device after
+unfolding install_acts
+user_marked mark device after databases writes given closed bounded front =
+    by (front_cut mark device after (installs_of databases ++ ending ∷ []) writes given front)
+  where
+    by : IsAsItWas device after ⊎ GoesOn mark device (installs_of databases ++ ending ∷ []) after → IsMarkedFirst mark device after
+    by (inl same) = inr same
+    by (inr on) =
+        inl (on.user ∙ (rest_keeps (λ name. true) mark device after databases closed bounded (all_any (filter is_installable databases)) on).user)
+
+-- so that no desktop agrees with it
+pub read_next : (mark : Mark) (device after : Device) (desktop : Marks) → ¬ (mark ≡ Unchanged) → 0 < desktop.pc → IsMarkedFirst mark device after
+    → IsReadNext desktop device after
+read_next mark device after desktop says some (inl marked) =
+    inl (ap (λ (user : UserInfo). agreed user desktop) marked ∙ marked_apart mark device.user desktop says some)
+read_next mark device after desktop says some (inr same) = inr same
 
 -- none of these has the name
 others_named : (name : List ℕ) (databases : List DatabaseValue) → database_of name databases ≡ None
@@ -144,10 +166,18 @@ others_named name (database ∷ databases) none = by (bytes_eq database.head.nam
     by true is rest = absurd (let found : Some database ≡ None = rw is at none in cc)
     by false is rest = (ap not is, rest (rw is at none))
 
-pub others_stay : (device after : Device) (databases : List DatabaseValue) (writes : ℕ) (given name : List ℕ) → device.handles ≡ no_handles
-    → AllByRecursion IsBoundedDatabase databases → Front device (map text (install_acts databases)) writes given after
+pub others_stay : (mark : Mark) (device after : Device) (databases : List DatabaseValue) (writes : ℕ) (given name : List ℕ)
+    → device.handles ≡ no_handles → AllByRecursion IsBoundedDatabase databases
+    → Front device (map text (install_acts mark device.user databases)) writes given after
     → database_of name (filter is_installable databases) ≡ None → database_of name after.databases ≡ database_of name device.databases
-others_stay device after databases writes given name closed bounded front none =
-    ap (database_of name) front.databases
-    ∙ (front_keeps (λ other. not (bytes_eq other name)) device after databases writes given closed bounded
-    (others_named name (filter is_installable databases) none) front).others name (ap not (bytes_eq-own name))
+unfolding install_acts
+others_stay mark device after databases writes given name closed bounded front none =
+    by (front_cut mark device after (installs_of databases ++ ending ∷ []) writes given front)
+  where
+    by : IsAsItWas device after ⊎ GoesOn mark device (installs_of databases ++ ending ∷ []) after
+        → database_of name after.databases ≡ database_of name device.databases
+    by (inl same) = ap (database_of name) same.databases
+    by (inr on) =
+        ap (database_of name) on.databases
+        ∙ (rest_keeps (λ other. not (bytes_eq other name)) mark device after databases closed bounded
+        (others_named name (filter is_installable databases) none) on).others name (ap not (bytes_eq-own name))

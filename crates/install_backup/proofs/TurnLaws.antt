@@ -13,22 +13,23 @@ use Rattle.palm_device.specs.Devices.{Device}
 use Rattle.desktop_session.specs.Acts.{Act, text}
 use Rattle.desktop_session.specs.Requests.{ending}
 use Rattle.desktop_session.specs.Tellings.{device_after}
-use Rattle.desktop_session.proofs.RequestFits.{begin_fits, end_fits, user_fits}
+use Rattle.desktop_session.proofs.RequestFits.{end_fits}
 use Rattle.session_parts.specs.Fronts.{Front}
-use Rattle.session_parts.specs.Meets.{greeting}
 use Rattle.session_parts.specs.Rests.{IsAtRest}
-use Rattle.session_parts.proofs.RestLaws.{greeting_same}
 use Rattle.session_parts.proofs.StretchLaws.{where_kept}
+use Rattle.install_backup.specs.declared.mark.Mark.{Mark}
 use Rattle.install_backup.specs.Installed.{with_installed}
-use Rattle.install_backup.specs.InstallActs.{install_acts, install_one, is_installable}
+use Rattle.install_backup.specs.InstallActs.{install_acts, install_one, installs_of, is_installable}
 use Rattle.install_backup.specs.InstallEnds.{all_installed, first_full}
-use Rattle.install_backup.specs.InstallFronts.{FirstIsUnderway, IsUnderway, StandsInTurn}
+use Rattle.install_backup.specs.InstallFronts.{FirstIsUnderway, IsAsItWas, IsUnderway, StandsInTurn}
+use Rattle.install_backup.specs.Marks.{marked_on}
 use Rattle.install_backup.specs.Rooms.{has_room}
 use Rattle.install_backup.proofs.BegunLaws.{Along, along_within, install_along}
 use Rattle.install_backup.proofs.ClosedLaws.{says_one}
 use Rattle.install_backup.proofs.EndLaws.{installs-are}
 use Rattle.install_backup.proofs.EvolveLaws.{with_one}
 use Rattle.install_backup.proofs.GoneLaws.{with_databases}
+use Rattle.install_backup.proofs.MarkLaws.{GoesOn, front_cut, marked_rests}
 use Rattle.install_backup.proofs.OthersLaws.{Behind, IsMine, OpenMine, Within, keeps-front, none_open_mine, run_cut}
 use Rattle.install_backup.proofs.StayLaws.{one_mine}
 use Rattle.install_backup.proofs.WholeLaws.{install_goes, installed_rests}
@@ -144,10 +145,10 @@ first_same (database ∷ databases) device reached same = inl (same database.hea
 first_by : (later before reached after : List DatabaseValue) → after ≡ reached → FirstIsUnderway later before reached → FirstIsUnderway later before after
 first_by later before reached after same first = subst (FirstIsUnderway later before) (sym same) first
 
--- the same databases
-stands_by : (databases : List DatabaseValue) (device reached after : Device) → after.databases ≡ reached.databases → StandsInTurn databases device reached
-    → StandsInTurn databases device after
-stands_by databases device reached after same stands = record {
+-- the same databases, whatever the mark
+stands_by : (databases : List DatabaseValue) (mark : Mark) (device reached after : Device) → after.databases ≡ reached.databases
+    → StandsInTurn databases (marked_on mark device) reached → StandsInTurn databases device after
+stands_by databases mark device reached after same stands = record {
   before = stands.before;
   later = stands.later;
   parts = stands.parts;
@@ -155,31 +156,23 @@ stands_by databases device reached after same stands = record {
   others = λ name first. ap (database_of name) same ∙ stands.others name first;
 }
 
-pub fronts_stand : (device after : Device) (databases : List DatabaseValue) (writes : ℕ) (given : List ℕ) → IsAtRest device
+pub fronts_stand : (mark : Mark) (device after : Device) (databases : List DatabaseValue) (writes : ℕ) (given : List ℕ) → IsAtRest device
     → AllByRecursion IsBoundedDatabase databases → first_full databases device.databases ≡ None
-    → Front device (map text (install_acts databases)) writes given after → StandsInTurn databases device after
+    → Front device (map text (install_acts mark device.user databases)) writes given after → StandsInTurn databases device after
 unfolding install_acts
-fronts_stand device after databases writes given rests bounded full front =
-    let rest : List Act = flat_map says_one databases ++ ending ∷ [] in
-    let frame : AllByRecursion (IsMine (λ name. false)) greeting = ((user_fits, refl, tt), ((begin_fits, refl, tt), tt)) in
-    let ran : Within (λ name. false) front.count (greeting ++ rest) device front.reached
-    = subst (λ (acts : List Act). Within (λ name. false) front.count (greeting ++ (acts ++ ending ∷ [])) device front.reached)
-    (sym (installs-are databases)) (front.replies, front.run.ran) in
-    stands_by databases device front.reached after front.databases
-    (by frame (run_cut (λ name. false) front.count greeting rest device front.reached frame ran))
+fronts_stand mark device after databases writes given rests bounded full front =
+    by (front_cut mark device after (installs_of databases ++ ending ∷ []) writes given front)
   where
-    by : AllByRecursion (IsMine (λ name. false)) greeting → Within (λ name. false) front.count greeting device front.reached
-        ⊎ Behind (λ name. false) (flat_map says_one databases ++ ending ∷ []) (device_after greeting device) front.reached
-        → StandsInTurn databases device front.reached
-    by frame (inl within) = record {
+    by : IsAsItWas device after ⊎ GoesOn mark device (installs_of databases ++ ending ∷ []) after → StandsInTurn databases device after
+    by (inl same) = record {
       before = [];
       later = databases;
       parts = refl;
-      first = first_same databases device front.reached (λ name. (keeps-front (λ name. false) front.count greeting device front.reached within.0 frame
-          (at_rest (λ name. false) device rests) within.1).others name refl);
-      others = λ name first. (keeps-front (λ name. false) front.count greeting device front.reached within.0 frame
-          (at_rest (λ name. false) device rests) within.1).others name refl;
+      first = first_same databases device after (λ name. ap (database_of name) same.databases);
+      others = λ name first. ap (database_of name) same.databases;
     }
-    by frame (inr behind) =
-        let there = subst (λ (d : Device). Behind (λ name. false) (flat_map says_one databases ++ ending ∷ []) d front.reached) (greeting_same device) behind in
-        in_turn databases device front.reached there.0 rests bounded full there.1
+    by (inr on) =
+        let there = subst (λ (acts : List Act). Behind (λ name. false) (acts ++ ending ∷ []) (marked_on mark device) on.reached) (sym (installs-are databases))
+        on.ran in
+        stands_by databases mark device on.reached after on.databases
+        (in_turn databases (marked_on mark device) on.reached there.0 (marked_rests mark device rests) bounded full there.1)

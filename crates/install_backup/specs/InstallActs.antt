@@ -1,17 +1,20 @@
 -- What an install says: the requests for each database, in order, as the file alone gives them.
 use Rattle.std.specs.Prelude.{ℕ, Bool, not, List, [], ◌∷◌, ◌++◌, filter, length, map, Option, None, Some, if◌then◌else◌}
-use Rattle.std.specs.List.{flat_map}
+use Rattle.std.specs.List.{flat_map, list_any}
 use Rattle.pdb_values.specs.Databases.{DatabaseValue}
 use Rattle.pdb_values.specs.Heads.{holds_resources, is_read_only}
 use Rattle.pdb_values.specs.declared.record.Record.{Record}
 use Rattle.pdb_values.specs.declared.resource.Resource.{Resource}
+use Rattle.pdb_values.specs.declared.user.UserInfo.{UserInfo}
 use Rattle.dlp_commands.specs.Talks.{Talk}
 use Rattle.desktop_session.specs.Acts.{Act}
 use Rattle.desktop_session.specs.Requests.{deleting, ending, making, putting, putting_resource, resetting, writing_app, writing_sort}
-use Rattle.session_parts.specs.Meets.{greeting}
 use Rattle.session_parts.specs.Spans.{within}
 use Rattle.install_backup.specs.declared.moved.Moved.{Moved}
+use Rattle.install_backup.specs.declared.mark.Mark.{Mark}
+use Rattle.install_backup.specs.declared.mark.Mark.TheVariants.{Unchanged, NoDesktop, NewLife}
 use Rattle.install_backup.specs.Installed.{installed_head, installed_records}
+use Rattle.install_backup.specs.Marks.{marked_greeting}
 
 -- a block that has bytes is written
 abbrev pub block_acts : (ℕ → List ℕ → Act) → ℕ → Option (List ℕ) → List Act
@@ -61,9 +64,19 @@ unfoldable pub installs_of : List DatabaseValue → List Act
 installs_of databases =
     flat_map (λ database. install_one database 1 []) (filter is_installable databases)
 
--- the whole session
-unfoldable pub install_acts : List DatabaseValue → List Act
-install_acts databases = greeting ++ (installs_of databases ++ ending ∷ [])
+-- the whole session, of a handheld that knows this of its user
+unfoldable pub install_acts : Mark → UserInfo → List DatabaseValue → List Act
+install_acts mark user databases =
+    marked_greeting mark user ++ (installs_of databases ++ ending ∷ [])
+
+-- the mark of a session that installs one database: no session reads a program
+abbrev pub install_mark : DatabaseValue → Mark
+install_mark database =
+    if holds_resources database.head.attributes then Unchanged else NoDesktop
+
+-- that of one that restores several: another life begins where one of them is installed
+abbrev pub restore_mark : List DatabaseValue → Mark
+restore_mark databases = if list_any is_installable databases then NewLife else Unchanged
 
 -- how many entries are written: each resource of the file, or each record that is to be installed
 unfoldable pub written_count : DatabaseValue → ℕ

@@ -10,15 +10,16 @@ use Rattle.desktop_session.specs.Requests.{ending}
 use Rattle.desktop_session.specs.Sessions.{SessionValue}
 use Rattle.desktop_session.specs.Stops.{Does, Stops}
 use Rattle.session_parts.specs.Causes.{IsLater}
-use Rattle.session_parts.specs.Meets.{greeting}
 use Rattle.session_parts.specs.Stretches.{AreFirst, EachSays, Stretch, each_acts}
 use Rattle.session_parts.specs.declared.stop.Stop.{Stop}
 use Rattle.session_parts.specs.declared.stop.Stop.TheVariants as stop
+use Rattle.install_backup.specs.declared.mark.Mark.{Mark}
 use Rattle.install_backup.specs.declared.moved.MoveOutcome.{MoveOutcome}
 use Rattle.install_backup.specs.declared.moved.Moved.{Moved}
 use Rattle.install_backup.specs.Installed.{with_installed}
 use Rattle.install_backup.specs.InstallActs.{install_acts, install_one, installs_of, installs_under, is_installable, moved_of}
 use Rattle.install_backup.specs.Installs.{SaysMoved, StopsAt, StopsWithin, making_acts}
+use Rattle.install_backup.specs.Marks.{marked_greeting}
 use Rattle.install_backup.specs.Rooms.{IsNoLimit, has_room}
 
 -- ---- over any link
@@ -88,25 +89,27 @@ until_full (database ∷ databases) held =
 
 -- it stopped at this database for want of room: all before it were installed, and no more was asked
 -- for than that it be made
-pub record IsFull {L : Type 0} (talk : L → Option Talk) (databases : List DatabaseValue)
-    (device : Device) (old new : L) (name : List ℕ) : Type 0 where
+pub record IsFull {L : Type 0} (talk : L → Option Talk) (mark : Mark)
+    (databases : List DatabaseValue) (device : Device) (old new : L) (name : List ℕ)
+    : Type 0 where
   pub first : first_full databases device.databases ≡ Some name
   pub before : List DatabaseValue
   pub one : DatabaseValue
   pub rest : List DatabaseValue
   pub parts : before ++ one ∷ rest ≡ databases
   pub named : name ≡ one.head.name
-  pub does : Does talk (greeting ++ (installs_of before ++ making_acts one)) old new
+  pub does : Does talk
+      (marked_greeting mark device.user ++ (installs_of before ++ making_acts one)) old new
 
 -- The cause of a stop: the link is down, or has no fault and a reply was an error or none that can
 -- be read, or memory was wanted; or it is a limit, which is told as one wherever it is the cause.
-abbrev pub IsInstallStop : {L : Type 0} → (L → Option Talk) → (L → Option LinkFault)
+abbrev pub IsInstallStop : {L : Type 0} → (L → Option Talk) → (L → Option LinkFault) → Mark
     → List DatabaseValue → Device → L → L → Stop → Type 0
-IsInstallStop talk fault databases device old new (stop.Session cause) =
+IsInstallStop talk fault mark databases device old new (stop.Session cause) =
     IsLater (talk new) (fault new) cause × IsNoLimit cause
-IsInstallStop talk fault databases device old new (stop.Limit name) =
-    IsFull talk databases device old new name
-IsInstallStop talk fault databases device old new other = ⊥
+IsInstallStop talk fault mark databases device old new (stop.Limit name) =
+    IsFull talk mark databases device old new name
+IsInstallStop talk fault mark databases device old new other = ⊥
 
 -- it stopped for the limit at this database, unless its link, a reply or its memory stopped it
 -- before
@@ -117,23 +120,25 @@ StopsAtLimit name (Err (stop.Limit other)) = other ≡ name
 StopsAtLimit name (Err other) = ⊥
 
 -- all was said and answered, all had room, and this is told of each
-pub record IsInstalled {L : Type 0} (talk : L → Option Talk) (databases : List DatabaseValue)
-    (device : Device) (old new : L) (moved : List Moved) : Type 0 where
-  pub does : Does talk (install_acts databases) old new
+pub record IsInstalled {L : Type 0} (talk : L → Option Talk) (mark : Mark)
+    (databases : List DatabaseValue) (device : Device) (old new : L) (moved : List Moved)
+    : Type 0 where
+  pub does : Does talk (install_acts mark device.user databases) old new
   pub room : first_full databases device.databases ≡ None
   pub told : moved ≡ map moved_of databases
 
--- An install of these databases ended, or stopped, and why. Where one has no room, no more is asked
--- for than that it be made.
+-- An install of these databases with a mark ended, or stopped, and why. Where one has no room, no
+-- more is asked for than that it be made.
 pub record InstallEnds {L : Type 0} (talk : L → Option Talk) (since : L → L → Type 0)
     (fault : L → Option LinkFault) (downs : L → ℕ)
-    (databases : List DatabaseValue) (device : Device) (old new : L)
+    (mark : Mark) (databases : List DatabaseValue) (device : Device) (old new : L)
     (answer : Result (Vec Moved) Stop) : Type 0 where
-  pub stops : Stops talk since fault downs (map text (install_acts databases)) old new
-  pub ended : IfOk answer (λ moved. IsInstalled talk databases device old new moved.items)
-  pub cause : IfErr answer (IsInstallStop talk fault databases device old new)
+  pub stops : Stops talk since fault downs
+      (map text (install_acts mark device.user databases)) old new
+  pub ended : IfOk answer (λ moved. IsInstalled talk mark databases device old new moved.items)
+  pub cause : IfErr answer (IsInstallStop talk fault mark databases device old new)
   pub limit : (name : List ℕ) → first_full databases device.databases ≡ Some name
       → StopsAtLimit name answer
   pub until : (name : List ℕ) → first_full databases device.databases ≡ Some name
       → Stops talk since fault downs
-      (map text (greeting ++ until_full databases device.databases)) old new
+      (map text (marked_greeting mark device.user ++ until_full databases device.databases)) old new

@@ -3,13 +3,17 @@ use Rattle.std.specs.Prelude.{◌≡◌, ◌⊎◌, ℕ, false, List, [], ◌∷
 use Rattle.std.specs.Str.{bytes_eq}
 use Rattle.pdb_values.specs.Databases.{DatabaseValue}
 use Rattle.pdb_values.specs.NamedDatabases.{database_of}
+use Rattle.pdb_values.specs.declared.user.Marks.{Marks}
 use Rattle.palm_device.specs.Devices.{Device}
 use Rattle.palm_device.specs.Records.{reset_flags}
 use Rattle.desktop_session.specs.Acts.{text}
+use Rattle.mirrors.specs.Agreements.{agreed}
 use Rattle.session_parts.specs.Fronts.{Front}
+use Rattle.install_backup.specs.declared.mark.Mark.{Mark}
 use Rattle.install_backup.specs.InstallActs.{install_acts, is_installable}
 use Rattle.install_backup.specs.InstallEnds.{all_installed}
 use Rattle.install_backup.specs.Installed.{installed_block, installed_head, installed_records}
+use Rattle.install_backup.specs.Marks.{marked_user}
 use Rattle.install_backup.specs.Puts.{put_each}
 use Rattle.install_backup.specs.Rooms.{AreAllBounded}
 
@@ -50,13 +54,27 @@ pub record StandsInTurn (databases : List DatabaseValue) (device after : Device)
   pub others : (name : List ℕ) → IsNotFirst name later
       → database_of name after.databases ≡ database_of name (all_installed before device.databases)
 
--- what an install of these databases left of a handheld, wherever it stopped
-pub record InstallFront (device : Device) (databases : List DatabaseValue) (after : Device)
-    : Type 0 where
+-- what an install of these databases with a mark left of a handheld, wherever it stopped
+pub record InstallFront (device : Device) (mark : Mark) (databases : List DatabaseValue)
+    (after : Device) : Type 0 where
   pub bounded : AreAllBounded databases
   pub writes : ℕ
   pub given : List ℕ
-  pub front : Front device (map text (install_acts databases)) writes given after
+  pub front : Front device (map text (install_acts mark device.user databases)) writes given after
+
+-- a handheld is as it was
+pub record IsAsItWas (device after : Device) : Type 0 where
+  pub user : after.user ≡ device.user
+  pub databases : after.databases ≡ device.databases
+
+-- the mark comes first: what the handheld knows of its user has it, or nothing has changed
+abbrev pub IsMarkedFirst : Mark → Device → Device → Type 0
+IsMarkedFirst mark device after =
+    (after.user ≡ marked_user mark device.user) ⊎ IsAsItWas device after
+
+-- this desktop doesn't agree with the handheld, or nothing has changed
+abbrev pub IsReadNext : Marks → Device → Device → Type 0
+IsReadNext desktop device after = (agreed after.user desktop ≡ false) ⊎ IsAsItWas device after
 
 -- no database of this name is installed
 abbrev pub IsOther : List ℕ → List DatabaseValue → Type 0

@@ -8,6 +8,7 @@ pub mod InstallEnds
 pub mod InstallFronts
 pub mod Installed
 pub mod Installs
+pub mod Marks
 pub mod Puts
 pub mod Rooms
 pub mod Written

@@ -1,8 +1,9 @@
 // What an install makes of a database and of a handheld, and what a backup reads. Each function here does nothing: its contract is the law.
-ghost use Rattle.std.specs.Prelude.{◌≡◌, ◌++◌, ℕ, List, [], Some, flat_map, take, true};
+ghost use Rattle.std.specs.Prelude.{◌≡◌, ◌<◌, ◌++◌, ℕ, List, [], Some, flat_map, take, true};
 ghost use Rattle.pdb_values.specs.Databases.{DatabaseValue};
 ghost use Rattle.pdb_values.specs.NamedDatabases.{NamesRise, database_of, with_new, with_put, without_named};
 ghost use Rattle.pdb_values.specs.declared.resource.Resource.{Resource};
+ghost use Rattle.pdb_values.specs.declared.user.Marks.{Marks};
 ghost use Rattle.palm_device.specs.Blocks.{with_app, with_sort};
 ghost use Rattle.palm_device.specs.Bounds.{IsBoundedDatabase};
 ghost use Rattle.palm_device.specs.Devices.{Device};
@@ -15,9 +16,11 @@ ghost use Rattle.session_parts.specs.Rests.{IsAtRest};
 ghost use Rattle.install_backup.specs.BackedUp.{HasNoneBusy, IsUnmarked, backed_up};
 ghost use Rattle.install_backup.specs.BackupActs.{backup_acts, backup_of};
 ghost use Rattle.install_backup.specs.BackupEnds.{backup_front, read_of};
+ghost use Rattle.install_backup.specs.declared.mark.Mark.{Mark};
+ghost use Rattle.install_backup.specs.declared.mark.Mark.TheVariants.{Unchanged};
 ghost use Rattle.install_backup.specs.InstallActs.{install_acts, install_one, put_resource};
 ghost use Rattle.install_backup.specs.InstallEnds.{HasRoomForAll};
-ghost use Rattle.install_backup.specs.InstallFronts.{HasAsBefore, InstallFront, IsOther, StandsInTurn};
+ghost use Rattle.install_backup.specs.InstallFronts.{HasAsBefore, InstallFront, IsMarkedFirst, IsOther, IsReadNext, StandsInTurn};
 ghost use Rattle.install_backup.specs.Installed.{installed, installed_behind, installed_on};
 ghost use Rattle.install_backup.specs.Puts.{put_each};
 ghost use Rattle.install_backup.specs.Rooms.{AreAllBounded, CanInstall, HasNoneOpen, has_room};
@@ -94,9 +97,9 @@ pub fn backups_keep_their_order()
 
 /// Each request of an install may be asked at its turn of a handheld on which nothing is open, and which has room for all of its databases.
 pub fn installs_keep_their_order()
-    ensures { (device : Device) (databases : List DatabaseValue) (count : ℕ) → IsAtRest device
-        → AreAllBounded databases → HasRoomForAll databases device
-        → AreInOrder (take count (install_acts databases)) device }
+    ensures { (device : Device) (mark : Mark) (databases : List DatabaseValue) (count : ℕ)
+        → IsAtRest device → AreAllBounded databases → HasRoomForAll databases device
+        → AreInOrder (take count (install_acts mark device.user databases)) device }
 {}
 
 /// An unmarked database of a file comes back from a backup as it was, and so with its own canonical bytes: what is installed of it and backed up
@@ -110,21 +113,30 @@ pub fn installs_come_back()
         ≡ database }
 {}
 
-/// Wherever an install stops, a handheld on which nothing was open has the user that it had, and each of its databases whose name no file
-/// has that is installed is as it was, whether or not there was room.
+/// Wherever an install stops, a handheld on which nothing was open is as it was, or what it knows of its user has the mark; and each of its
+/// databases whose name no file has that is installed is as it was, whether or not there was room.
 pub fn others_stay()
-    ensures user { (device after : Device) (databases : List DatabaseValue) → HasNoneOpen device
-        → InstallFront device databases after → after.user ≡ device.user }
-    ensures others { (device after : Device) (databases : List DatabaseValue) (name : List ℕ)
-        → HasNoneOpen device → InstallFront device databases after → IsOther name databases
-        → HasAsBefore name device after }
+    ensures user { (device after : Device) (mark : Mark) (databases : List DatabaseValue)
+        → HasNoneOpen device → InstallFront device mark databases after
+        → IsMarkedFirst mark device after }
+    ensures others { (device after : Device) (mark : Mark) (databases : List DatabaseValue)
+        (name : List ℕ) → HasNoneOpen device → InstallFront device mark databases after
+        → IsOther name databases → HasAsBefore name device after }
+{}
+
+/// Wherever an install stops that says a mark, no desktop agrees with the handheld then, so that the next session reads everything, or the
+/// handheld is as it was.
+pub fn installs_are_read_next()
+    ensures { (device after : Device) (mark : Mark) (databases : List DatabaseValue)
+        (desktop : Marks) → HasNoneOpen device → InstallFront device mark databases after
+        → ¬ (mark ≡ Unchanged) → 0 < desktop.pc → IsReadNext desktop device after }
 {}
 
 /// Wherever an install of several stops, on a handheld on which nothing was open, and which has room for all of them: those in front of one
 /// are installed; the database of its name is as it was then, or gone, or made anew with a beginning of its blocks and entries; and each
 /// database of another name is as it was then.
 pub fn installs_come_in_turn()
-    ensures { (device after : Device) (databases : List DatabaseValue) → IsAtRest device
-        → HasRoomForAll databases device → InstallFront device databases after
-        → StandsInTurn databases device after }
+    ensures { (device after : Device) (mark : Mark) (databases : List DatabaseValue)
+        → IsAtRest device → HasRoomForAll databases device
+        → InstallFront device mark databases after → StandsInTurn databases device after }
 {}

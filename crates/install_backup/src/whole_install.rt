@@ -8,6 +8,7 @@ ghost use Rattle.install_backup.specs.Rooms.{AreAllBounded};
 
 use crate::greeting::greet;
 use crate::many::install_all;
+use crate::mark::Mark;
 use crate::moved::MoveOutcome;
 use desktop_session::{Halted, Linked, SessionFault};
 use dlp_commands::Link;
@@ -58,13 +59,14 @@ fn install_greeted<L: Link>(
 }
 
 /// Runs a session that installs each of these databases on a handheld behind a link, from the wake to the end. A read-only one is passed
-/// over.
+/// over. Before the first of them the handheld's marks say what the mark is to say, where they don't say so already.
 ///
 /// The link comes back however it ended. Over a link that tells its handheld it ends with each of them in place of the one of its name,
 /// or it stops, and says why: at the first one that the handheld has no room for, or where its link, a reply or its memory stops it.
 pub fn install_session<L: Link>(
     alloc: Global,
     link: L,
+    mark: Mark,
     databases: &[Database],
 ) -> MoveOutcome<L, ()>
     requires { L.begun link ≡ false }
@@ -72,10 +74,10 @@ pub fn install_session<L: Link>(
     // Over a link that tells a handheld on which nothing is open.
     ensures ends { (told : Talk) → L.talk link ≡ Some told → IsAtRest told.device
         → AreAllBounded databases.now
-        → InstallEnds L.talk L.since L.fault L.downs databases.now told.device link result.link
+        → InstallEnds L.talk L.since L.fault L.downs mark databases.now told.device link result.link
         result.end }
 {
-    match greet(alloc, link) {
+    match greet(alloc, link, mark) {
         Ok(linked) => install_greeted(alloc, linked, databases),
         Err(Halted { link, cause }) => stopped(link, Stop::Session(cause)),
     }

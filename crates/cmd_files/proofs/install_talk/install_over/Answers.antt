@@ -16,4 +16,5 @@ returns-clause-talk g c =
     rw closed.folder (install_spoke (λ world. world.fault) (λ world. downs_of world.fault) desk
     outcome.result.end c.moves_told-end.result c.requires.stands rests c.requires.bounded c.requires.writable (ap not c.requires.writable)
     c.requires.silent c.requires.cause c.requires.script outcome.ensures.link.later
-    (outcome.ensures.ends (world_talk c.args.world) refl rests (c.requires.bounded, tt)) c.moves_told-end.ensures closed.closes)
+    (rw c.install_mark-mark.ensures at (outcome.ensures.ends (world_talk c.args.world) refl rests (c.requires.bounded, tt))) c.moves_told-end.ensures
+    closed.closes)

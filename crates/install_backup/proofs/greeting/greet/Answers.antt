@@ -1,11 +1,21 @@
--- No message was had.
-use Rattle.std.proofs.Common.{refl, map}
-use Rattle.desktop_session.specs.Acts.{text}
-use Rattle.desktop_session.proofs.StopLaws.{fell_none, stops_none}
-use Rattle.session_parts.specs.Meets.{greeting}
+-- The handheld was greeted, or not, and the mark was said.
+use Rattle.install_backup.proofs.MarkLaws.{marked_said, marked_stops, unmarked_stops}
 use Rattle.install_backup.proofs.greeting.greet.Goals as goal
 
 pub returns-in-Err-clause-stops : goal.returns-in-Err-clause-stops
-returns-in-Err-clause-stops g c =
-    rw c.in-Err.ensures.err (stops_none g.L.Link.talk g.L.Link.since g.L.Link.fault g.L.Link.downs (map text greeting) c.args.link c.args.link
-    refl (g.met.L.Link.since_itself c.args.link) (fell_none g.L.Link.fault g.L.Link.downs c.args.link))
+returns-in-Err-clause-stops g c = λ told is rests. unmarked_stops c.args.mark told.device.user c.in-Err.ensures.stops
+
+pub returns-in-Ok-say_mark-clause-stops : goal.returns-in-Ok-say_mark-clause-stops
+returns-in-Ok-say_mark-clause-stops g c = λ told is rests.
+    marked_stops c.args.mark g.met.L.Link.since_more c.in-Ok.ensures.stops c.in-Ok.ensures.does told.device.user (c.in-Ok.ensures.user told is rests)
+    c.say_mark.ensures.asks
+
+pub returns-in-Ok-say_mark-clause-does : goal.returns-in-Ok-say_mark-clause-does
+returns-in-Ok-say_mark-clause-does g c = λ told is rests.
+    marked_said c.args.mark g.met.L.Link.since_more c.in-Ok.ensures.stops c.in-Ok.ensures.does told.device.user (c.in-Ok.ensures.user told is rests)
+    c.in-Ok-say_mark.ensures.asks
+
+pub returns-in-Err-say_mark-clause-stops : goal.returns-in-Err-say_mark-clause-stops
+returns-in-Err-say_mark-clause-stops g c = λ told is rests.
+    rw c.halt.ensures.link (marked_stops c.args.mark g.met.L.Link.since_more c.in-Ok.ensures.stops c.in-Ok.ensures.does told.device.user
+    (c.in-Ok.ensures.user told is rests) c.say_mark.ensures.asks)

@@ -3,4 +3,4 @@ use Rattle.install_backup.proofs.InstallOrder.{install-order}
 use Rattle.install_backup.proofs.laws.installs_keep_their_order.Goals as goal
 
 pub returns : goal.returns
-returns c = λ device databases count rests bounded full. install-order device databases count rests bounded full
+returns c = λ device mark databases count rests bounded full. install-order mark device databases count rests bounded full
