@@ -10,9 +10,7 @@ from concurrent.futures import ThreadPoolExecutor
 from edits import bodies_of, edits_of, groups_of
 from sources import TOP
 
-VERDICT = re.compile(r"^fn (.+?): (proved|not proved|no proof|could not tell)\b:? ?(.*)", re.M)
-# A function that another one hides, whose proof it rests on.
-HIDDEN = re.compile(r"it calls .*, which (is|are) not proved")
+VERDICT = re.compile(r"^fn (.+?): (proved|not proved|no proof|could not tell)\b(.*)", re.M)
 # What the prover couldn't read of an edited file: then no contract was tried.
 UNREAD = re.compile(r"^(?:\./)?(src/\S+?):(\d+):\d+: error", re.M)
 ALONE = re.compile(
@@ -109,8 +107,7 @@ class Trial:
             if is_own and verdict in ("not proved", "no proof"):
                 folder = re.escape(path.split("::", 1)[1].replace("::", "/"))
                 error = rf"^(?:\./)?proofs/{folder}/\S+: error: (?!.*not admitted)"
-                own = [it for it in why.split("; ") if it and not HIDDEN.fullmatch(it)]
-                if own or re.search(error, said, re.M):
+                if "did not prove" in why or re.search(error, said, re.M):
                     return "open"
                 state = "hidden"
         return state
