@@ -8,10 +8,8 @@ use std::path::Path;
 use std::rt::Files;
 use std::{fs, io};
 
-// The permission bits of a mode, and among them that all may read.
+// The permission bits of a mode.
 const PERMISSIONS: u32 = 0o777;
-
-const READ_BY_ALL: u32 = 0o004;
 
 // A file that its owner alone may read and write, and one of which the system takes away what its
 // user wants taken away (the umask).
@@ -56,37 +54,30 @@ pub(crate) fn replaced_mode<R: Files>(rt: &R, path: Path<'_>) -> Option<u32> {
     }
 }
 
-// The mode of a new file of this folder: private where one of its files is not readable to all. A
-// name that is not UTF-8 is passed over, as in the list of names.
+// The mode of a new file of this folder: of what a group and all others may do, what they may do with
+// each of its files. A name that is not UTF-8 is passed over, as in the list of names.
 fn new_mode<R: Files>(rt: &R, alloc: Global, folder: &str) -> io::Result<u32> {
+    let mut mode = USUAL;
     for entry in fs::read_dir(&(rt, alloc), folder)? {
-        if is_private_entry(rt, alloc, folder, entry)? {
-            return Ok(PRIVATE);
-        }
+        mode &= PRIVATE | entry_mode(rt, alloc, folder, entry)?;
     }
-    Ok(USUAL)
+    Ok(mode)
 }
 
-// Whether an entry of the folder is a file that is not readable to all.
-fn is_private_entry<R: Files>(
+// What may be done with an entry of the folder; all, where it is no file.
+fn entry_mode<R: Files>(
     rt: &R,
     alloc: Global,
     folder: &str,
     entry: io::Result<DirEntry<(&R, Global)>>,
-) -> io::Result<bool> {
+) -> io::Result<u32> {
     match entry {
-        Ok(entry) => is_private(rt, alloc, folder, entry.file_name()),
-        Err(error) if error.kind() == ErrorKind::InvalidFilename => Ok(false),
+        Ok(entry) => {
+            let path = Path::new(folder).join(alloc, entry.file_name())?;
+            Ok(replaced_mode(rt, path.as_path()).unwrap_or(USUAL))
+        }
+        Err(error) if error.kind() == ErrorKind::InvalidFilename => Ok(USUAL),
         Err(error) => Err(error),
-    }
-}
-
-// Whether a file of this name is not readable to all.
-fn is_private<R: Files>(rt: &R, alloc: Global, folder: &str, name: &str) -> io::Result<bool> {
-    let path = Path::new(folder).join(alloc, name)?;
-    match replaced_mode(rt, path.as_path()) {
-        Some(mode) => Ok(mode & READ_BY_ALL == 0),
-        None => Ok(false),
     }
 }
 
