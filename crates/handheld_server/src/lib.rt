@@ -5,7 +5,7 @@
 //! Protocol reads one of the store's databases, or writes into one that the store lends it. What a
 //! request does is `dlp_commands`' definition of a device step.
 //!
-//! A request is said over a link to it so (`device_cases` has these lines):
+//! A request is said over a link to it so:
 //!
 //! ```text
 //! let mut asked = Message::new(alloc)?;

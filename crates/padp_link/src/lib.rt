@@ -9,15 +9,15 @@
 //! message has is in `specs/Pieces.antt`.
 //!
 //! An end that says a message asks for the piece that waits, and tells of each acknowledgement; one that
-//! hears a message tells of each fragment, and asks for the whole (`wire_cases` has these lines):
+//! hears a message tells of each fragment, and asks for the whole (`part_cases` has these lines):
 //!
 //! ```text
-//! ends.sender.start(byte_in(id), short_in(length));
+//! sender.start(id, short_in(word(words, 2)));
 //! match sender.current() {
-//! let is_taken = ends.sender.on_ack(key);
+//! sender.on_ack(key)
 //!
-//! ends.receiver.expect(byte_in(id));
-//! let taken = receiver.on_data(id, &fragment);
+//! receiver.expect(id);
+//! receiver.on_data(id, &fragment)
 //! match receiver.whole() {
 //! ```
 //!

@@ -5,16 +5,16 @@
 //! is the Palm File Format Specification (Palm OS 3.5 and later), chapters "Palm Database (PDB) file format" and "Palm
 //! Resource (PRC) file format"; pilot-link's `pi-file.c` reads and writes the same files.
 //!
-//! Bytes are read so, and a database is written so (`files_cases` has these lines); a refusal says the first rule that the
+//! Bytes are read so, and a database is written so (`hotsync_c` has these lines); a refusal says the first rule that the
 //! bytes break, and where:
 //!
 //! ```text
-//! match read_database(self.alloc, &self.file) {
-//!     Ok(database) => self.load(database),
-//!     Err(fault) => refusal(self.alloc, fault),
+//! match read_database(alloc, file) {
+//!     Ok(database) => Ok(database),
+//!     Err(fault) => Err(Refusal::of(fault)),
 //! }
 //!
-//! let bytes = write_database(alloc, database)?;
+//! let file = write_database(alloc, &database)?;
 //! ```
 #![tactic(auto)]
 

@@ -5,12 +5,12 @@
 //! noise stands between them and in whatever pieces the stream comes, from one buffer as long as the
 //! longest packet. `read_pieces` hands the packets of a whole stream to a `PacketSink`.
 //!
-//! A reader is fed the bytes that come, and asked for packets until there is none (`wire_cases` has these
+//! A reader is fed the bytes that come, and asked for packets until there is none (`part_cases` has these
 //! lines); then it is fed those that it did not take, since `feed` answers how many it took:
 //!
 //! ```text
 //! ends.reader = SlpReader::new();
-//! ends.reader.feed(bytes)
+//! ends.reader.feed(&bytes)
 //! match reader.next() {
 //!     Some(packet) => {
 //!         let body = hex::encode(alloc, packet.body)?;
