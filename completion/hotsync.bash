@@ -40,6 +40,16 @@ _hotsync() {
     esac
     if [ -n "$option" ]; then return; fi
 
+    # And an action from its database at the colon.
+    if [ "$word" = : ]; then
+        word=
+        _hotsync_words 'sync both handheld desktop nothing'
+        return
+    elif [ "${COMP_WORDS[COMP_CWORD - 1]}" = : ]; then
+        _hotsync_words 'sync both handheld desktop nothing'
+        return
+    fi
+
     case ${COMP_WORDS[1]} in
     run)
         case $word in

@@ -34,6 +34,7 @@ complete -c hotsync -n '__hotsync_option run install backup restore categories d
 complete -c hotsync -n '__hotsync_option run sync' -a '--only=\t"the databases that are touched"'
 complete -c hotsync -n '__hotsync_command run' -f -l slow -d 'read all records'
 complete -c hotsync -n '__hotsync_option run' -a '--actions=\t"what is done with each database"'
+complete -c hotsync -n '__hotsync_option run' -a '"--actions=*:both"\t"keep what is live on either side"'
 complete -c hotsync -n '__hotsync_command run' -f -l add-user -d 'give the handheld a user of its own on the desktop'
 complete -c hotsync -n '__hotsync_command run' -f -l dry-run -d 'print what the run would do, and change neither folder'
 complete -c hotsync -n '__hotsync_option export' -a '--as=txt\t"the form"'
@@ -51,4 +52,5 @@ complete -c hotsync -n '__hotsync_option sync' -a '--date=now\t"the date of the 
 complete -c hotsync -n '__hotsync_option sync' -a '--trace=\t"the file for the trace"'
 complete -c hotsync -n '__hotsync_command sync' -f -l slow -d 'read all records'
 complete -c hotsync -n '__hotsync_option sync' -a '--actions=\t"what is done with each database"'
+complete -c hotsync -n '__hotsync_option sync' -a '"--actions=*:both"\t"keep what is live on either side"'
 complete -c hotsync -n '__hotsync_command sync' -f -l add-user -d 'give the handheld a user of its own on the desktop'

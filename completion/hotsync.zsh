@@ -33,7 +33,7 @@ _hotsync() {
         _arguments '1:handheld:_files -/' '2:desktop:_files -/' \
             '--date=-[the date of the session]:date:(now)' '--script=-[the line script]:file:_files' \
             '--trace=-[the file for the trace]:file:_files' '--only=-[the databases that are touched]:stems:' \
-            '--slow[read all records]' '--actions=-[what is done with each database]:actions:' \
+            '--slow[read all records]' '--actions=-[what is done with each database]:actions:(*\:sync *\:both *\:handheld *\:desktop)' \
             '--add-user[give the handheld a user of its own on the desktop]' \
             '--dry-run[print what the run would do, and change neither folder]'
         ;;
@@ -57,7 +57,7 @@ _hotsync() {
         _arguments '1:port:_files' '2:desktop:_files -/' \
             '--date=-[the date of the session]:date:(now)' '--only=-[the databases that are touched]:stems:' \
             '--trace=-[the file for the trace]:file:_files' '--slow[read all records]' \
-            '--actions=-[what is done with each database]:actions:' \
+            '--actions=-[what is done with each database]:actions:(*\:sync *\:both *\:handheld *\:desktop)' \
             '--add-user[give the handheld a user of its own on the desktop]'
         ;;
     show) _arguments '1:file:_files' '--records[show the bytes of each entry]' ;;

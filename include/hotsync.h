@@ -96,7 +96,7 @@ int64_t hs_build(const struct hs_head *head, const struct hs_entry *entries, siz
 
 /* What is asked of a merge. */
 struct hs_how {
-    uint32_t action; /* HS_SYNC, HS_HANDHELD or HS_DESKTOP */
+    uint32_t action; /* HS_SYNC, HS_HANDHELD, HS_DESKTOP or HS_BOTH */
     uint32_t agree;  /* 1 where the last session of both sides was with each other; 0: it wasn't, or nobody knows */
     uint32_t date;   /* of the session, in seconds since 1904: rows that are new on the desktop bear it */
 };
@@ -104,7 +104,8 @@ struct hs_how {
 enum {
     HS_SYNC = 0,     /* what changed on either side counts, and no change is lost */
     HS_HANDHELD = 1, /* the handheld's records are taken as they are */
-    HS_DESKTOP = 2   /* the desktop's */
+    HS_DESKTOP = 2,  /* the desktop's */
+    HS_BOTH = 3      /* the base is not looked at: what is live on either side stays, and nothing is deleted */
 };
 
 /* Where each file ends in the room, which begins with the handheld's. A file that is not there has no bytes. */
@@ -131,7 +132,7 @@ enum {
    four files again, they are what the next merge takes. All of them are written, or none: where the room is too small it
    stays as it was, and the answer and `ends` say how much is wanted. An answer below 0 leaves `ends` as it was. HS_FORM
    also where the files bear several names, where one of the desktop's holds resources, and where `action` is none of the
-   three. */
+   four. */
 int64_t hs_merge(const uint8_t *handheld, size_t handheld_len, const uint8_t *rows, size_t rows_len, const uint8_t *base,
                  size_t base_len, const uint8_t *archive, size_t archive_len, const struct hs_how *how, uint8_t *room,
                  size_t n, struct hs_ends *ends);

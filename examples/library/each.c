@@ -342,9 +342,11 @@ static void merges(void)
     merged("hs_merge of what was merged, both agreeing", &whole, how, &whole);
     how.action = HS_HANDHELD;
     merged("hs_merge by the handheld", &new, how, &whole);
+    how.action = HS_BOTH;
+    merged("hs_merge that keeps both", &whole, how, &whole);
 
     struct sides other = whole;
-    how.action = 3;
+    how.action = 4;
     unmerged("hs_merge by nobody", &whole, how, HS_FORM);
     how.action = HS_SYNC;
     other.rows = side_of(PRC);

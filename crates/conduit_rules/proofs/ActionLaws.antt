@@ -14,7 +14,7 @@ use Rattle.conduit_rules.proofs.ContentLaws.{same_content-same}
 use Rattle.std.proofs.lemmas.Grind.{common_steps}
 use Rattle.std.proofs.lemmas.Bool.Decides.{nat_tests}
 
-put_away_one : (i : ℕ) (o : Option ContentValue) → map (λ c. (i, c)) (option_to_list o) ≡ with_id i o
+pub put_away_one : (i : ℕ) (o : Option ContentValue) → map (λ c. (i, c)) (option_to_list o) ≡ with_id i o
 put_away_one i None = refl
 put_away_one i (Some c) = refl
 

@@ -1,15 +1,15 @@
 -- The pass that makes a plan: what it has below an id, one round more, and its end. And how many steps it takes.
 use Rattle.std.proofs.Common.{◌≡◌, ◌⊎◌, ⊎_elim, inl, inr, ℕ, ◌+◌, ◌-◌, ◌*◌, ◌^◌, ◌≤◌, ◌<◌, ◌==◌, List, refl, ap, ◌∙◌, sym, subst, arith, Option, Some}
-use Rattle.std.proofs.Common.{None, Bool, true, false, is_some, if◌then◌else◌, length, drop, take, nat_lt, not, ◌||◌, max, Bor, rules}
+use Rattle.std.proofs.Common.{None, Bool, true, false, is_some, if◌then◌else◌, length, drop, take, nat_lt, not, ◌&&◌, ◌||◌, max, Bor, rules}
 use Rattle.std.specs.List.{find}
 use Rattle.std.specs.Option.{option_map}
 use Rattle.std.proofs.lemmas.Bool.{cases_lt}
 use Rattle.std.proofs.lemmas.List.{length-drop}
 use Rattle.std.proofs.lemmas.Bool.Decides.{nat_tests}
 use Rattle.pdb_values.specs.declared.record.Record.{Record}
-use Rattle.conduit_rules.specs.Choices.{Sides, sides_of, fate_for, partner_for, partner_under, loose_for}
+use Rattle.conduit_rules.specs.Choices.{Sides, sides_of, fate_for, partner_for, partner_under, loose_for, offered_for, put_away_for}
 use Rattle.conduit_rules.specs.Drafts.{IsDraft, Grew}
-use Rattle.conduit_rules.specs.Fates.{fate_under}
+use Rattle.conduit_rules.specs.Fates.{fate_under, looks_at_base}
 use Rattle.conduit_rules.specs.Fronts.{seen_id, record_id, IsFront, NoneAhead, seen_in, row_in, base_in, is_loose_in}
 use Rattle.conduit_rules.specs.News.{loose, found_in, noted, live_contents, archived_records}
 use Rattle.conduit_rules.specs.Runs.{IsRunOf, front_under, IsFrom}
@@ -20,7 +20,7 @@ use Rattle.conduit_rules.specs.declared.draft.Draft.{Draft}
 use Rattle.conduit_rules.specs.declared.front.Front.{Front}
 use Rattle.conduit_rules.specs.declared.view.Seen.{Seen}
 use Rattle.conduit_rules.proofs.DraftLaws.{IsDraftBelow, IsQuiet, draft-next, draft-end, base_at-none, view_held-none, loose_counted}
-use Rattle.conduit_rules.proofs.LooseLaws.{is_loose_after}
+use Rattle.conduit_rules.proofs.LooseLaws.{based_by, is_loose_after, loose-by}
 use Rattle.conduit_rules.proofs.PassLaws.{IsAhead, ahead-start, ahead-pass, ahead-first, ahead-none, ahead-end, is_repeated, Repeats, repeats-start}
 use Rattle.conduit_rules.proofs.PassLaws.{repeats-pass, front-repeated, Slotted, slotted-start, slotted-pass, slotted-end}
 use Rattle.conduit_rules.proofs.RunLaws.{behind_front, drop-front}
@@ -34,7 +34,7 @@ pub record IsPass (a : Action) (view : List Seen) (rows base : List Record) (gon
   pub rows_ahead : IsAhead record_id rows n rs
   pub bases : IsAhead record_id base n bs
   pub repeats : Repeats rows n rs
-  pub slotted : Slotted (has_row base) rows rs slots
+  pub slotted : Slotted (based_by a (has_row base)) rows rs slots
 
 pub pass-start : (a : Action) (view : List Seen) (rows base : List Record) (gone_counts : Bool) (vs : List (ℕ × Seen)) (rs bs : List (ℕ × Record))
     (slots : List (Option Record)) (d : Draft)
@@ -69,12 +69,12 @@ front-some id i es o front some = grind (arith, common_steps, nat_tests, some_ma
 front-id : {A : Type 0} (id : A → ℕ) (i : ℕ) (es : List (ℕ × A)) (e : ℕ × A) → front_under id i es ≡ Some e → id e.1 ≡ i
 front-id id i es e front = grind (arith, common_steps, nat_tests)
 
--- whether the row in front is without a base row
-loose_says : (rows base : List Record) (n : ℕ) (rs bs : List (ℕ × Record)) (f : Front) (e : ℕ × Record) → IsAhead record_id base n bs → Repeats rows n rs
+-- whether the row in front counts by itself
+loose_says : (a : Action) (rows base : List Record) (n : ℕ) (rs bs : List (ℕ × Record)) (f : Front) (e : ℕ × Record) → IsAhead record_id base n bs → Repeats rows n rs
     → IsFrom record_id f.id bs
     → option_map (λ x. (x.0, x.1.now)) f.base ≡ front_under record_id f.id bs → front_under record_id f.id rs ≡ Some e
-    → is_loose_in n f ≡ is_loose_after (has_row base) (take e.0 rows) e.1.id
-loose_says rows base n rs bs f e ahead repeats least at_base front = go (cases_lt f.id n)
+    → is_loose_in a n f ≡ is_loose_after (based_by a (has_row base)) (take e.0 rows) e.1.id
+loose_says a rows base n rs bs f e ahead repeats least at_base front = go (cases_lt f.id n)
   where
     same_id : e.1.id ≡ f.id
     same_id = front-id record_id f.id rs e front
@@ -82,20 +82,20 @@ loose_says rows base n rs bs f e ahead repeats least at_base front = go (cases_l
     repeated : is_repeated rows e ≡ nat_lt f.id n
     repeated = front-repeated rows n f.id rs e repeats front
 
-    go : (f.id < n) ⊎ (n ≤ f.id) → is_loose_in n f ≡ is_loose_after (has_row base) (take e.0 rows) e.1.id
+    go : (f.id < n) ⊎ (n ≤ f.id) → is_loose_in a n f ≡ is_loose_after (based_by a (has_row base)) (take e.0 rows) e.1.id
     go (inl before) =
         let old : nat_lt f.id n ≡ true = grind (arith, nat_tests, before) in
-        ap (λ b. b || not (is_row (base_in false f))) old ∙ sym (ap (λ b. b || not (has_row base e.1.id)) (repeated ∙ old))
+        ap (λ b. b || not (looks_at_base a && is_row (base_in false f))) old ∙ sym (ap (λ b. b || not (based_by a (has_row base) e.1.id)) (repeated ∙ old))
     go (inr after) =
         let based : base_in false f ≡ base_at base false f.id = cc (in_front record_id base n f.id bs f.base ahead after least at_base) in
-        ap {A = Bool × Bool} (λ p. p.0 || not p.1) (λ k. (sym repeated k, (ap is_row based ∙ sym (ap (has_row base) same_id)) k))
+        ap {A = Bool × Bool} (λ p. p.0 || not (looks_at_base a && p.1)) (λ k. (sym repeated k, (ap is_row based ∙ sym (ap (has_row base) same_id)) k))
 
 -- one round more
 pub pass-next : (a : Action) (view : List Seen) (rows base : List Record) (gone_counts : Bool) (vs vs' : List (ℕ × Seen)) (rs bs rs' bs' : List (ℕ × Record))
     (slots slots' : List (Option Record)) (d e : Draft) (n m : ℕ) (f : Front)
     → IsPass a view rows base gone_counts vs rs bs slots d n → IsFront f vs rs bs → f.id < 2 ^ 24
     → (n ≤ f.id → Grew d e f.id (fate_under a (base_in gone_counts f) (seen_in f) (row_in f)) (seen_in f) (partner_under a (base_in gone_counts f) (seen_in f)))
-    → (f.id < n → e ≡ d) → slots' ≡ noted (option_map (λ x. (x.0, x.1.now)) f.row) (is_loose_in n f) slots
+    → (f.id < n → e ≡ d) → slots' ≡ noted (option_map (λ x. (x.0, x.1.now)) f.row) (is_loose_in a n f) slots
     → vs' ≡ drop (if is_some f.seen then 1 else 0) vs → rs' ≡ drop (if is_some f.row then 1 else 0) rs → bs' ≡ drop (if is_some f.base then 1 else 0) bs
     → m ≡ max n (f.id + 1)
     → IsPass a view rows base gone_counts vs' rs' bs' slots' e m
@@ -105,10 +105,10 @@ pass-next a view rows base gone_counts vs vs' rs bs rs' bs' slots slots' d e n m
   rows_ahead = rw rows_left (ahead-pass record_id rows n m f.id rs was.rows_ahead more passed);
   bases = rw (left record_id f.id bs bs' f.base front.base bs_are) (ahead-pass record_id base n m f.id bs was.bases more passed);
   repeats = rw rows_left (repeats-pass rows n m f.id rs was.repeats was.rows_ahead.rising front.least_row more passed reach);
-  slotted = subst {A = List (ℕ × Record) × List (Option Record)} (λ p. Slotted (has_row base) rows p.0 p.1)
-      (λ k. (sym rows_left k, sym (slots_are ∙ ap (λ o. noted o (is_loose_in n f) slots) front.row) k))
-      (slotted-pass (has_row base) rows f.id rs slots (is_loose_in n f) was.slotted
-      (λ x at. loose_says rows base n rs bs f x was.bases was.repeats front.least_base front.base at));
+  slotted = subst {A = List (ℕ × Record) × List (Option Record)} (λ p. Slotted (based_by a (has_row base)) rows p.0 p.1)
+      (λ k. (sym rows_left k, sym (slots_are ∙ ap (λ o. noted o (is_loose_in a n f) slots) front.row) k))
+      (slotted-pass (based_by a (has_row base)) rows f.id rs slots (is_loose_in a n f) was.slotted
+      (λ x at. loose_says a rows base n rs bs f x was.bases was.repeats front.least_base front.base at));
 }
   where
     more : n ≤ m
@@ -152,11 +152,11 @@ pass-next a view rows base gone_counts vs vs' rs bs rs' bs' slots slots' d e n m
 -- nothing is ahead
 pub pass-end : (a : Action) (view : List Seen) (rows base : List Record) (gone_counts : Bool) (vs : List (ℕ × Seen)) (rs bs : List (ℕ × Record))
     (slots counted : List (Option Record)) (d : Draft) (n : ℕ)
-    → IsPass a view rows base gone_counts vs rs bs slots d n → NoneAhead vs rs bs → counted ≡ loose_for a slots
-    → IsDraft a (sides_of view rows base gone_counts) d × (live_contents (found_in counted) ≡ loose_for a (sides_of view rows base gone_counts).loose_live)
-    × (archived_records (found_in counted) ≡ loose_for a (sides_of view rows base gone_counts).loose_archived)
+    → IsPass a view rows base gone_counts vs rs bs slots d n → NoneAhead vs rs bs → counted ≡ loose_for a slots slots
+    → IsDraft a (sides_of view rows base gone_counts) d × (live_contents (found_in counted) ≡ offered_for a (sides_of view rows base gone_counts))
+    × (archived_records (found_in counted) ≡ put_away_for a (sides_of view rows base gone_counts))
 pass-end a view rows base gone_counts vs rs bs slots counted d n was none counted_is =
-    let found : found_in slots ≡ loose (has_row base) rows = slotted-end (has_row base) rows rs slots was.slotted none.1 in
+    let found : found_in slots ≡ loose (based_by a (has_row base)) rows = slotted-end (based_by a (has_row base)) rows rs slots was.slotted none.1 in
     let both = loose_counted a slots counted counted_is in (
       draft-end a (sides_of view rows base gone_counts) d n was.draft
           (λ j from. (
@@ -164,8 +164,8 @@ pass-end a view rows base gone_counts vs rs bs slots counted d n was none counte
             view_held-none view j
                 (ahead-end seen_id view n j vs was.views none.0 from),
           )),
-      both.0 ∙ ap (λ xs. loose_for a (live_contents xs)) found,
-      both.1 ∙ ap (λ xs. loose_for a (archived_records xs)) found,
+      both.0 ∙ loose-by a live_contents (has_row base) rows (found_in slots) found,
+      both.1 ∙ loose-by a archived_records (has_row base) rows (found_in slots) found,
     )
 
 abbrev pub one_if : Bool → ℕ

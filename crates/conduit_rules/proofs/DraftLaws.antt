@@ -119,11 +119,12 @@ pub draft-start : (a : Action) (s : Sides) (d : Draft) → d.kept.items ≡ [] �
 draft-start a s d kept replace archive gone purge partners news = search (rules, each_below-zero)
 
 -- the rows that count where they are without a base row
-pub loose_counted : (a : Action) (slots counted : List (Option Record)) → counted ≡ loose_for a slots
-    → (live_contents (found_in counted) ≡ loose_for a (live_contents (found_in slots))) ×
-    (archived_records (found_in counted) ≡ loose_for a (archived_records (found_in slots)))
+pub loose_counted : (a : Action) (slots counted : List (Option Record)) → counted ≡ loose_for a slots slots
+    → (live_contents (found_in counted) ≡ loose_for a (live_contents (found_in slots)) (live_contents (found_in slots))) ×
+    (archived_records (found_in counted) ≡ loose_for a (archived_records (found_in slots)) (archived_records (found_in slots)))
 loose_counted a slots counted is = grind (arith, common_steps, nat_tests)
 
-pub map-loose_for : {A B : Type 0} (a : Action) (f : A → B) (xs counted : List A) → counted ≡ loose_for a xs → map f counted ≡ loose_for a (map f xs)
+pub map-loose_for : {A B : Type 0} (a : Action) (f : A → B) (xs counted : List A) → counted ≡ loose_for a xs xs
+    → map f counted ≡ loose_for a (map f xs) (map f xs)
 map-loose_for Sync f xs counted is = cc
 map-loose_for a f xs counted is = cc

@@ -1,5 +1,6 @@
 pub mod ActionLaws
 pub mod AgreedLaws
+pub mod BothLaws
 pub mod BoundLaws
 pub mod BucketLaws
 pub mod ByIdLaws

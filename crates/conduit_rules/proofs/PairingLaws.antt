@@ -1,5 +1,5 @@
 -- Pairing by counts: of each content the greater of the two counts is kept.
-use Rattle.std.proofs.Common.{◌≡◌, ◌≢◌, ℕ, ◌+◌, ◌-◌, List, [], ◌∷◌, max, arith}
+use Rattle.std.proofs.Common.{◌≡◌, ◌≢◌, ◌≤◌, ℕ, ◌+◌, ◌-◌, List, [], ◌∷◌, refl, max, arith}
 use Rattle.std.proofs.lemmas.Grind.{common_steps}
 use Rattle.pdb_values.specs.Contents.{ContentValue}
 use Rattle.conduit_rules.specs.Contents.{count_of}
@@ -19,6 +19,18 @@ count-unpaired c free (x ∷ xs) = grind (
   count-unpaired c free xs,
   count-unpaired c (less_one free x) xs,
 )
+
+first_counted : (x : ContentValue) (xs : List ContentValue) → count_of x (x ∷ xs) ≢ 0
+first_counted x xs = grind (arith, common_steps, same_content-same x)
+
+none_left : (xs : List ContentValue) → ((c : ContentValue) → count_of c xs ≡ 0) → xs ≡ []
+none_left [] none = refl
+none_left (x ∷ xs) none = absurd (first_counted x xs (none x))
+
+-- where the handheld has each of them as often, all are paired
+pub unpaired-none : (mates news : List ContentValue) → ((c : ContentValue) → count_of c news ≤ count_of c mates) → unpaired (λ x. count_of x mates) news ≡ []
+unpaired-none mates news fewer =
+    none_left (unpaired (λ x. count_of x mates) news) (λ c. let few = fewer c in omega (arith, count-unpaired c (λ x. count_of x mates) news, few))
 
 -- the new records of the handheld and the adds together have each content as often as the side that has it more often
 pub greater_kept : (c : ContentValue) (mates news : List ContentValue)

@@ -9,7 +9,7 @@ use Rattle.conduit_rules.specs.Fates.{cell, fate_under, gone_cell}
 use Rattle.conduit_rules.specs.Plans.{kept_rows}
 use Rattle.conduit_rules.specs.States.{BaseState, SideState, gone, no_base, row}
 use Rattle.conduit_rules.specs.declared.action.Action.{Action}
-use Rattle.conduit_rules.specs.declared.action.Action.TheVariants.{Sync, Handheld, Desktop}
+use Rattle.conduit_rules.specs.declared.action.Action.TheVariants.{Sync, Handheld, Desktop, Both}
 use Rattle.conduit_rules.proofs.ByIdLaws.{each_below-suc, each_below-zero}
 
 -- a list by id is no longer than one that is so under each id
@@ -38,6 +38,7 @@ news_few Handheld b h d i = omega arith
 news_few Desktop (row b) h d i = omega arith
 news_few Desktop (gone b) h d i = omega arith
 news_few Desktop no_base h d i = omega arith
+news_few Both b h d i = omega arith
 
 -- each of them keeps its row
 pub length-kept_twice : (a : Action) (s : Sides) → length (kept_twice a s) ≤ length (kept_rows (choice_for a s).keep)

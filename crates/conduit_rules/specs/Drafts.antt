@@ -5,7 +5,7 @@ use Rattle.std.specs.Prelude.{◌≡◌, ℕ, ◌++◌, List, Option, option_to_
 use Rattle.pdb_values.specs.Contents.{ContentValue}
 use Rattle.pdb_values.specs.declared.record.Record.{Record}
 use Rattle.conduit_rules.specs.ById.{each_id, with_id}
-use Rattle.conduit_rules.specs.Choices.{Sides, fate_for, choice_for, loose_for, partners_for, partner_under}
+use Rattle.conduit_rules.specs.Choices.{Sides, fate_for, choice_for, offered_for, put_away_for, partners_for, partner_under}
 use Rattle.conduit_rules.specs.Fates.{Fate, fate_under}
 use Rattle.conduit_rules.specs.News.{live_contents, archived_records}
 use Rattle.conduit_rules.specs.Plans.{kept_rows, replaced_rows, gone_rows, purged_ids, replacement, lost, purged_at}
@@ -41,9 +41,8 @@ abbrev pub GrewUnder : Draft → Draft → ℕ → Action → BaseState → Side
 GrewUnder old new i a base handheld desktop =
     Grew old new i (fate_under a base handheld desktop) handheld (partner_under a base handheld)
 
--- a fact that holds where these rows are those of a database without a base row, as far as an
--- action counts them
+-- a fact that holds where these rows are those of a database that an action counts by themselves
 abbrev pub IfLoose : Action → Sides → List Record → Type 0 → Type 0
 IfLoose a s rows P =
-    live_contents rows ≡ loose_for a s.loose_live
-    → archived_records rows ≡ loose_for a s.loose_archived → P
+    live_contents rows ≡ offered_for a s
+    → archived_records rows ≡ put_away_for a s → P

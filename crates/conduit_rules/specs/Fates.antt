@@ -6,7 +6,7 @@ use Rattle.conduit_rules.specs.Contents.{same_content}
 use Rattle.conduit_rules.specs.Table.{decision}
 use Rattle.conduit_rules.specs.States.{SideState, nothing, live_of, archived_of, content_of, BaseState, no_base, row, gone, state, equal_contents}
 use Rattle.conduit_rules.specs.declared.action.Action.{Action}
-use Rattle.conduit_rules.specs.declared.action.Action.TheVariants.{Sync, Handheld, Desktop}
+use Rattle.conduit_rules.specs.declared.action.Action.TheVariants.{Sync, Handheld, Desktop, Both}
 use Rattle.conduit_rules.specs.declared.table.Side.TheVariants.{Gone}
 use Rattle.conduit_rules.specs.declared.table.Keep.{Keep}
 use Rattle.conduit_rules.specs.declared.table.Keep.TheVariants.{None as KeepNone, Base as KeepBase, Handheld as KeepHandheld, Desktop as KeepDesktop}
@@ -79,12 +79,20 @@ desktop_fate no_base d = no_fate
 desktop_fate (row b) d = unbased d
 desktop_fate (gone b) d = no_fate
 
--- what becomes of an id by the action: by the table, by the handheld's record alone, or by the
--- desktop's row alone
+-- what becomes of an id by the action: by the table, by the handheld's record alone, by the
+-- desktop's row alone, or by the table without a base row
 abbrev pub fate_under : Action → BaseState → SideState → SideState → Fate
 fate_under Sync b h d = fate b h d
 fate_under Handheld b h d = unbased h
 fate_under Desktop b h d = desktop_fate b d
+fate_under Both b h d = fate no_base h d
+
+-- an action looks at the base
+abbrev pub looks_at_base : Action → Bool
+looks_at_base Sync = true
+looks_at_base Handheld = true
+looks_at_base Desktop = true
+looks_at_base Both = false
 
 -- the contents that a fate names
 abbrev pub named : Fate → List ContentValue

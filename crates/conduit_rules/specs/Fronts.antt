@@ -1,10 +1,12 @@
 -- The least id that three lists have in front, and what they have under it.
-use Rattle.std.specs.Prelude.{◌≡◌, ℕ, ◌||◌, List, [], Bool, true, false, not, if◌then◌else◌, nat_lt, Option, Some, None, is_some}
+use Rattle.std.specs.Prelude.{◌≡◌, ℕ, ◌&&◌, ◌||◌, List, [], Bool, true, false, not, if◌then◌else◌, nat_lt, Option, Some, None, is_some}
 use Rattle.std.specs.Option.{option_map}
 use Rattle.pdb_values.specs.declared.record.Record.{Record}
+use Rattle.conduit_rules.specs.Fates.{looks_at_base}
 use Rattle.conduit_rules.specs.Runs.{front_under, IsFrom}
 use Rattle.conduit_rules.specs.States.{SideState, held_where, BaseState, based_under, is_row}
 use Rattle.conduit_rules.specs.Views.{seen_where}
+use Rattle.conduit_rules.specs.declared.action.Action.{Action}
 use Rattle.conduit_rules.specs.declared.front.Front.{Front}
 use Rattle.conduit_rules.specs.declared.view.Seen.{Seen}
 
@@ -50,6 +52,7 @@ row_in f = held_where (option_map (λ e. e.1.now) f.row)
 abbrev pub base_in : Bool → Front → BaseState
 base_in gone_counts f = based_under gone_counts f.id (option_map (λ e. e.1.now) f.base)
 
--- whether the row in front is without a base row: its id came before, or the base has none
-abbrev pub is_loose_in : ℕ → Front → Bool
-is_loose_in next f = nat_lt f.id next || not (is_row (base_in false f))
+-- whether the row in front counts by itself: its id came before, the base has none, or isn't looked
+-- at
+abbrev pub is_loose_in : Action → ℕ → Front → Bool
+is_loose_in a next f = nat_lt f.id next || not (looks_at_base a && is_row (base_in false f))

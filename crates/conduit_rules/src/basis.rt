@@ -1,9 +1,11 @@
 // What the base has under an id.
-ghost use Rattle.std.specs.Prelude.{◌≡◌, ◌||◌, not, false, nat_lt};
+ghost use Rattle.std.specs.Prelude.{◌≡◌, ◌&&◌, ◌||◌, not, false, nat_lt};
 ghost use Rattle.conduit_rules.specs.Borrowed.{based_of};
+ghost use Rattle.conduit_rules.specs.Fates.{looks_at_base};
 ghost use Rattle.conduit_rules.specs.States.{based_under, is_row};
 ghost use Rattle.std.specs.Option.{option_map};
 
+use crate::action::Action;
 use pdb_values::{Content, Record, RecordId};
 
 #[derive(Clone, Copy)]
@@ -40,10 +42,10 @@ impl<'a> Basis<'a> {
     }
 }
 
-// Whether a row in front is without a base row: its id came before, or the base has none.
-pub fn is_loose(id: RecordId, base: Option<(usize, &Record)>, next: u32) -> bool
+// Whether a row in front counts by itself: its id came before, the base has none, or isn't looked at.
+pub fn is_loose(action: Action, id: RecordId, base: Option<(usize, &Record)>, next: u32) -> bool
     ensures { let basis = based_under false id (option_map (λ e. e.1.now) base.entry) in
-        result ≡ (nat_lt id next || not (is_row basis)) }
+        result ≡ (nat_lt id next || not (looks_at_base action && is_row basis)) }
 {
-    id.number() < next || !Basis::in_front(id, base, false).is_row()
+    id.number() < next || !(action.looks_at_base() && Basis::in_front(id, base, false).is_row())
 }

@@ -1,4 +1,4 @@
-// Rows of the desktop without a base row: each stands at the place that it has among the rows.
+// Rows of the desktop that count by themselves: each stands at the place that it has among the rows.
 ghost use Rattle.std.specs.Prelude.{◌≡◌, ◌++◌, ◌<◌, length, map, IfOk, OnOk};
 ghost use Rattle.std.specs.Option.{option_copied, option_map, ForSome};
 ghost use Rattle.conduit_rules.specs.Choices.{loose_for};
@@ -21,7 +21,7 @@ pub fn empty_slots<'a>(alloc: Global, count: usize) -> Result<Vec<Option<&'a Rec
     Ok(slots)
 }
 
-// A row goes to its place, where it is without a base row.
+// A row goes to its place, where it counts by itself.
 pub fn note_row<'a>(
     slots: &mut Vec<Option<&'a Record>>,
     row: Option<(usize, &'a Record)>,
@@ -40,10 +40,10 @@ pub fn note_row<'a>(
 
 // The places whose rows count.
 pub fn counted<'s, 'a>(action: Action, slots: &'s [Option<&'a Record>]) -> &'s [Option<&'a Record>]
-    ensures { result.now ≡ loose_for action slots.now }
+    ensures { result.now ≡ loose_for action slots.now slots.now }
 {
     match action {
-        Action::Sync | Action::Desktop => slots,
+        Action::Sync | Action::Desktop | Action::Both => slots,
         Action::Handheld => &[],
     }
 }

@@ -25,7 +25,8 @@ use std::sync::ledger::{Blank, Ledger};
 /// With `Sync` the table and the pairing of new records decide, and no change is lost. With `Handheld` the desktop's
 /// rows are not looked at: each live record is kept and each archived one archived. With `Desktop` a row of an id
 /// that has a base row is kept or archived under that id, other live rows are added, other archived ones archived
-/// under id 0, and nothing of the handheld stays besides.
+/// under id 0, and nothing of the handheld stays besides. With `Both` the base is not looked at: each live record is
+/// kept and each archived one archived, and the desktop's rows are paired with the records as new ones are with `Sync`.
 ///
 /// A base row with the delete bit is a gone row, and is as if it were not there unless `gone_counts`. Base rows of
 /// id 0 or of an id that came earlier don't count. Of the desktop's rows with one id the first is the row of that
@@ -82,7 +83,7 @@ pub fn plan_counted<'a, L: Ledger>(
         let handheld = Holding::seen_in(seen);
         let desktop = Holding::row_in(row);
         draft.decide(alloc, action, id, next, basis, handheld, desktop)?;
-        note_row(&mut slots, row, is_loose(id, old, next));
+        note_row(&mut slots, row, is_loose(action, id, old, next));
         view.pass(seen.is_some(), steps);
         rows.pass(row.is_some(), steps);
         base.pass(old.is_some(), steps);

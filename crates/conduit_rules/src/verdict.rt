@@ -35,7 +35,7 @@ impl<'a> Verdict<'a> {
     {
         match action {
             Action::Sync => Verdict::of_both(basis, handheld, desktop),
-            Action::Handheld => Verdict::without_base(handheld),
+            Action::Handheld | Action::Both => Verdict::without_base(handheld),
             Action::Desktop => Verdict::of_desktop(basis, desktop),
         }
     }
@@ -171,7 +171,8 @@ impl<'a> Verdict<'a> {
     }
 }
 
-// A new record of the handheld that is to be paired: where both sides are gone by, a live one without a base row.
+// A new record of the handheld that is to be paired: where both sides are gone by, a live one without a base row,
+// or any live one where the base isn't looked at.
 pub fn partner_of<'a>(
     action: Action,
     basis: Basis<'_>,
@@ -181,7 +182,7 @@ pub fn partner_of<'a>(
         (held_of handheld.entry) }
 {
     match (action, basis) {
-        (Action::Sync, Basis::Nothing) => handheld.live(),
+        (Action::Sync, Basis::Nothing) | (Action::Both, _) => handheld.live(),
         _ => None,
     }
 }

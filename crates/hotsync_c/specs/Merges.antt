@@ -3,7 +3,7 @@ use Rattle.std.specs.Prelude.{◌≡◌, ◌≢◌, ◌⊎◌, ⊤, ℕ, ◌+◌
 use Rattle.std.specs.Option.{option_map, option_or}
 use Rattle.std.specs.Str.{bytes_eq}
 use Rattle.conduit_rules.specs.declared.action.Action.{Action}
-use Rattle.conduit_rules.specs.declared.action.Action.TheVariants.{Sync, Handheld, Desktop}
+use Rattle.conduit_rules.specs.declared.action.Action.TheVariants.{Sync, Handheld, Desktop, Both}
 use Rattle.database_merge.specs.Faults.{Refuses}
 use Rattle.database_merge.specs.Merges.{IsMerged}
 use Rattle.database_merge.specs.Seeing.{opened}
@@ -29,7 +29,8 @@ use Rattle.hotsync_c.specs.declared.merge_refusal.MergeRefusal.TheVariants.{Form
 abbrev pub action_of : ℕ → Option Action
 action_of number =
     if number == 0 then Some Sync
-    else (if number == 1 then Some Handheld else (if number == 2 then Some Desktop else None))
+    else (if number == 1 then Some Handheld
+    else (if number == 2 then Some Desktop else (if number == 3 then Some Both else None)))
 
 abbrev pub wishes_of : HsHow → Option MergeWishes
 wishes_of how =

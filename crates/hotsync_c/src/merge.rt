@@ -133,6 +133,7 @@ fn action_of(number: u32) -> Option<Action>
         0 => Some(Action::Sync),
         1 => Some(Action::Handheld),
         2 => Some(Action::Desktop),
+        3 => Some(Action::Both),
         _ => None,
     }
 }

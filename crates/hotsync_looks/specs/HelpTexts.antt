@@ -7,7 +7,7 @@ use Rattle.run_words.specs.declared.topic.Topic.{Topic}
 use Rattle.run_words.specs.declared.topic.Topic.TheVariants.{Program, Version, Of}
 use Rattle.cmd_status.specs.Lines.{line_feed}
 use Rattle.hotsync_looks.specs.declared.help_text.OptionLine.{OptionLine}
-use Rattle.hotsync_looks.specs.declared.help_text.OptionLine.TheVariants.{Date, DateNow, Script, Trace, Input, Output, Port, Slow, Actions, Only, AddUser, DryRun, AsText, AsCards, AsTable, AsCalendar, WithoutPrivate, KeepBroken, Records}
+use Rattle.hotsync_looks.specs.declared.help_text.OptionLine.TheVariants.{Date, DateNow, Script, Trace, Input, Output, Port, Slow, Actions, ActionsBoth, Only, AddUser, DryRun, AsText, AsCards, AsTable, AsCalendar, WithoutPrivate, KeepBroken, Records}
 
 -- the commands, in the order in which help tells them
 abbrev pub commands : List CommandWord
@@ -42,7 +42,7 @@ synopsis Make = codes "hotsync make SEED N"
 -- the options of a command
 abbrev pub options : CommandWord → List OptionLine
 options Run =
-    Date ∷ DateNow ∷ Script ∷ Trace ∷ Only ∷ Slow ∷ Actions ∷ AddUser ∷ DryRun ∷ []
+    Date ∷ DateNow ∷ Script ∷ Trace ∷ Only ∷ Slow ∷ Actions ∷ ActionsBoth ∷ AddUser ∷ DryRun ∷ []
 options Check = []
 options Show = Records ∷ []
 options Export = AsText ∷ AsCards ∷ AsTable ∷ AsCalendar ∷ WithoutPrivate ∷ KeepBroken ∷ []
@@ -55,7 +55,7 @@ options Backup = Script ∷ Trace ∷ []
 options Restore = Script ∷ Trace ∷ []
 options Device = Input ∷ Output ∷ Port ∷ Trace ∷ []
 options Categories = Script ∷ Trace ∷ []
-options Sync = Date ∷ DateNow ∷ Only ∷ Trace ∷ Slow ∷ Actions ∷ AddUser ∷ []
+options Sync = Date ∷ DateNow ∷ Only ∷ Trace ∷ Slow ∷ Actions ∷ ActionsBoth ∷ AddUser ∷ []
 options Make = []
 
 -- what is said of an option
@@ -69,6 +69,8 @@ option_words Output = codes "--out=F            the file F for the bytes that it
 option_words Port = codes "--port=PORT        the port at which device stands"
 option_words Slow = codes "--slow             reads every record of the handheld"
 option_words Actions = codes "--actions=L        what is done with single databases"
+option_words ActionsBoth =
+    codes "--actions=*:both   keeps what is live on either side, as if they had never met"
 option_words Only = codes "--only=L           the databases that are touched"
 option_words AddUser =
     codes "--add-user         where the handheld's user is unknown to the desktop, a place of its "

@@ -49,6 +49,8 @@ pub enum OptionLine {
     Slow,
     /// `--actions=L`.
     Actions,
+    /// `--actions=*:both`.
+    ActionsBoth,
     /// `--only=L`.
     Only,
     /// `--add-user`.
@@ -115,6 +117,7 @@ fn options(command: CommandWord) -> &'static [OptionLine]
             OptionLine::Only,
             OptionLine::Slow,
             OptionLine::Actions,
+            OptionLine::ActionsBoth,
             OptionLine::AddUser,
             OptionLine::DryRun,
         ],
@@ -149,6 +152,7 @@ fn options(command: CommandWord) -> &'static [OptionLine]
             OptionLine::Trace,
             OptionLine::Slow,
             OptionLine::Actions,
+            OptionLine::ActionsBoth,
             OptionLine::AddUser,
         ],
         CommandWord::Make => &[],
@@ -169,6 +173,9 @@ fn option_words(option: OptionLine) -> &'static str
         OptionLine::Port => "--port=PORT        the port at which device stands",
         OptionLine::Slow => "--slow             reads every record of the handheld",
         OptionLine::Actions => "--actions=L        what is done with single databases",
+        OptionLine::ActionsBoth => {
+            "--actions=*:both   keeps what is live on either side, as if they had never met"
+        }
         OptionLine::Only => "--only=L           the databases that are touched",
         OptionLine::AddUser => {
             "--add-user         where the handheld's user is unknown to the desktop, a place of its own is made"

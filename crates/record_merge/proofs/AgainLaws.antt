@@ -1,18 +1,18 @@
 -- A database that was merged is merged again to the same, whichever side it goes by.
-use Rattle.std.proofs.Common.{◌≡◌, ℕ, ◌==◌, List, [], ◌++◌, refl, ap, ◌∙◌, sym, subst, arith, Option, Some, None, Bool, map, option_to_list}
+use Rattle.std.proofs.Common.{◌≡◌, ℕ, ◌==◌, List, [], ◌++◌, refl, ap, ◌∙◌, sym, subst, arith, Option, Some, None, Bool, map, option_to_list, append-nil}
 use Rattle.pdb_values.specs.Contents.{ContentValue}
 use Rattle.pdb_values.specs.declared.record.Record.{Record}
 use Rattle.palm_device.specs.Soundness.{ids_of, AreIds}
 use Rattle.conduit_rules.specs.ById.{id_bound, at}
-use Rattle.conduit_rules.specs.Choices.{Choice, Sides, sides_of, choice_for, fate_for, partners_for, loose_for}
+use Rattle.conduit_rules.specs.Choices.{Choice, Sides, sides_of, choice_for, fate_for, offered_for, partners_for, put_away_for}
 use Rattle.conduit_rules.specs.Contents.{count_of}
 use Rattle.conduit_rules.specs.Fates.{Fate, fate_under}
 use Rattle.conduit_rules.specs.News.{unpaired, live_contents, archived_records}
 use Rattle.conduit_rules.specs.Plans.{gone_rows, replaced_rows}
-use Rattle.conduit_rules.specs.States.{SideState, nothing, held, held_where, BaseState, no_base, base_at}
+use Rattle.conduit_rules.specs.States.{SideState, nothing, held, held_where, live_of, BaseState, no_base, base_at}
 use Rattle.conduit_rules.specs.Views.{view_held, slow_view}
 use Rattle.conduit_rules.specs.declared.action.Action.{Action}
-use Rattle.conduit_rules.specs.declared.action.Action.TheVariants.{Sync, Handheld, Desktop}
+use Rattle.conduit_rules.specs.declared.action.Action.TheVariants.{Sync, Handheld, Desktop, Both}
 use Rattle.conduit_rules.specs.declared.view.Seen.{Seen}
 use Rattle.conduit_rules.proofs.AgreedLaws.{RowsDiffer}
 use Rattle.conduit_rules.proofs.BoundLaws.{live_or}
@@ -20,6 +20,7 @@ use Rattle.conduit_rules.proofs.ByIdLaws.{each_below-none}
 use Rattle.conduit_rules.proofs.SettledLaws.{IsSettled, fate-settled, only}
 use Rattle.record_merge.specs.Merging.{row_under, merged_rows, merged_base, AreBounded}
 use Rattle.record_merge.specs.Writes.{after, numbered, replaces, whole, AreFree, GotFreeIds}
+use Rattle.record_merge.proofs.BaselessLaws.{live-live_or, none_archived, rows_paired}
 use Rattle.record_merge.proofs.BoundLaws.{bounded-after}
 use Rattle.record_merge.proofs.HeldLaws.{held-merged, held-rows, at-bounded}
 use Rattle.record_merge.proofs.PutLaws.{differ-ids}
@@ -37,22 +38,38 @@ fate-merged : (a : Action) (k : Option ContentValue) (b : BaseState) {h : SideSt
 fate-merged Sync k b {h} d is shown = fate-settled k b h d is
 fate-merged Handheld k b d is shown = by_handheld k b d shown
 fate-merged Desktop k b {h} d is shown = by_desktop k b h d is
+fate-merged Both k b d is shown = by_handheld k b d shown
 
-none_for : {A : Type 0} (a : Action) {xs : List A} → xs ≡ [] → loose_for a xs ≡ []
-none_for a is = grind arith
+-- each new record of the desktop has its partner
+abbrev IsPaired : Action → Sides → Type 0
+IsPaired a t = unpaired (λ c. count_of c (partners_for a t)) (offered_for a t) ≡ []
 
-settled_choice : (a : Action) (t : Sides) (keep : ℕ → Option ContentValue) → ((i : ℕ) → fate_for a t i ≡ only (keep i)) → t.loose_live ≡ []
-    → t.loose_archived ≡ []
+paired_for : (a : Action) (t : Sides) → t.loose_live ≡ [] → IsPaired Both t → IsPaired a t
+paired_for Sync t none paired = ap (unpaired (λ c. count_of c (partners_for Sync t))) none
+paired_for Handheld t none paired = refl
+paired_for Desktop t none paired = ap (unpaired (λ c. count_of c (partners_for Desktop t))) none
+paired_for Both t none paired = paired
+
+none_for : (a : Action) (t : Sides) → t.loose_archived ≡ [] → t.all_archived ≡ [] → put_away_for a t ≡ []
+none_for Sync t none all = none
+none_for Handheld t none all = refl
+none_for Desktop t none all = none
+none_for Both t none all = all
+
+settled_choice : (a : Action) (t : Sides) (keep : ℕ → Option ContentValue) → ((i : ℕ) → fate_for a t i ≡ only (keep i)) → IsPaired a t
+    → put_away_for a t ≡ []
     → choice_for a t ≡ record { keep = keep; archive = []; adds = [] }
-settled_choice a t keep fates no_live no_archived =
+settled_choice a t keep fates paired archived_none =
     let news = each_below-none (λ i. option_to_list (fate_for a t i).news) id_bound (λ i. ap (λ f. option_to_list (Fate.news f)) (fates i)) in
     let put_away = each_below-none (λ i. map (λ c. (i, c)) (fate_for a t i).archive) id_bound (λ i. ap (λ f. map (λ c. (i, c)) (Fate.archive f)) (fates i)) in
-    let live_none = none_for a no_live in
-    let archived_none = none_for a no_archived in
+    let adds : (choice_for a t).adds ≡ [] =
+    ap (λ xs. unpaired (λ c. count_of c (partners_for a t)) (offered_for a t ++ xs)) news
+    ∙ ap (unpaired (λ c. count_of c (partners_for a t))) (append-nil (offered_for a t))
+    ∙ paired in
     λ k. record {
       keep = λ i. (fates i k).keep;
       archive = map (λ c. (0, c)) (archived_none k) ++ put_away k;
-      adds = unpaired (λ c. count_of c (partners_for a t)) (live_none k ++ news k);
+      adds = adds k;
     }
 
 -- whatever was chosen, by whichever side: once it is merged, each action chooses the rows again, and archives and adds nothing
@@ -68,7 +85,9 @@ choice-merged_for a ch h given records view gone_counts differ bounded shows fre
     (λ i. fate-merged a (row_under ch given i) (base_at (merged_base ch h given) gone_counts i) (held (merged_rows ch given) i)
     (subst (λ b. IsSettled (row_under ch given i) b (view_held view i) (held (merged_rows ch given) i)) (sym (based-merged ch h given gone_counts i))
     (settled_by (i == 0) gone_counts (row_under ch given i) (at i (gone_rows ch.keep h)) (at_zero ch given i none) (shown i) (held-rows ch given i)))
-    (shown i)) (ap live_contents (none_loose ch h given none)) (ap archived_records (none_loose ch h given none))
+    (shown i))
+    (paired_for a t (ap live_contents (none_loose ch h given none)) (rows_paired ch given t (λ i. ap live_of (shown i) ∙ live-live_or (row_under ch given i)) refl))
+    (none_for a t (ap archived_records (none_loose ch h given none)) (none_archived ch given))
 
 -- ---- no row under id 0
 

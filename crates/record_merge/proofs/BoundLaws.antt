@@ -1,12 +1,12 @@
 -- Ids stay below the bound over a session.
-use Rattle.std.proofs.Common.{◌≡◌, ℕ, suc, ◌≤◌, ◌^◌, List, [], ◌∷◌, ◌++◌, ap, ◌∙◌, sym, subst, arith, true, Bool, not, map, filter, nat_lt}
+use Rattle.std.proofs.Common.{◌≡◌, ℕ, suc, ◌≤◌, ◌^◌, List, [], ◌∷◌, ◌++◌, refl, ap, ◌∙◌, sym, subst, arith, true, Bool, None, not, map, filter, nat_lt}
 use Rattle.std.proofs.lemmas.Bool.Decides.{nat_tests}
 use Rattle.pdb_values.specs.Contents.{ContentValue}
 use Rattle.pdb_values.specs.Records.{is_live}
 use Rattle.pdb_values.specs.declared.record.Record.{Record}
 use Rattle.palm_device.specs.Records.{put_record, clean}
 use Rattle.conduit_rules.specs.ById.{id_bound}
-use Rattle.conduit_rules.specs.States.{SideState}
+use Rattle.conduit_rules.specs.States.{SideState, first}
 use Rattle.conduit_rules.specs.Choices.{Choice}
 use Rattle.conduit_rules.specs.Plans.{replaced_rows, purged_ids}
 use Rattle.conduit_rules.proofs.ByIdLaws.{id_bound-is}
@@ -16,7 +16,7 @@ use Rattle.conduit_rules.proofs.AgreedLaws.{RowsDiffer}
 use Rattle.record_merge.specs.Writes.{after, numbered, replaces, adding, giving, clearing, AreFree}
 use Rattle.record_merge.specs.Merging.{AreBounded}
 use Rattle.record_merge.proofs.PutLaws.{put_all, put_record-nil, put_record-cons}
-use Rattle.record_merge.proofs.AfterLaws.{finished, after-append, after-replaces, after-adding_all, after-clearing, differ-put_all}
+use Rattle.record_merge.proofs.AfterLaws.{finished, after-append, after-replaces, after-adding_all, after-clearing, differ-filter, differ-put_all}
 use Rattle.conduit_rules.proofs.RisingLaws.{rising_end}
 
 pub bounded-put : (i : ℕ) (c : ContentValue) (records : List Record) → nat_lt i id_bound ≡ true → AreBounded records → AreBounded (put_record i c records)
@@ -54,6 +54,38 @@ pub bounded-clean : (records : List Record) → AreBounded records → AreBounde
 bounded-clean [] bounded = tt
 bounded-clean (r ∷ records) bounded = (bounded.0, bounded-clean records bounded.1)
 
+first-clean : (records : List Record) (j : ℕ) → first j records ≡ None → first j (map clean records) ≡ None
+first-clean [] j none = refl
+first-clean (r ∷ records) j none = grind (arith, none, first-clean records j)
+
+pub differ-clean : (records : List Record) → RowsDiffer records → RowsDiffer (map clean records)
+differ-clean [] differ = tt
+differ-clean (r ∷ records) differ = (first-clean records r.id differ.0, differ-clean records differ.1)
+
+-- what a session leaves, by its replacements and adds
+all-finished : (ch : Choice) (h : ℕ → SideState) (given : List ℕ) (records : List Record) → RowsDiffer records
+    → after (giving ch h given ++ clearing ch h) records
+    ≡ finished (purged_ids ch.keep h) (put_all (numbered given ch.adds) (put_all (replaced_rows ch.keep h) records))
+all-finished ch h given records differ =
+    let es = replaced_rows ch.keep h in
+    let adds = numbered given ch.adds in
+    let given_all : after (giving ch h given) records ≡ put_all adds (put_all es records) = after-append (replaces es) (adding adds) records
+    ∙ ap (after (adding adds)) (after-replaces es records) ∙ after-adding_all adds (put_all es records) in
+    after-append (giving ch h given) (clearing ch h) records ∙ ap (after (clearing ch h)) given_all
+    ∙ after-clearing ch h (put_all adds (put_all es records)) (differ-put_all adds (put_all es records) (differ-put_all es records differ))
+
+-- no two records have one id behind it
+pub differ-whole : (ch : Choice) (h : ℕ → SideState) (given : List ℕ) (records : List Record) → RowsDiffer records
+    → RowsDiffer (after (giving ch h given ++ clearing ch h) records)
+differ-whole ch h given records differ =
+    let es = replaced_rows ch.keep h in
+    let adds = numbered given ch.adds in
+    let now = put_all adds (put_all es records) in
+    let left = filter (λ (r : Record). not (has r.id (purged_ids ch.keep h))) now in
+    subst RowsDiffer (sym (all-finished ch h given records differ)) (differ-clean (filter is_live left)
+    (differ-filter is_live left (differ-filter (λ r. not (has r.id (purged_ids ch.keep h))) now
+    (differ-put_all adds (put_all es records) (differ-put_all es records differ)))))
+
 -- ids stay those of records
 pub bounded-after : (ch : Choice) (h : ℕ → SideState) (given : List ℕ) (records : List Record) → RowsDiffer records → AreBounded records
     → AreFree (numbered given ch.adds) (after (replaces (replaced_rows ch.keep h)) records)
@@ -62,11 +94,7 @@ bounded-after ch h given records differ bounded free =
     let es = replaced_rows ch.keep h in
     let adds = numbered given ch.adds in
     let now = put_all adds (put_all es records) in
-    let given_all : after (giving ch h given) records ≡ now = after-append (replaces es) (adding adds) records
-    ∙ ap (after (adding adds)) (after-replaces es records) ∙ after-adding_all adds (put_all es records) in
-    let all : after (giving ch h given ++ clearing ch h) records ≡ finished (purged_ids ch.keep h) now =
-    after-append (giving ch h given) (clearing ch h) records ∙ ap (after (clearing ch h)) given_all
-    ∙ after-clearing ch h now (differ-put_all adds (put_all es records) (differ-put_all es records differ)) in
+    let all = all-finished ch h given records differ in
     let now_bounded = bounded-put_all adds (put_all es records) (have-free adds (after (replaces es) records) free)
     (bounded-put_all es records (have-rising 0 es (replaced_rise ch.keep h)) bounded) in
     subst AreBounded (sym all) (bounded-clean (filter is_live (filter (λ r. not (has r.id (purged_ids ch.keep h))) now))

@@ -1,6 +1,7 @@
 pub mod AfterLaws
 pub mod AgainLaws
 pub mod ArchiveLaws
+pub mod BaselessLaws
 pub mod BothLaws
 pub mod BoundLaws
 pub mod CleanLaws
@@ -10,3 +11,4 @@ pub mod PutLaws
 pub mod SettledLaws
 pub mod ShownLaws
 pub mod StopLaws
+pub mod SumLaws

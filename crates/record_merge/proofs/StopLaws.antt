@@ -5,10 +5,11 @@ use Rattle.pdb_values.specs.Contents.{ContentValue}
 use Rattle.pdb_values.specs.declared.record.Record.{Record}
 use Rattle.palm_device.specs.Records.{put_record}
 use Rattle.conduit_rules.specs.ById.{id_bound, put}
-use Rattle.conduit_rules.specs.States.{SideState, live, held, held_where}
+use Rattle.conduit_rules.specs.States.{SideState, live, held, held_where, base_at}
 use Rattle.conduit_rules.specs.Choices.{Choice, Sides, choice, choice_for, sides_of}
-use Rattle.conduit_rules.specs.declared.action.Action.TheVariants.{Handheld, Desktop}
+use Rattle.conduit_rules.specs.declared.action.Action.TheVariants.{Handheld, Desktop, Both}
 use Rattle.conduit_rules.proofs.ActionLaws.{handheld-is, handheld-unwritten}
+use Rattle.conduit_rules.proofs.BothLaws.{none_based, without_base-is}
 use Rattle.conduit_rules.specs.Plans.{replacement, replaced_rows}
 use Rattle.conduit_rules.specs.Views.{view_held}
 use Rattle.conduit_rules.specs.declared.view.Seen.{Seen}
@@ -46,7 +47,15 @@ pub sides-again : (v w : List Seen) (ws : List Write) (rows base records : List 
 sides-again v w ws rows base records gone_counts only first_shows then_shows =
     let s = sides_of v rows base gone_counts in
     let same : (i : ℕ) → view_held w i ≡ (sides_after ws s).handheld i = λ i. then_shows i ∙ sym (held-after ws s records only first_shows i) in
-    (λ k. record { base = s.base; handheld = λ i. same i k; desktop = s.desktop; loose_live = s.loose_live; loose_archived = s.loose_archived })
+    (λ k. record {
+      base = s.base;
+      handheld = λ i. same i k;
+      desktop = s.desktop;
+      loose_live = s.loose_live;
+      loose_archived = s.loose_archived;
+      all_live = s.all_live;
+      all_archived = s.all_archived;
+    })
     ∙ sym (others ws s only)
 
 -- ---- what is left to do
@@ -141,6 +150,27 @@ choice-stopped n v w rows base records gone_counts given none shows free then_sh
     let of = of-take n (giving (choice s) (view_held v) given) (choice s) s (giving-of s given records none shows free) in
     ap choice (sides-again v w ws rows base records gone_counts (writes-of ws (choice s) s of) shows then_shows)
     ∙ choice-after ws (choice s) s refl of
+
+-- ---- both sides without their base
+
+pub no_base_rows : (gone_counts : Bool) (given : List ℕ) → NoBase (base_at [] gone_counts) given
+no_base_rows gone_counts [] = tt
+no_base_rows gone_counts (g ∷ gs) = (none_based gone_counts g, no_base_rows gone_counts gs)
+
+-- a session that stops after n of its writes: the next one's choice is what was left
+pub baseless-stopped : (n : ℕ) (v w : List Seen) (rows base records : List Record) (gone_counts : Bool) (given : List ℕ)
+    → ((i : ℕ) → view_held v i ≡ held records i)
+    → (let ch = choice_for Both (sides_of v rows base gone_counts) in
+    AreFree (numbered given ch.adds) (after (replaces (replaced_rows ch.keep (view_held v))) records)
+    → ((i : ℕ) → view_held w i ≡ held (after (take n (giving ch (view_held v) given)) records) i)
+    → choice_for Both (sides_of w rows base gone_counts) ≡ rest_of (take n (giving ch (view_held v) given)) ch)
+baseless-stopped n v w rows base records gone_counts given shows =
+    let bare : (x : List Seen) → choice_for Both (sides_of x rows base gone_counts) ≡ choice (sides_of x rows [] gone_counts) =
+    λ x. ap choice (without_base-is x rows base gone_counts) in
+    subst (λ (ch : Choice). AreFree (numbered given ch.adds) (after (replaces (replaced_rows ch.keep (view_held v))) records)
+    → ((i : ℕ) → view_held w i ≡ held (after (take n (giving ch (view_held v) given)) records) i)
+    → choice_for Both (sides_of w rows base gone_counts) ≡ rest_of (take n (giving ch (view_held v) given)) ch) (sym (bare v))
+    (λ free then_shows. bare w ∙ choice-stopped n v w rows [] records gone_counts given (no_base_rows gone_counts given) shows free then_shows)
 
 -- ---- one side alone
 

@@ -1,13 +1,16 @@
 -- What a session sees of one database, and what it makes of it.
-use Rattle.std.specs.Prelude.{◌≡◌, ◌+◌, ℕ, Bool, List, [], sum_by, take}
+use Rattle.std.specs.Prelude.{◌≡◌, ◌+◌, ℕ, Bool, List, [], max, sum_by, take}
 use Rattle.pdb_values.specs.Contents.{ContentValue}
 use Rattle.pdb_values.specs.declared.record.Record.{Record}
 use Rattle.palm_device.specs.Soundness.{AreIds, ids_of}
-use Rattle.conduit_rules.specs.Choices.{Choice, Sides, choice, choice_for, sides_of}
+use Rattle.conduit_rules.specs.Choices.{Choice, Sides, choice, choice_for, sides_of, without_base}
+use Rattle.conduit_rules.specs.Contents.{count_of}
+use Rattle.conduit_rules.specs.News.{live_contents}
 use Rattle.conduit_rules.specs.Plans.{kept_rows}
 use Rattle.conduit_rules.specs.States.{SideState, held}
 use Rattle.conduit_rules.specs.Views.{slow_view, view_held}
 use Rattle.conduit_rules.specs.declared.action.Action.{Action}
+use Rattle.conduit_rules.specs.declared.action.Action.TheVariants.{Both}
 use Rattle.conduit_rules.specs.declared.view.Seen.{Seen}
 use Rattle.record_merge.specs.Merging.{AreBounded, merged_base, merged_entries, merged_records, merged_rows, row_under}
 use Rattle.record_merge.specs.Stops.{NoBase, rest_of}
@@ -66,6 +69,15 @@ IsTakenUp v rows base counts given records =
     ShowsAll (view_held w) (after (first_writes n s given) records)
     → choice (sides_of w rows base counts) ≡ rest_of (first_writes n s given) (choice s)
 
+-- so it is where no base is looked at
+abbrev pub IsTakenUpBaseless : List Seen → List Record → List Record → Bool → List ℕ → List Record
+    → Type 0
+IsTakenUpBaseless v rows base counts given records =
+    (n : ℕ) (w : List Seen)
+    → let s = without_base (sides_of v rows base counts) in
+    ShowsAll (view_held w) (after (first_writes n s given) records)
+    → choice_for Both (sides_of w rows base counts) ≡ rest_of (first_writes n s given) (choice s)
+
 -- ---- a session behind one that ended
 
 -- a session read the whole database, chose this, and each of its new records got a free id
@@ -85,6 +97,20 @@ merged_sides ch given records counts =
 -- the merged rows are kept, and nothing is archived or added
 abbrev pub rows_alone : Choice → List ℕ → Choice
 rows_alone ch given = record { keep = row_under ch given; archive = []; adds = [] }
+
+-- behind a session whose new records each got an id, a content is so often live on the handheld, and
+-- in the desktop's rows
+abbrev pub count_on_handheld : Choice → List ℕ → List Record → ContentValue → ℕ
+count_on_handheld ch given records c =
+    count_of c (live_contents (after (whole ch (view_held (slow_view records)) given) records))
+
+abbrev pub count_on_desktop : Choice → List ℕ → ContentValue → ℕ
+count_on_desktop ch given c = count_of c (live_contents (merged_rows ch given))
+
+-- it was so often live on the side that had it more often
+abbrev pub greater_count : List Record → List Record → ContentValue → ℕ
+greater_count records rows c =
+    max (count_of c (live_contents records)) (count_of c (live_contents rows))
 
 -- so the next one chooses, whichever sides it goes by
 abbrev pub StaysMerged : Choice → List ℕ → List Record → Type 0

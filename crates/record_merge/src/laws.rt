@@ -1,20 +1,21 @@
 //! What holds of every merge of one database. Each function here does nothing: its contract is the
 //! law.
-ghost use Rattle.std.specs.Prelude.{◌≡◌, ◌+◌, ◌++◌, ℕ, List, [], Bool, None};
+ghost use Rattle.std.specs.Prelude.{◌≡◌, ◌+◌, ◌++◌, ℕ, List, [], Bool, None, length};
 ghost use Rattle.pdb_values.specs.Contents.{ContentValue};
 ghost use Rattle.pdb_values.specs.declared.record.Record.{Record};
 ghost use Rattle.conduit_rules.specs.ById.{id_bound};
-ghost use Rattle.conduit_rules.specs.Choices.{Choice, Sides, choice_for, sides_of};
+ghost use Rattle.conduit_rules.specs.Choices.{Choice, Sides, choice_for, sides_of, without_base};
 ghost use Rattle.conduit_rules.specs.States.{SideState};
 ghost use Rattle.conduit_rules.specs.Views.{view_held, slow_view, fast_view, IsHonest};
 ghost use Rattle.conduit_rules.specs.declared.action.Action.{Action};
-ghost use Rattle.conduit_rules.specs.declared.action.Action.TheVariants.{Handheld, Desktop};
+ghost use Rattle.conduit_rules.specs.declared.action.Action.TheVariants.{Handheld, Desktop, Both};
 ghost use Rattle.conduit_rules.specs.declared.view.Seen.{Seen};
 ghost use Rattle.record_merge.specs.Merging.{row_at, merged_rows, merged_base};
 ghost use Rattle.record_merge.specs.Merging.{merged_archive, is_archived, AreNew};
 ghost use Rattle.record_merge.specs.Stops.{rest_of};
 ghost use Rattle.record_merge.specs.Writes.{after, numbered, adding, giving, whole, GotFreeIds};
-ghost use Rattle.record_merge.specs.Whole.{AreRecords, EachIsKeptOrAdded, HoldSame, IsSlowMerge, IsStopped, IsTakenUp, MakesMerge, SeesAll, ShowsAll, StaysMerged};
+ghost use Rattle.record_merge.specs.Whole.{AreRecords, EachIsKeptOrAdded, HoldSame, IsSlowMerge, IsStopped, IsTakenUp, IsTakenUpBaseless, MakesMerge, SeesAll, ShowsAll, StaysMerged};
+ghost use Rattle.record_merge.specs.Whole.{count_on_desktop, count_on_handheld, greater_count};
 
 /// The writes of a session make the merged records, whichever way the database was read.
 pub fn the_writes_make_the_merge()
@@ -43,13 +44,17 @@ pub fn each_row_is_kept_or_added()
 {}
 
 /// A session of both sides that stops among its replacements and adds leaves the next one the rest of
-/// them. One that goes by the handheld gives it nothing, and one that goes by the desktop is begun anew by
-/// the next one.
+/// them, and so does one of both sides without their base. One that goes by the handheld gives it nothing, and
+/// one that goes by the desktop is begun anew by the next one.
 pub fn a_stopped_session_is_taken_up()
     ensures both { (v : List Seen) (rows base records : List Record) (counts : Bool)
         (given : List ℕ)
         → IsStopped (sides_of v rows base counts) given records
         → IsTakenUp v rows base counts given records }
+    ensures baseless { (v : List Seen) (rows base records : List Record) (counts : Bool)
+        (given : List ℕ)
+        → IsStopped (without_base (sides_of v rows base counts)) given records
+        → IsTakenUpBaseless v rows base counts given records }
     ensures handheld { (s : Sides) (given : List ℕ)
         → giving (choice_for Handheld s) s.handheld given ≡ [] }
     ensures desktop { (v w : List Seen) (rows base : List Record) (gone_counts : Bool)
@@ -72,6 +77,16 @@ pub fn a_merged_database_stays()
     ensures { (a : Action) (rows base records : List Record) (counts : Bool) (given : List ℕ)
         (ch : Choice)
         → IsSlowMerge a rows base counts given records ch → StaysMerged ch given records }
+{}
+
+/// A database that goes by both sides without their base has each content live on both sides as often as the
+/// side had it live that had it more often, and no other.
+pub fn what_is_live_on_a_side_stays()
+    ensures { (rows base records : List Record) (counts : Bool) (given : List ℕ) (ch : Choice)
+        (c : ContentValue)
+        → IsSlowMerge Both rows base counts given records ch → length given ≡ length ch.adds
+        → (count_on_handheld ch given records c ≡ greater_count records rows c)
+        × (count_on_desktop ch given c ≡ greater_count records rows c) }
 {}
 
 /// An archive has the entries that were there and the new ones, and no others.

@@ -3,10 +3,10 @@
 //! and those that speak of whole sessions, stand on its definitions and its laws.
 //!
 //! The plan whose writes these are is made by `conduit_rules`, of a view of the handheld's records, the
-//! desktop's rows and its base rows (`files_cases` has this line):
+//! desktop's rows and its base rows (`session_plan` has this call):
 //!
 //! ```text
-//! let plan = plan(alloc, &view, &rows, &base, counts, action_in(front))?;
+//! plan(alloc, view, records_in(rows), base, !agree, action_of(job.action))
 //! ```
 #![tactic(auto)]
 

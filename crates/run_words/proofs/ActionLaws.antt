@@ -15,7 +15,7 @@ use Rattle.run_words.specs.Actions.{AreActions, AreApart, IsActionsText, IsNameO
 use Rattle.run_words.specs.Actions.{aimed, are_items, has_stem, is_actions_text, is_colon, is_comma, item_of, item_text, stem_in, target_of, target_text}
 use Rattle.run_words.specs.StemNames.{as_name, bytes_of_stem, digit_number, escaped, first_of, name_of, onto}
 use Rattle.run_words.specs.declared.action.ActionWord.{ActionWord}
-use Rattle.run_words.specs.declared.action.ActionWord.TheVariants.{Sync, Handheld, Desktop, Nothing}
+use Rattle.run_words.specs.declared.action.ActionWord.TheVariants.{Sync, Handheld, Desktop, Both, Nothing}
 use Rattle.run_words.specs.declared.action.NamedAction.{NamedAction}
 use Rattle.run_words.specs.declared.action.Target.{Target}
 use Rattle.run_words.specs.declared.action.Target.TheVariants.{Others, One}
@@ -174,18 +174,18 @@ target_text-injective one other h k e =
 
 -- ---- one item
 
-action_parts : (a b c d : Bool) {action : ActionWord}
-    → cond a (Some Sync) (cond b (Some Handheld) (cond c (Some Desktop) (cond d (Some Nothing) None))) ≡ Some action → (text : List ℕ)
+action_parts : (a b c d n : Bool) {action : ActionWord}
+    → cond a (Some Sync) (cond b (Some Handheld) (cond c (Some Desktop) (cond d (Some Both) (cond n (Some Nothing) None)))) ≡ Some action → (text : List ℕ)
     → (a ≡ true → text ≡ codes "sync") → (b ≡ true → text ≡ codes "handheld") → (c ≡ true → text ≡ codes "desktop")
-    → (d ≡ true → text ≡ codes "nothing") → text ≡ action_text action
-action_parts a b c d e text ha hb hc hd = grind arith
+    → (d ≡ true → text ≡ codes "both") → (n ≡ true → text ≡ codes "nothing") → text ≡ action_text action
+action_parts a b c d n e text ha hb hc hd hn = grind arith
 
 action_of_word-is : (word : List ℕ) {action : ActionWord} → action_of_word word ≡ Some action → word ≡ action_text action
 action_of_word-is word e =
     action_parts (bytes_eq word (codes "sync")) (bytes_eq word (codes "handheld")) (bytes_eq word (codes "desktop"))
-    (bytes_eq word (codes "nothing")) e word
+    (bytes_eq word (codes "both")) (bytes_eq word (codes "nothing")) e word
     (bytes_eq-Decides word (codes "sync")).0 (bytes_eq-Decides word (codes "handheld")).0 (bytes_eq-Decides word (codes "desktop")).0
-    (bytes_eq-Decides word (codes "nothing")).0
+    (bytes_eq-Decides word (codes "both")).0 (bytes_eq-Decides word (codes "nothing")).0
 
 long_word : (action : ActionWord) → 0 < length (action_text action)
 long_word action = grind arith

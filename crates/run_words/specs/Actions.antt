@@ -7,7 +7,7 @@ use Rattle.pdb_values.specs.Names.{IsName}
 use Rattle.pdb_values.specs.Stems.{stem_of}
 use Rattle.run_words.specs.StemNames.{name_of}
 use Rattle.run_words.specs.declared.action.ActionWord.{ActionWord}
-use Rattle.run_words.specs.declared.action.ActionWord.TheVariants.{Sync, Handheld, Desktop, Nothing}
+use Rattle.run_words.specs.declared.action.ActionWord.TheVariants.{Sync, Handheld, Desktop, Both, Nothing}
 use Rattle.run_words.specs.declared.action.NamedAction.{NamedAction}
 use Rattle.run_words.specs.declared.action.Target.{Target}
 use Rattle.run_words.specs.declared.action.Target.TheVariants.{Others, One}
@@ -18,6 +18,7 @@ abbrev pub action_text : ActionWord → List ℕ
 action_text Sync = codes "sync"
 action_text Handheld = codes "handheld"
 action_text Desktop = codes "desktop"
+action_text Both = codes "both"
 action_text Nothing = codes "nothing"
 
 -- `*` for the databases that no other item names, or the stem of one database's name
@@ -74,7 +75,8 @@ action_of_word word =
     if bytes_eq word (codes "sync") then Some Sync
     else (if bytes_eq word (codes "handheld") then Some Handheld
     else (if bytes_eq word (codes "desktop") then Some Desktop
-    else (if bytes_eq word (codes "nothing") then Some Nothing else None)))
+    else (if bytes_eq word (codes "both") then Some Both
+    else (if bytes_eq word (codes "nothing") then Some Nothing else None))))
 
 -- an action for a target
 abbrev pub aimed : Target → ActionWord → NamedAction

@@ -14,6 +14,8 @@ pub enum ActionWord {
     Handheld,
     /// `desktop`: the handheld gets what the desktop has.
     Desktop,
+    /// `both`: both sides get what is live on either, as if they had never met.
+    Both,
     /// `nothing`: neither side is touched.
     Nothing,
 }
@@ -46,6 +48,8 @@ fn action_in(word: &str) -> Option<ActionWord>
         Some(ActionWord::Handheld)
     } else if word == "desktop" {
         Some(ActionWord::Desktop)
+    } else if word == "both" {
+        Some(ActionWord::Both)
     } else if word == "nothing" {
         Some(ActionWord::Nothing)
     } else {

@@ -10,6 +10,7 @@ use Rattle.pdb_values.specs.declared.record.Record.{Record}
 use Rattle.conduit_rules.specs.States.{BaseState, SideState, has_row}
 use Rattle.conduit_rules.proofs.DraftLaws.{draft-start, map-loose_for}
 use Rattle.conduit_rules.proofs.CountedLaws.{pass-start, pass-next, pass-end, front-some, steps-left, one_if}
+use Rattle.conduit_rules.proofs.LooseLaws.{based_by}
 use Rattle.conduit_rules.proofs.PassLaws.{front-within}
 use Rattle.conduit_rules.proofs.planner.plan_counted.Goals as goal
 
@@ -27,7 +28,7 @@ loop-front-init g c = record {
 pub note_row-requires : goal.note_row-requires
 note_row-requires g c = λ x is.
     let at_row : option_map (λ e. (e.0, e.1.now)) c.in-Some.front.row ≡ Some (x.0, x.1.now) = ap (option_map (λ e. (e.0, e.1.now))) is in
-    let within = front-within (has_row c.args.base.list) c.args.rows.list c.in-Some.front.id c.loop-front.rows.ahead
+    let within = front-within (based_by c.args.action (has_row c.args.base.list)) c.args.rows.list c.in-Some.front.id c.loop-front.rows.ahead
     (map option_copied c.loop-front.slots.items) (x.0, x.1.now)
     c.loop-front.invariant.pass.slotted (sym c.in-Some.ensures.front.row ∙ at_row) in
     omega (arith, length-map c.loop-front.slots.items option_copied)
@@ -72,5 +73,5 @@ returns-clause-plan g c =
     (map option_copied c.loop-front.slots.items) (map option_copied c.counted.result.now) c.loop-front.draft c.loop-front.next c.loop-front.invariant.pass
     c.in_default.ensures.front
     (map-loose_for c.args.action option_copied c.loop-front.slots.items c.counted.result.now
-    (c.counted.ensures ∙ ap (loose_for c.args.action) c.deref.ensures.value)) in
+    (c.counted.ensures ∙ ap (λ xs. loose_for c.args.action xs xs) c.deref.ensures.value)) in
     c.finished.ensures c.args.action (sides_of c.args.view.list c.args.rows.list c.args.base.list c.args.gone_counts) done.0 done.1 done.2
