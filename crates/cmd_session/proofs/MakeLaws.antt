@@ -178,8 +178,8 @@ module _ {items : List Item} (after : SidesTold) (report : Report) (are : AreIte
   by_status {wishes} TooManyUsers asks ends unsaid up caused numbered shows palm desk = absurd (not_full items wishes shows.0)
   by_status (Limit name) asks ends unsaid up caused numbered shows palm desk =
       let none = none_over are asks merged in let some = shows.0 in absurd cc
-  by_status {wishes} (NewHandheld name) asks ends unsaid up caused numbered shows palm desk =
-      let none = none_lost items wishes in let some = shows.1 in absurd cc
+  by_status (NewHandheld name) asks ends unsaid up caused numbered shows palm desk =
+      let none = none_lost are asks in let some = shows.1 in absurd cc
 
   pub made_ends : {device : Device} {slots : List SlotValue} {status : Status} → HoldsAll (handheld_files items) device.databases device.user
       → device.handles ≡ no_handles → IsDesk (Some (desktop_files items)) slots

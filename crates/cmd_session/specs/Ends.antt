@@ -52,7 +52,7 @@ pub record StoppedBehind (meeting : Meeting) (desk_after : FolderTold)
   pub writes : writes_before_commit meeting ≤ report.writes
 
 -- Both sides keep the bounds of their types. What was issued begins the session's requests; where a
--- limit would be passed, or a new handheld would cost the desktop live rows, it begins those that
+-- limit would be passed, or the session would cost the desktop live rows, it begins those that
 -- write nothing, and where the handheld's user has no slot it is at most the request for the user.
 -- This is left of both sides. At each moment the desktop's folder stood for what it stood for at
 -- first, or for the merge under some ids.
@@ -76,7 +76,7 @@ pub record SessionLeft (meeting : Meeting) (palm_after desk desk_after : FolderT
 -- ---- why it stopped
 
 -- What a status shows of a session. For its user it stopped behind the request for it alone; for a
--- limit, or where none would be passed for a new handheld, once all was read and nothing written;
+-- limit, or where none would be passed for lost rows, once all was read and nothing written;
 -- and the desktop's folder failed at the commit, where all that precedes it was performed and
 -- nothing behind it was issued.
 abbrev pub StatusShows : Meeting → Report → Status → Type 0
@@ -93,7 +93,7 @@ StatusShows meeting report DesktopFolder = SaidAll (requests_before_commit meeti
 StatusShows meeting report other = ⊤
 
 -- the status of a session that both sides refuse: the handheld's user has no slot, or else a limit
--- would be passed, or else a new handheld would cost the desktop live rows
+-- would be passed, or else the session would cost the desktop live rows
 abbrev pub status_refused : Result UserInfo SessionFault → Option (List ℕ) → Option (List ℕ)
     → Option Status
 status_refused (Err why) over loss = Some (fault_status None why)

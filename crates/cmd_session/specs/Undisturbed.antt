@@ -18,8 +18,8 @@ use Rattle.call_parts.specs.Undisturbed.{IsGoodScript, NoneFailed, IsKindScript,
 
 -- ---- what has to be given
 
--- the desktop has a slot for the handheld's user, or may add one, no limit would be passed, and no
--- new handheld would cost it live rows
+-- the desktop has a slot for the handheld's user, or may add one, no limit would be passed, and the
+-- session would cost it no live row
 pub record MayMeet (meeting : Meeting) : Type 0 where
   pub known : slot_in meeting ≢ Refused
   pub room : slot_in meeting ≢ Full

@@ -103,7 +103,7 @@ FairStaysUp rules call =
 -- the first of the session's writes. Of the handheld's files only the information file and those of
 -- databases that the session doesn't skip changed, and of the desktop's, once a journal that was
 -- left is finished, only its information file and those of such databases in the picked slot. Where
--- a limit would be passed nothing was written, nor where a new handheld would cost the desktop live
+-- a limit would be passed nothing was written, nor where the session would cost the desktop live
 -- rows.
 pub record LeavesTheMerge (meeting : Meeting) (call : RunCall) : Type 0 where
   pub begins : IsPrefix (log_in call.report).issued (requests meeting)

@@ -134,6 +134,7 @@ pub fn hint_folders<R: Eprint + AllocGlobal, H: Folder + Drop, D: Folder + Drop>
             }
         }
         Status::DesktopFolder => hint_journal(rt, &mut desk),
+        Status::NewHandheld(name) => hint_new_handheld(rt, &name),
         _ => {}
     }
 }
@@ -155,6 +156,15 @@ fn hint_database<R: Eprint + AllocGlobal>(rt: &R, database: &DbReport) {
             );
         }
         _ => {}
+    }
+}
+
+// The three ways on where a handheld would cost the desktop records of a database.
+fn hint_new_handheld<R: Eprint + AllocGlobal>(rt: &R, name: &DbName) {
+    if let Ok(stem) = name.file_stem(rt.alloc()) {
+        let _ = eprintln!(rt;
+            "hint: --actions={stem}:both keeps what both sides have, {stem}:desktop brings back the desktop's, {stem}:handheld takes the handheld's"
+        );
     }
 }
 

@@ -67,8 +67,8 @@ pub record StoppedBehind (meeting : Meeting) (hand : Hand) (desk_after : FolderT
   pub stands : StandsForSlots (merged_slots meeting (given_by hand)) desk_after.contents
   pub writes : writes_before_commit meeting ≤ write_count hand.performed
 
--- What went out begins the session's requests; where a limit would be passed, or a new handheld
--- would cost the desktop live rows, it begins those that write nothing, and where the handheld's
+-- What went out begins the session's requests; where a limit would be passed, or the session would
+-- cost the desktop live rows, it begins those that write nothing, and where the handheld's
 -- user has no slot it is at most the request for the user.
 pub record IssuedFor (meeting : Meeting) (talk : Talk) : Type 0 where
   pub begins : IsPrefix (issued talk) (requests meeting)

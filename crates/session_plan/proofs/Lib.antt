@@ -1,6 +1,7 @@
 pub mod ArchiveLaws
 pub mod FitLaws
 pub mod LimitLaws
+pub mod LossLaws
 pub mod NamesLaws
 pub mod PlanWords
 pub mod RiseLaws

@@ -6,7 +6,7 @@ use Rattle.conduit_rules.specs.States.{SideState}
 use Rattle.conduit_rules.specs.Views.{slow_view, fast_view}
 use Rattle.conduit_rules.specs.Choices.{Choice, Sides, sides_of, choice_for}
 use Rattle.conduit_rules.specs.declared.action.Action.{Action}
-use Rattle.conduit_rules.specs.declared.action.Action.TheVariants.{Sync, Handheld, Desktop}
+use Rattle.conduit_rules.specs.declared.action.Action.TheVariants.{Sync, Handheld, Desktop, Both}
 use Rattle.conduit_rules.specs.declared.view.Seen.{Seen}
 use Rattle.mirrors.specs.Agreements.{agreed}
 use Rattle.session_plan.specs.Tasks.{Meeting, Task, records_of, slot_of}
@@ -20,13 +20,15 @@ abbrev pub action_or_sync : Option Action → Action
 action_or_sync None = Sync
 action_or_sync (Some action) = action
 
+-- it goes by both sides and their base
 abbrev pub is_sync : Action → Bool
 is_sync Sync = true
 is_sync Handheld = false
 is_sync Desktop = false
+is_sync Both = false
 
 -- a database is read fast where both sides agree, nothing slower is asked, its action looks at
--- both, and all of it is there
+-- both and at the base, and all of it is there
 abbrev pub is_fast_by : Bool → Bool → Action → Bool → Bool → Bool → Bool
 is_fast_by agree slow action handheld rows base =
     agree && (not slow && (is_sync action && (handheld && (rows && base))))

@@ -6,7 +6,7 @@ use Rattle.pdb_values.specs.Databases.{DatabaseValue}
 use Rattle.pdb_values.specs.Heads.{holds_resources, is_read_only, is_stream}
 use Rattle.pdb_values.specs.declared.head.DbHead.{DbHead}
 use Rattle.conduit_rules.specs.declared.action.Action.{Action}
-use Rattle.conduit_rules.specs.declared.action.Action.TheVariants.{Sync, Handheld, Desktop}
+use Rattle.conduit_rules.specs.declared.action.Action.TheVariants.{Sync, Handheld, Desktop, Both}
 use Rattle.session_parts.specs.declared.skip.Skip.{Skip}
 use Rattle.session_parts.specs.declared.skip.Skip.TheVariants as skip
 use Rattle.session_plan.specs.Tasks.{Meeting, Task, tasks}
@@ -36,6 +36,7 @@ abbrev pub is_missing : Action → Option DbHead → Option DbHead → Bool → 
 is_missing Sync handheld rows has_base = is_none handheld && has_base
 is_missing Handheld handheld rows has_base = is_none handheld
 is_missing Desktop handheld rows has_base = is_none rows
+is_missing Both handheld rows has_base = is_none handheld && has_base
 
 -- the first reason of a database with an action, by the heads of the handheld's database and of the
 -- desktop's rows

@@ -14,7 +14,7 @@ use Rattle.desk_store.specs.Desks.{place_of}
 use Rattle.desk_store.specs.Shelves.{SlotValue, marks_of, slot_at}
 use Rattle.run_words.specs.Actions.{action_for}
 use Rattle.run_words.specs.declared.action.ActionWord.{ActionWord}
-use Rattle.run_words.specs.declared.action.ActionWord.TheVariants.{Sync, Handheld, Desktop, Nothing}
+use Rattle.run_words.specs.declared.action.ActionWord.TheVariants.{Sync, Handheld, Desktop, Both, Nothing}
 use Rattle.session_plan.specs.declared.wishes.Wishes.{Wishes}
 
 -- ---- both sides
@@ -85,6 +85,7 @@ abbrev pub action_of_word : ActionWord → Option Action
 action_of_word Sync = Some action.Sync
 action_of_word Handheld = Some action.Handheld
 action_of_word Desktop = Some action.Desktop
+action_of_word Both = Some action.Both
 action_of_word Nothing = None
 
 -- the database of a name

@@ -67,7 +67,7 @@ fn is_fast(
 {
     let is_sync = match action {
         Some(Action::Sync) | None => true,
-        Some(Action::Handheld | Action::Desktop) => false,
+        Some(Action::Handheld | Action::Desktop | Action::Both) => false,
     };
     agree && !slow && is_sync && handheld && rows && base
 }

@@ -18,6 +18,7 @@ pub fn action_of(word: ActionWord) -> Option<Action>
         ActionWord::Sync => Some(Action::Sync),
         ActionWord::Handheld => Some(Action::Handheld),
         ActionWord::Desktop => Some(Action::Desktop),
+        ActionWord::Both => Some(Action::Both),
         ActionWord::Nothing => None,
     }
 }
@@ -70,7 +71,7 @@ fn misses(action: Action, handheld: Option<&DbHead>, rows: Option<&DbHead>, base
         (option_copied rows.entry) base }
 {
     match action {
-        Action::Sync => handheld.is_none() && base,
+        Action::Sync | Action::Both => handheld.is_none() && base,
         Action::Handheld => handheld.is_none(),
         Action::Desktop => rows.is_none(),
     }

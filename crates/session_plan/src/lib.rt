@@ -1,4 +1,4 @@
-//! What a session of a handheld and a desktop plans: its databases, its skips and limits, what a new handheld would cost, what both sides
+//! What a session of a handheld and a desktop plans: its databases, its skips and limits, what it would cost the desktop, what both sides
 //! hold afterwards, as functions of what they held before; and the marks, heads, names and archives that it makes. It knows no link.
 #![tactic(auto)]
 
@@ -18,6 +18,7 @@ mod planning;
 mod reporting;
 mod rows;
 mod sizes;
+mod strangers;
 mod taking;
 mod users;
 mod wishes;
@@ -31,12 +32,13 @@ pub use job::Job;
 pub use jobs::jobs_of;
 pub use judge::{action_of, skip_of};
 pub use limits::{first_limit, first_over, is_over};
-pub use losses::{first_loss, is_new_to};
+pub use losses::first_loss;
 pub use names::put_name;
 pub use planned::Planned;
 pub use planning::plan_all;
 pub use reporting::reports_of;
 pub use rows::{planned_base, planned_rows};
 pub use sizes::Sizes;
+pub use strangers::{has_lost_all, is_stranger_to};
 pub use users::{agreed_name, agreed_user, begun_user, done_marks, done_user};
 pub use wishes::Wishes;

@@ -25,7 +25,10 @@ pub(crate) fn records_in(database: Option<&Database>) -> &[Record]
 }
 
 // The base rows: none where the rows are missing.
-fn base_records<'d>(rows: Option<&'d Database>, base: Option<&'d Database>) -> &'d [Record]
+pub(crate) fn base_records<'d>(
+    rows: Option<&'d Database>,
+    base: Option<&'d Database>,
+) -> &'d [Record]
     ensures { result.now ≡ base_rows_by (option_copied rows.entry) (option_copied base.entry) }
 {
     match rows {

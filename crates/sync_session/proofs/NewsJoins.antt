@@ -13,13 +13,13 @@ use Rattle.sync_session.proofs.MeetingWords.{IsPlannedFor, listed_head, IsFirst,
 use Rattle.sync_session.proofs.MeetingWords.{Task, tasks, purged_ids, purges_by, purges_under, done_each, says_nothing}
 use Rattle.session_parts.proofs.LinkWords.{Talk, Act, acted, text, closing, making, opening, said, saying, device_after}
 use Rattle.conduit_rules.specs.ById.{each_id, id_bound, ids_below, with_id}
-use Rattle.conduit_rules.specs.Choices.{Sides, choice_for, fate_for, loose_for, offers_for, partners_for}
+use Rattle.conduit_rules.specs.Choices.{Sides, choice_for, fate_for, offered_for, offers_for, partners_for}
 use Rattle.conduit_rules.specs.Contents.{count_of}
 use Rattle.conduit_rules.specs.Fates.{fate_under}
 use Rattle.conduit_rules.specs.News.{unpaired}
 use Rattle.conduit_rules.specs.States.{SideState, live, no_base}
 use Rattle.conduit_rules.specs.declared.action.Action.{Action}
-use Rattle.conduit_rules.specs.declared.action.Action.TheVariants.{Sync, Handheld, Desktop}
+use Rattle.conduit_rules.specs.declared.action.Action.TheVariants.{Sync, Handheld, Desktop, Both}
 use Rattle.conduit_rules.proofs.ContentLaws.{same_content-same}
 use Rattle.desktop_session.proofs.SaysLaws.{saying_none, saying_then}
 use Rattle.desktop_session.proofs.TellLaws.{said_device}
@@ -47,6 +47,7 @@ rep_zero : (a : Action) (h d : SideState) → replacement (fate_under a no_base 
 rep_zero Sync (live c) d = ap (λ b. let none : Option ContentValue = None in if b then none else Some c) (same_content-same c)
 rep_zero Handheld (live c) d = ap (λ b. let none : Option ContentValue = None in if b then none else Some c) (same_content-same c)
 rep_zero Desktop (live c) d = refl
+rep_zero Both (live c) d = ap (λ b. let none : Option ContentValue = None in if b then none else Some c) (same_content-same c)
 rep_zero a h d = refl
 
 abbrev HasId : ℕ × ContentValue → Type 0
@@ -80,16 +81,17 @@ length-as_new (c ∷ cs) = let rest = length-as_new cs in omega (arith, rest)
 
 -- ---- a database of which the desktop has no rows gets nothing new
 
-loose_none : (a : Action) (cs : List ContentValue) → cs ≡ [] → loose_for a cs ≡ []
-loose_none Sync cs is = is
-loose_none Handheld cs is = refl
-loose_none Desktop cs is = is
+offered_none : (a : Action) (s : Sides) → s.loose_live ≡ [] → s.all_live ≡ [] → offered_for a s ≡ []
+offered_none Sync s loose all = loose
+offered_none Handheld s loose all = refl
+offered_none Desktop s loose all = loose
+offered_none Both s loose all = all
 
-none_added : (a : Action) (s : Sides) → s.loose_live ≡ [] → ((i : ℕ) → (fate_for a s i).news ≡ None) → (choice_for a s).adds ≡ []
-none_added a s loose none =
+none_added : (a : Action) (s : Sides) → s.loose_live ≡ [] → s.all_live ≡ [] → ((i : ℕ) → (fate_for a s i).news ≡ None) → (choice_for a s).adds ≡ []
+none_added a s loose all none =
     let each : ((i : ℕ) → option_to_list (fate_for a s i).news ≡ []) = λ i. ap option_to_list (none i) in
     let offers : offers_for a s ≡ []
-    = ap (λ cs. cs ++ each_id (λ i. option_to_list (fate_for a s i).news)) (loose_none a s.loose_live loose)
+    = ap (λ cs. cs ++ each_id (λ i. option_to_list (fate_for a s i).news)) (offered_none a s loose all)
     ∙ flat_map-same (λ i. option_to_list (fate_for a s i).news) (λ i. []) (ids_below id_bound) each ∙ flat_map-none (ids_below id_bound) in
     ap (unpaired (λ c. count_of c (partners_for a s))) offers
 
@@ -97,6 +99,7 @@ unbased_news : (a : Action) (h d : SideState) → (fate_under a no_base h d).new
 unbased_news Sync h d = refl
 unbased_news Handheld h d = refl
 unbased_news Desktop h d = refl
+unbased_news Both h d = refl
 
 never_based : (zero : Bool) → (if zero then no_base else no_base) ≡ no_base
 never_based true = refl
@@ -141,7 +144,7 @@ module _ (meeting : Meeting) (task : Task) where
       let a : Action = action_or_sync task.action in
       let s : Sides = sides_by (view meeting task) None task.base (agrees meeting) in
       ap (λ rows. (choice_for a (sides_by (view meeting task) rows task.base (agrees meeting))).adds) none
-      ∙ none_added a s refl (λ i. ap (λ b. (fate_under a b (s.handheld i) (s.desktop i)).news) (never_based (i == 0))
+      ∙ none_added a s refl refl (λ i. ap (λ b. (fate_under a b (s.handheld i) (s.desktop i)).news) (never_based (i == 0))
       ∙ unbased_news a (s.handheld i) (s.desktop i))
 
   -- it is opened where the handheld has it, and else made where the desktop has rows

@@ -80,7 +80,7 @@ commit_stop : {L : Type 0} (talk : L → Option Talk) (fault : L → Option Link
 commit_stop talk fault meeting old new commit.DeskFault said = said
 commit_stop talk fault meeting old new commit.NoMemory said = tt
 
--- what is said where the user has no slot, and where a limit would be passed, or a new handheld would cost live rows
+-- what is said where the user has no slot, and where a limit would be passed, or the session would cost live rows
 abbrev pub SaysUnseated : {L : Type 0} → (L → Option Talk) → (L → L → Type 0) → (L → Option LinkFault) → (L → ℕ) → Meeting → L → L
     → Result (Vec DbReport) Stop → Type 0
 SaysUnseated talk since fault downs meeting old new answer =

@@ -26,7 +26,7 @@ use Rattle.conduit_rules.specs.ById.{ids_below, id_bound}
 use Rattle.conduit_rules.specs.States.{first}
 use Rattle.conduit_rules.specs.Views.{fast_view, slow_view}
 use Rattle.conduit_rules.specs.declared.action.Action.{Action}
-use Rattle.conduit_rules.specs.declared.action.Action.TheVariants.{Sync, Handheld, Desktop}
+use Rattle.conduit_rules.specs.declared.action.Action.TheVariants.{Sync, Handheld, Desktop, Both}
 use Rattle.conduit_rules.specs.declared.view.Seen.{Seen}
 use Rattle.conduit_rules.specs.declared.view.View.{View}
 use Rattle.desktop_session.specs.Orders.{CanOpen}
@@ -100,6 +100,8 @@ reason-listed (Some Handheld) (Some d) None base = refl
 reason-listed (Some Handheld) (Some d) (Some r) base = refl
 reason-listed (Some Desktop) (Some d) None base = refl
 reason-listed (Some Desktop) (Some d) (Some r) base = refl
+reason-listed (Some Both) (Some d) None base = refl
+reason-listed (Some Both) (Some d) (Some r) base = refl
 
 pub job-skip : (meeting : Meeting) (task : Task) → (job_for meeting task).skip ≡ skip_of task
 unfolding skip_of

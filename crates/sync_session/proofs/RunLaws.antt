@@ -53,7 +53,7 @@ use Rattle.session_plan.specs.PlannedLosses.{loss_planned}
 use Rattle.session_plan.specs.PlannedReports.{reports_planned}
 use Rattle.sync_session.proofs.OutcomeLaws.{EndsSo, SaysRefusal, cause_says, ends_unwritten, later_stop, news_ends, seated_says}
 
--- ---- what is found of the limits, and of what a new handheld would cost
+-- ---- what is found of the limits, and of what the session would cost
 
 module _ (meeting : Meeting) (over loss : Option (List ℕ)) (reported : List DbReport) where
   judged_stop : {L : Type 0} (talk : L → Option Talk) (fault : L → Option LinkFault) (old new : L) (cause : Stop)
@@ -166,7 +166,7 @@ module _ {L F : Type 0} (talk : L → Option Talk) (since : L → L → Type 0) 
         rw (own_shelves, so.heads_are, length-map meeting.device.databases (λ (database : DatabaseValue). listed database.head), so.slots)
         (limit_is_first_over meeting so.rests.proper planned are)
 
-    -- and so is what is found of a new handheld
+    -- and so is what is found of its cost
     own_loss : (user : UserInfo) (planned : List Planned) → user ≡ meeting.device.user → ArePlannedFor meeting planned
         → loss_planned user (marks_in desk) (shelves_in desk) planned ≡ first_loss meeting
     own_loss user planned same are = rw (same, so.slots, so.picked) (loss_is_first_loss meeting planned are)

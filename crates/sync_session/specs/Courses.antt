@@ -150,8 +150,8 @@ abbrev pub reported : Result Prepared Stop → Result (Vec DbReport) Stop
 reported (Ok prepared) = Ok prepared.reports
 reported (Err cause) = Err cause
 
--- the limits were looked at, where the handheld listed so many databases, and what a new handheld
--- would cost
+-- the limits were looked at, where the handheld listed so many databases, and what the session would
+-- cost
 abbrev pub JudgesPlanned : {F : Type 0} → DeskValue F → UserInfo → ℕ → List Planned
     → Result (Vec DbReport) Stop → Type 0
 JudgesPlanned desk user listed planned answer =

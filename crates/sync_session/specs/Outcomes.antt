@@ -165,8 +165,8 @@ pub record IsLimit {L : Type 0} (talk : L → Option Talk) (meeting : Meeting) (
   pub first : first_over meeting ≡ Some name
   pub does : Does talk (before_writes meeting) old new
 
--- no limit would be passed, the handheld never ended a session, the slot of its user did, and this
--- database would lose live rows of the desktop first; all is read and nothing written
+-- no limit would be passed, and by this database the session would cost the desktop live rows first;
+-- all is read and nothing written
 pub record IsNewHandheld {L : Type 0} (talk : L → Option Talk) (meeting : Meeting) (old new : L)
     (name : List ℕ) : Type 0 where
   pub within : first_over meeting ≡ None
@@ -217,8 +217,8 @@ StopsAtLimit name (Err (stop.Session cause)) = Unit {0}
 StopsAtLimit name (Err (stop.Limit other)) = other ≡ name
 StopsAtLimit name (Err other) = ⊥
 
--- it stopped for a new handheld, by which this database would lose live rows, unless what it said
--- or memory stopped it before
+-- it stopped for the live rows that this database would lose, unless what it said or memory stopped
+-- it before
 abbrev pub StopsAtLoss : List ℕ → Result (Vec DbReport) Stop → Type 0
 StopsAtLoss name (Ok reports) = ⊥
 StopsAtLoss name (Err (stop.Session cause)) = Unit {0}
@@ -230,7 +230,7 @@ StopsAtLoss name (Err other) = ⊥
 -- A session of these two sides ended, or it stopped: before the desktop's commit or behind it, and
 -- by its cause. Where the handheld's user has no slot, nothing but the user is asked for, and it
 -- stops for that; where a limit would be passed, nothing is written, and it stops for that or
--- before; and else where a new handheld would cost the desktop live rows.
+-- before; and else where it would cost the desktop live rows.
 pub record SessionEnds {L : Type 0} (talk : L → Option Talk) (since : L → L → Type 0)
     (fault : L → Option LinkFault) (downs : L → ℕ)
     (meeting : Meeting) (old new : L) (folder : Tellings)

@@ -13,7 +13,7 @@ refusal_by (Some name) loss = Some (stop.Limit name)
 refusal_by None (Some name) = Some (stop.NewHandheld name)
 refusal_by None None = None
 
--- what is told where the limits were looked at, and then what a new handheld would cost the
+-- what is told where the limits were looked at, and then what the session would cost the
 -- desktop: the name of the first database that would pass a limit; else of the first one that would
 -- lose live rows; else the reports; unless memory ran out
 abbrev pub Judges : Option (List ℕ) → Option (List ℕ) → List DbReport

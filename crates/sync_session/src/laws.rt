@@ -58,7 +58,7 @@ pub fn the_first_over_is_the_meetings()
         → limit_in meeting planned ≡ first_over meeting }
 {}
 
-/// The first planned database by which a new handheld would cost the desktop live rows is the first one of the meeting.
+/// The first planned database by which the session would cost the desktop live rows is the first one of the meeting.
 pub fn the_first_loss_is_the_meetings()
     ensures { (meeting : Meeting) (planned : List Planned) → ArePlannedFor meeting planned
         → loss_planned meeting.device.user (slot_of meeting).marks (slot_of meeting).shelves planned

@@ -56,7 +56,7 @@ pub fn read_and_plan<L: Link, D: Folder>(
     Ok(plan_all(alloc, desk, agree, jobs, views)?)
 }
 
-// Why a session stops before it writes, if it does: for the limit that was found, or else for what a new handheld would cost the desktop.
+// Why a session stops before it writes, if it does: for the limit that was found, or else for the live rows that it would cost the desktop.
 fn refusal_of<D: Folder>(
     limit: Option<DbName>,
     desk: &Desk<D>,
@@ -75,7 +75,7 @@ fn refusal_of<D: Folder>(
     }
 }
 
-// Looks at the limits of both sides, then at what a new handheld would cost, and tells what will have been done. `listed` is how many
+// Looks at the limits of both sides, then at what the session would cost, and tells what will have been done. `listed` is how many
 // databases the handheld listed.
 fn judge<D: Folder>(
     alloc: Global,
@@ -93,7 +93,7 @@ fn judge<D: Folder>(
     }
 }
 
-/// Reads and plans each database of a session, and looks at the limits of both sides, and at what a new handheld would cost the desktop.
+/// Reads and plans each database of a session, and looks at the limits of both sides, and at what it would cost the desktop.
 pub fn prepare<L: Link, D: Folder>(
     alloc: Global,
     linked: &mut Linked<L>,

@@ -178,7 +178,7 @@ fn run<L: Link, D: Folder>(alloc: Global, link: L, desk: Desk<D>, wishes: &Wishe
 }
 
 /// Runs a session of a handheld behind a link with a desktop, from the wake to the end: both sides meet, every database is read and
-/// planned, the limits and what a new handheld would cost the desktop are looked at, the handheld gets its news, the desktop commits, and the handheld's databases are purged.
+/// planned, the limits and what the session would cost the desktop are looked at, the handheld gets its news, the desktop commits, and the handheld's databases are purged.
 ///
 /// The link and the desktop's folder come back however it ended. Over a link that tells its handheld the session ends with both sides
 /// merged, or it stops before the desktop's commit or behind it, and says why.
