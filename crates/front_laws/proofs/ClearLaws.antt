@@ -12,6 +12,7 @@ use Rattle.conduit_rules.proofs.AgreedLaws.{RowsDiffer}
 use Rattle.record_merge.specs.Merging.{AreShown, is_held_live}
 use Rattle.record_merge.specs.Writes.{Write, replace, add, purge, clean_up, reset, after}
 use Rattle.record_merge.proofs.AfterLaws.{finished, differ-filter, has-purged}
+use Rattle.record_merge.proofs.BoundLaws.{differ-clean}
 use Rattle.record_merge.proofs.PutLaws.{without_record-nil, without_record-cons}
 use Rattle.record_merge.proofs.HeldLaws.{held-clean, held-cleaned}
 
@@ -56,14 +57,6 @@ held-without : (i : ℕ) (records : List Record) (j : ℕ) → RowsDiffer record
     → held (without_record i records) j ≡ (if j == i then nothing else held records j)
 held-without i [] j differ = grind (arith, without_record-nil i)
 held-without i (r ∷ records) j differ = grind (arith, without_record-cons i r records, held-without i records j differ.1)
-
-first-clean : (records : List Record) (j : ℕ) → first j records ≡ None → first j (map clean records) ≡ None
-first-clean [] j none = refl
-first-clean (r ∷ records) j none = grind (arith, none, first-clean records j)
-
-differ-clean : (records : List Record) → RowsDiffer records → RowsDiffer (map clean records)
-differ-clean [] differ = tt
-differ-clean (r ∷ records) differ = (first-clean records r.id differ.0, differ-clean records differ.1)
 
 -- the row under an id is live, and an id without a row holds nothing, or what it held before
 abbrev pub Fits : Option ContentValue → SideState → SideState → Type 0

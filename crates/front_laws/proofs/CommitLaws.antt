@@ -13,7 +13,7 @@ use Rattle.conduit_rules.specs.Plans.{replacement, lost, replaced_rows, gone_row
 use Rattle.conduit_rules.specs.States.{SideState, nothing, live, live_of, archived_of, content_of, held, held_where, BaseState, no_base, base_at}
 use Rattle.conduit_rules.specs.Views.{view_held}
 use Rattle.conduit_rules.specs.declared.action.Action.{Action}
-use Rattle.conduit_rules.specs.declared.action.Action.TheVariants.{Sync, Handheld, Desktop}
+use Rattle.conduit_rules.specs.declared.action.Action.TheVariants.{Sync, Handheld, Desktop, Both}
 use Rattle.conduit_rules.specs.declared.view.Seen.{Seen}
 use Rattle.conduit_rules.proofs.ActionLaws.{desktop-is}
 use Rattle.conduit_rules.proofs.AgreedLaws.{RowsDiffer}
@@ -204,17 +204,19 @@ records-again ch h given records ws now later differ bounded shows free are then
 
 -- ---- the two places
 
--- the next session of both sides, or of one that goes by the desktop
+-- the next session of both sides and their base, or of one that goes by the desktop
 abbrev pub LooksAtRows : Action → Type 0
 LooksAtRows Sync = Unit {0}
 LooksAtRows Handheld = ⊥
 LooksAtRows Desktop = Unit {0}
+LooksAtRows Both = ⊥
 
 chosen-behind : (a : Action) (ch : Choice) {h : ℕ → SideState} {given : List ℕ} {view : List Seen} (g : Bool) → LooksAtRows a → Behind ch h given view g
     → choice_for a (next_sides ch h given view g) ≡ kept_alone (row_under ch given)
 chosen-behind Sync ch {h} {view} g looks b = sync-behind ch h view g b
 chosen-behind Handheld ch g looks b = absurd looks
 chosen-behind Desktop ch {h} {view} g looks b = desktop-behind ch h view g b
+chosen-behind Both ch g looks b = absurd looks
 
 ends-alike : (ch : Choice) (h : ℕ → SideState) (given : List ℕ) (records : List Record) (archive : List (ℕ × ContentValue)) {c1 : Choice} (now : ℕ → SideState)
     (later : List ℕ) (z : List Record)

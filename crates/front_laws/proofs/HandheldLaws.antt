@@ -1,20 +1,21 @@
--- Sessions that go by the handheld: one that stopped is ended by the next one as it would have ended.
-use Rattle.std.proofs.Common.{◌≡◌, ℕ, zero, suc, ◌<◌, ◌==◌, ◌||◌, ◌&&◌, List, [], ◌∷◌, ◌++◌, refl, ap, ◌∙◌, sym, subst, arith, true, false, Bool, Option, Some}
+-- Sessions that go by the handheld, and others that keep each of its live records: one that stopped is ended by the next one as it would have ended.
+use Rattle.std.proofs.Common.{◌≡◌, ℕ, zero, suc, ◌<◌, ◌==◌, ◌||◌, List, [], ◌∷◌, ◌++◌, refl, ap, ◌∙◌, sym, subst, arith, true, false, Bool, Option, Some}
 use Rattle.std.proofs.Common.{None, if◌then◌else◌, nat_lt, take}
 use Rattle.std.specs.Option.{option_or}
 use Rattle.std.proofs.lemmas.Bool.Decides.{nat_tests}
 use Rattle.std.proofs.lemmas.List.Folds.{list_any-append}
 use Rattle.pdb_values.specs.Contents.{ContentValue}
 use Rattle.pdb_values.specs.declared.record.Record.{Record}
-use Rattle.conduit_rules.specs.ById.{id_bound, each_id, with_id}
+use Rattle.conduit_rules.specs.ById.{id_bound, at, each_id, with_id}
 use Rattle.conduit_rules.specs.Choices.{Choice}
 use Rattle.conduit_rules.specs.States.{SideState, nothing, live_of, archived_of, held}
+use Rattle.conduit_rules.specs.declared.action.Action.{Action}
 use Rattle.conduit_rules.specs.declared.action.Action.TheVariants.{Handheld}
 use Rattle.conduit_rules.proofs.ActionLaws.{handheld-is}
 use Rattle.conduit_rules.proofs.ByIdLaws.{each_below-zero}
 use Rattle.conduit_rules.proofs.ContentLaws.{same_content-same}
 use Rattle.record_merge.specs.Merging.{row_under, merged_archive, is_archived, one_copy_behind}
-use Rattle.record_merge.specs.Writes.{Write, after, clearing}
+use Rattle.record_merge.specs.Writes.{Write, after, clearing, numbered}
 use Rattle.record_merge.proofs.ArchiveLaws.{copies-stand, is_equal, same_entry}
 use Rattle.record_merge.proofs.PutLaws.{differ-ids}
 use Rattle.record_merge.proofs.StopLaws.{handheld-given}
@@ -26,7 +27,6 @@ use Rattle.front_laws.proofs.FirstLaws.{with_ids, with_ids-suc}
 use Rattle.front_laws.proofs.GivenLaws.{clearing-given}
 use Rattle.front_laws.proofs.NewsLaws.{ended_by}
 use Rattle.desk_store.proofs.FindLaws.{or_true}
-use Rattle.record_merge.proofs.BothLaws.{no_contents}
 
 -- ---- a stop before the commit
 
@@ -125,55 +125,86 @@ all-below xs f (suc n) stand =
 
 -- ---- a stop behind the commit
 
-live_none : (b : Bool) (h : SideState) → (b ≡ false → h ≡ nothing) → (if b then option_or (live_of h) None else None) ≡ None → live_of h ≡ None
-live_none b h bare is = grind arith
-
 kept_now : (k : Option ContentValue) (h now : SideState) → (k ≡ None → live_of h ≡ None) → Fits k h now → live_of now ≡ k
 kept_now k h now none fits = grind arith
 
 archived_before : (k : Option ContentValue) (h now : SideState) {c : ContentValue} → Fits k h now → archived_of now ≡ Some c → archived_of h ≡ Some c
 archived_before k h now fits is = grind arith
 
-row_is : (x : Finding) (given : List ℕ) (i : ℕ)
-    → row_under (chosen Handheld x) given i ≡ (if nat_lt i id_bound then option_or (live_of (shown x i)) None else None)
-row_is x given i = grind (arith, handheld-is (sides x), no_contents given)
+live_none : (b : Bool) (h : SideState) (o : Option ContentValue) → (b ≡ false → h ≡ nothing) → (if b then option_or (live_of h) o else None) ≡ None
+    → live_of h ≡ None
+live_none b h o bare is = grind arith
 
 -- what it archives stands in the archive
-archived-stands : (x : Finding) (i : ℕ) (c : ContentValue) → i < id_bound → archived_of (shown x i) ≡ Some c
-    → is_archived (i, c) (merged_archive (chosen Handheld x) x.archive) ≡ true
-archived-stands x i c l is =
-    copies-stand (i, c) [] (x.archive ++ (chosen Handheld x).archive)
-    ∙ list_any-append (λ (e : ℕ × ContentValue). is_equal e (i, c)) x.archive (chosen Handheld x).archive
-    ∙ ap (λ b. is_archived (i, c) x.archive || b) (ap (λ ch. is_archived (i, c) (Choice.archive ch)) (handheld-is (sides x))
-    ∙ among-below (λ j. archived_of (shown x j)) i id_bound l is)
-    ∙ or_true (is_archived (i, c) x.archive)
+archived-stands : (ch : Choice) (old : List (ℕ × ContentValue)) (e : ℕ × ContentValue) → is_archived e ch.archive ≡ true
+    → is_archived e (merged_archive ch old) ≡ true
+archived-stands ch old e there =
+    copies-stand e [] (old ++ ch.archive)
+    ∙ list_any-append (λ (x : ℕ × ContentValue). is_equal x e) old ch.archive
+    ∙ ap (λ b. is_archived e old || b) there
+    ∙ or_true (is_archived e old)
 
-abbrev kept_and : (ℕ → Option ContentValue) → List (ℕ × ContentValue) → Choice
+abbrev pub kept_and : (ℕ → Option ContentValue) → List (ℕ × ContentValue) → Choice
 kept_and keep archive = record { keep = keep; archive = archive; adds = [] }
+
+-- the archived records that a session finds
+abbrev pub archived_in : Finding → List (ℕ × ContentValue)
+archived_in x = each_id (λ i. with_id i (archived_of (shown x i)))
+
+-- an action keeps what the handheld has live under its ids, and archives what it has archived; and once both sides are merged, but for purges, it does
+-- nothing else
+pub record KeepsLive (a : Action) : Type 0 where
+  pub keep : (x : Finding) (i : ℕ) → (chosen a x).keep i ≡ live_of (shown x i)
+  pub archive : (x : Finding) (i : ℕ) (c : ContentValue) → i < id_bound → archived_of (shown x i) ≡ Some c → is_archived (i, c) (chosen a x).archive ≡ true
+  pub again : (x : Finding) (given : List ℕ) (n : ℕ)
+      → ((i : ℕ) → live_of (shown (left_behind_commit a x given n) i) ≡ row_under (chosen a x) given i)
+      → chosen a (left_behind_commit a x given n) ≡ kept_and (row_under (chosen a x) given) (archived_in (left_behind_commit a x given n))
+
+module _ (a : Action) (keeps : KeepsLive a) (x : Finding) (given : List ℕ) (n : ℕ) (read : IsRead x) (got : GotIds a x given)
+    (then_read : IsRead (left_behind_commit a x given n)) where
+  fits-then : (i : ℕ) → Fits (row_under (chosen a x) given i) (shown x i) (shown (left_behind_commit a x given n) i)
+  fits-then i =
+      let are = clearing-take (row_under (chosen a x) given) n (clearing (chosen a x) (shown x))
+      (clearing-given (chosen a x) (shown x) given x.records read.bounded read.shows got) in
+      subst (Fits (row_under (chosen a x) given i) (shown x i)) (sym (then_read.shows i)) (fits-behind a given (clearing_done a x n) read got are i)
+
+  -- the rows stay, and what the handheld still has archived is archived once more
+  pub kept-behind : chosen a (left_behind_commit a x given n)
+      ≡ kept_and (row_under (chosen a x) given) (archived_in (left_behind_commit a x given n))
+  kept-behind = keeps.again x given n
+      (λ i. kept_now (row_under (chosen a x) given i) (shown x i) (shown (left_behind_commit a x given n) i)
+      (λ none. live_none (nat_lt i id_bound) (shown x i) (at i (numbered given (chosen a x).adds)) (over_bound x read i)
+      (ap (λ k. if nat_lt i id_bound then option_or k (at i (numbered given (chosen a x).adds)) else None) (sym (keeps.keep x i)) ∙ none)) (fits-then i))
+
+  pub live-behind : (later : List ℕ) → EndAlike (ended a (left_behind_commit a x given n) later) (ended a x given)
+  live-behind later =
+      let ch = chosen a x in
+      let y = left_behind_commit a x given n in
+      let ws = clearing_done a x n in
+      let keep = row_under ch given in
+      let are = clearing-take keep n (clearing ch (shown x)) (clearing-given ch (shown x) given x.records read.bounded read.shows got) in
+      let more = archived_in y in
+      let old = merged_archive ch x.archive in
+      let all = all-below old (λ i. archived_of (shown y i)) id_bound
+      (λ i c l e. archived-stands ch x.archive (i, c) (keeps.archive x i c l (archived_before (keep i) (shown x i) (shown y i) (fits-then i) e))) in
+      let same_records = records-again ch (shown x) given x.records ws (shown y) later (differ-ids x.records read.ids) read.bounded read.shows got are
+      (differ-ids y.records then_read.ids) then_read.bounded then_read.shows fits-then in
+      subst (λ c. EndAlike (ended_by c (shown y) later y.records old) (ended a x given)) (sym kept-behind) (record {
+        records = same_records;
+        rows = rows-again ch given later;
+        base = base-again ch (shown x) (shown y) given later;
+        archive = copies-more [] old more all ∙ copies-again [] (x.archive ++ ch.archive);
+      })
+
+pub handheld-keeps : KeepsLive Handheld
+handheld-keeps = record {
+  keep = λ x i. ap (λ ch. Choice.keep ch i) (handheld-is (sides x));
+  archive = λ x i c l is. ap (λ ch. is_archived (i, c) (Choice.archive ch)) (handheld-is (sides x))
+      ∙ among-below (λ j. archived_of (shown x j)) i id_bound l is;
+  again = λ x given n kept. let y = left_behind_commit Handheld x given n in
+      handheld-is (sides y) ∙ (λ k. record { keep = λ i. kept i k; archive = archived_in y; adds = [] });
+}
 
 pub handheld-behind : (x : Finding) (given later : List ℕ) (n : ℕ) → IsRead x → GotIds Handheld x given → IsRead (left_behind_commit Handheld x given n)
     → EndAlike (ended Handheld (left_behind_commit Handheld x given n) later) (ended Handheld x given)
-handheld-behind x given later n read got then_read =
-    let ch = chosen Handheld x in
-    let y = left_behind_commit Handheld x given n in
-    let ws = clearing_done Handheld x n in
-    let keep = row_under ch given in
-    let are = clearing-take keep n (clearing ch (shown x)) (clearing-given ch (shown x) given x.records read.bounded read.shows got) in
-    let fits : (i : ℕ) → Fits (keep i) (shown x i) (shown y i) =
-    λ i. subst (Fits (keep i) (shown x i)) (sym (then_read.shows i)) (fits-behind Handheld given ws read got are i) in
-    let kept : (i : ℕ) → live_of (shown y i) ≡ keep i =
-    λ i. kept_now (keep i) (shown x i) (shown y i)
-    (λ none. live_none (nat_lt i id_bound) (shown x i) (over_bound x read i) (sym (row_is x given i) ∙ none)) (fits i) in
-    let more = each_id (λ i. with_id i (archived_of (shown y i))) in
-    let is : chosen Handheld y ≡ kept_and keep more = handheld-is (sides y) ∙ (λ k. record { keep = λ i. kept i k; archive = more; adds = [] }) in
-    let old = merged_archive ch x.archive in
-    let all = all-below old (λ i. archived_of (shown y i)) id_bound
-    (λ i c l e. archived-stands x i c l (archived_before (keep i) (shown x i) (shown y i) (fits i) e)) in
-    let same_records = records-again ch (shown x) given x.records ws (shown y) later (differ-ids x.records read.ids) read.bounded read.shows got are
-    (differ-ids y.records then_read.ids) then_read.bounded then_read.shows fits in
-    subst (λ c. EndAlike (ended_by c (shown y) later y.records old) (ended Handheld x given)) (sym is) (record {
-      records = same_records;
-      rows = rows-again ch given later;
-      base = base-again ch (shown x) (shown y) given later;
-      archive = copies-more [] old more all ∙ copies-again [] (x.archive ++ ch.archive);
-    })
+handheld-behind x given later n read got then_read = live-behind Handheld handheld-keeps x given n read got then_read later

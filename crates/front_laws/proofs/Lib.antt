@@ -1,7 +1,9 @@
 pub mod AlongLaws
 pub mod AmongActs
 pub mod AnsweredLaws
+pub mod BaselessLaws
 pub mod BehindActs
+pub mod ChosenLaws
 pub mod ClearLaws
 pub mod CommitLaws
 pub mod CountLaws
@@ -14,6 +16,9 @@ pub mod FitLaws
 pub mod FrontLaws
 pub mod GivenLaws
 pub mod HandheldLaws
+pub mod InPlaceLaws
+pub mod LetGoLaws
+pub mod LifeLaws
 pub mod LossLaws
 pub mod ManyLaws
 pub mod MeetingLaws
@@ -21,6 +26,7 @@ pub mod MergeActs
 pub mod MergedLaws
 pub mod NameLaws
 pub mod NewIdsLaws
+pub mod NewsHeldLaws
 pub mod NewsLaws
 pub mod OpenActs
 pub mod OrderActs
@@ -46,6 +52,8 @@ pub mod SkippedLaws
 pub mod SlotLaws
 pub mod SortedLaws
 pub mod SoundLaws
+pub mod StandLaws
+pub mod StayLaws
 pub mod StopLaws
 pub mod TaskActs
 pub mod TaskLaws

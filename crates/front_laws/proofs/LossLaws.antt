@@ -1,27 +1,31 @@
--- A session that is run again behind one that stopped costs the desktop no live row by a new handheld, where the first one would have cost none.
-use Rattle.std.proofs.Common.{◌≡◌, ◌∙◌, ◌⊎◌, ◌&&◌, ◌||◌, refl, ap, sym, subst, inl, inr, ℕ, Bool, true, false, List, [], ◌∷◌, Option, Some, None, is_none, is_some}
-use Rattle.std.proofs.Common.{if◌then◌else◌, not}
-use Rattle.std.specs.Prelude.{find}
+-- A session that is run again behind one that stopped costs the desktop no live row, where the first one would have cost none.
+use Rattle.std.proofs.Common.{◌≡◌, ◌∙◌, ◌⊎◌, ◌&&◌, ◌||◌, ◌++◌, refl, ap, sym, subst, inl, inr, ℕ, Bool, true, false, List, [], ◌∷◌, Option, Some, None, is_none, is_some}
+use Rattle.std.proofs.Common.{if◌then◌else◌, not, arith}
+use Rattle.std.specs.Prelude.{find, nat_lt}
 use Rattle.std.specs.List.{AllByRecursion, list_any}
 use Rattle.std.specs.Option.{option_map}
 use Rattle.std.specs.Str.{bytes_eq}
 use Rattle.pdb_values.specs.NamedDatabases.{database_of}
 use Rattle.conduit_rules.specs.Choices.{Choice}
+use Rattle.conduit_rules.specs.ById.{id_bound}
 use Rattle.conduit_rules.specs.Plans.{kept_rows}
+use Rattle.conduit_rules.specs.States.{first}
 use Rattle.conduit_rules.specs.declared.action.Action.{Action}
-use Rattle.conduit_rules.specs.declared.action.Action.TheVariants.{Sync, Handheld, Desktop}
+use Rattle.conduit_rules.specs.declared.action.Action.TheVariants.{Sync, Handheld, Desktop, Both}
 use Rattle.run_words.specs.Actions.{action_for}
+use Rattle.session_plan.specs.Archives.{entries_of}
 use Rattle.session_plan.specs.Choosing.{action_or_sync, agrees, is_sync, view}
 use Rattle.session_plan.specs.Limits.{first_over}
-use Rattle.session_plan.specs.Losses.{first_loss, is_loss, is_lost, is_new, is_new_to}
+use Rattle.session_plan.specs.Losses.{first_loss, is_loss, is_lost, is_stranger, is_stranger_to, is_there, may_lose}
+use Rattle.session_plan.proofs.LossLaws.{stranger_stopped, there-view}
 use Rattle.session_plan.specs.Merges.{merged_slot}
 use Rattle.session_plan.specs.Skips.{active, head_of, reason_by, skip_of}
 use Rattle.session_plan.specs.Tasks.{Meeting, Task, action_of_word, names, records_of, slot_of, task_of}
-use Rattle.front_laws.specs.Losses.{loses_rows}
+use Rattle.front_laws.specs.Losses.{costs_rows, has_lost, loses_rows}
 use Rattle.front_laws.specs.Meetings.{AsksTheSame, IsActive, LeftMerged, action_at, found_of, ids_at}
 use Rattle.front_laws.specs.Repeats.{Finding, GotIds, IsRead, MayStop, Place, among_news, at_end, before_mark, behind_commit, chosen, left}
 use Rattle.front_laws.specs.Repeats.{left_at_end, left_behind_commit}
-use Rattle.front_laws.proofs.RepeatLossLaws.{commit-loses, end-loses, news-loses}
+use Rattle.front_laws.proofs.RepeatLossLaws.{commit-loses, end-loses, news-has_lost, news-loses}
 use Rattle.front_laws.proofs.MeetingLaws.{at-the_end, behind-the_commit, reading-shows}
 use Rattle.front_laws.proofs.MergedLaws.{AreTasks, IsTask}
 use Rattle.front_laws.proofs.TaskLaws.{are-active, device-name, is-active, on_a_side, rows-name}
@@ -37,27 +41,33 @@ use Rattle.front_laws.proofs.UnknownLaws.{none-front}
 
 -- ---- what is lost of one database
 
-lost-found : (m : Meeting) (name : List ℕ) → is_loss m (task_of m name)
-    ≡ (is_sync (action_at m name)
-    && list_any (is_lost (kept_rows (chosen (action_at m name) (found_of m name)).keep) (chosen (action_at m name) (found_of m name)).adds)
-    (found_of m name).rows)
-lost-found m name =
-    ap (λ (ch : Choice). is_sync (action_at m name) && list_any (is_lost (kept_rows ch.keep) ch.adds) (records_of (task_of m name).rows))
-    (chosen-is m (task_of m name))
+-- by which sides a session goes that would cost rows
+abbrev is_cost : Action → Bool → Finding → Bool
+is_cost a stranger x =
+    is_sync a
+    && ((stranger || has_lost x)
+    && list_any (is_lost (kept_rows (chosen a x).keep) (chosen a x).adds (x.archive ++ (chosen a x).archive)) x.rows)
 
-none-lost : (m : Meeting) (name : List ℕ) → (action_at m name ≡ Sync → loses_rows (found_of m name) ≡ false) → is_loss m (task_of m name) ≡ false
+lost-found : (m : Meeting) (name : List ℕ) → is_loss m (task_of m name) ≡ is_cost (action_at m name) (is_stranger m) (found_of m name)
+lost-found m name =
+    let task = task_of m name in
+    ap (λ (ch : Choice). is_sync (action_at m name) && (may_lose m task
+    && list_any (is_lost (kept_rows ch.keep) ch.adds (entries_of (records_of task.archive) ++ ch.archive)) (records_of task.rows)))
+    (chosen-is m task)
+
+none-lost : (m : Meeting) (name : List ℕ) → (action_at m name ≡ Sync → costs_rows (is_stranger m) (found_of m name) ≡ false)
+    → is_loss m (task_of m name) ≡ false
 none-lost m name keeps = lost-found m name ∙ by (action_at m name) keeps
   where
-    by : (a : Action) → (a ≡ Sync → loses_rows (found_of m name) ≡ false)
-        → (is_sync a && list_any (is_lost (kept_rows (chosen a (found_of m name)).keep) (chosen a (found_of m name)).adds) (found_of m name).rows) ≡ false
+    by : (a : Action) → (a ≡ Sync → costs_rows (is_stranger m) (found_of m name) ≡ false) → is_cost a (is_stranger m) (found_of m name) ≡ false
     by Sync keeps = keeps refl
     by Handheld keeps = refl
     by Desktop keeps = refl
+    by Both keeps = refl
 
-lost-sync : (m : Meeting) (name : List ℕ) → is_loss m (task_of m name) ≡ false → action_at m name ≡ Sync → loses_rows (found_of m name) ≡ false
-lost-sync m name is sync =
-    let x = found_of m name in
-    sym (ap (λ a. is_sync a && list_any (is_lost (kept_rows (chosen a x).keep) (chosen a x).adds) x.rows) sync) ∙ sym (lost-found m name) ∙ is
+pub lost-sync : (m : Meeting) (name : List ℕ) → is_loss m (task_of m name) ≡ false → action_at m name ≡ Sync
+    → costs_rows (is_stranger m) (found_of m name) ≡ false
+lost-sync m name is sync = sym (ap (λ a. is_cost a (is_stranger m) (found_of m name)) sync) ∙ sym (lost-found m name) ∙ is
 
 -- ---- the first of them
 
@@ -68,16 +78,7 @@ none-in m (t ∷ ts) are all keeps = rw (ap (is_loss m) are.0 ∙ keeps t.name a
 
 none-first : (m : Meeting) → ((name : List ℕ) → IsActive m name → is_loss m (task_of m name) ≡ false) → first_loss m ≡ None
 unfolding first_loss
-none-first m keeps = by (is_new m) (none-in m (active m) (are-active m) (active_names m) keeps)
-  where
-    by : (b : Bool) → find (is_loss m) (active m) ≡ None
-        → (if b then option_map (λ (task : Task). task.name) (find (is_loss m) (active m)) else None) ≡ None
-    by true none = ap (option_map (λ (task : Task). task.name)) none
-    by false none = refl
-
-not-new : (m : Meeting) → is_new m ≡ false → first_loss m ≡ None
-unfolding first_loss
-not-new m is = rw is refl
+none-first m keeps = ap (option_map (λ (task : Task). task.name)) (none-in m (active m) (are-active m) (active_names m) keeps)
 
 none-found : (m : Meeting) (ts : List Task) (t : Task) → IsTask t ts → find (is_loss m) ts ≡ None → is_loss m t ≡ false
 none-found m [] t there none = absurd there
@@ -89,11 +90,11 @@ none-found m (u ∷ ts) t there none = by (is_loss m u) refl none there (none-fo
     by false is none (inl same) later = sym (ap (is_loss m) same) ∙ is
     by false is none (inr there) later = later there none
 
-none-of : (m : Meeting) (name : List ℕ) → first_loss m ≡ None → is_new m ≡ true → IsActive m name → is_loss m (task_of m name) ≡ false
+pub none-of : (m : Meeting) (name : List ℕ) → first_loss m ≡ None → IsActive m name → is_loss m (task_of m name) ≡ false
 unfolding first_loss
-none-of m name none new is =
+none-of m name none is =
     none-found m (active m) (task_of m name) (is-active m name is.there is.kept)
-    (by (find (is_loss m) (active m)) (rw new at none))
+    (by (find (is_loss m) (active m)) none)
   where
     by : (o : Option Task) → option_map (λ (task : Task). task.name) o ≡ None → o ≡ None
     by None none = refl
@@ -141,17 +142,38 @@ active-back m next name others asks is = elim (decide m name) [
 
 -- ---- among the news
 
-among-new : (m next : Meeting) (given : List ℕ) → StandsAmongNews m given next.device → slot_of next ≡ slot_of m → is_new next ≡ is_new m
-among-new m next given stands slot = elim stands.begun [
-  | inl begun ↦ λ k. is_new_to (begun k) (slot k).marks
-  | inr (user, databases) ↦ λ k. is_new_to (user k) (slot k).marks
+stranger-back : (m next : Meeting) (given : List ℕ) → StandsAmongNews m given next.device → slot_of next ≡ slot_of m
+    → is_stranger next ≡ true → is_stranger m ≡ true
+stranger-back m next given stands slot is = elim stands.begun [
+  | inl begun ↦ stranger_stopped m.device.user (slot_of m).marks (sym (λ k. is_stranger_to (begun k) (slot k).marks) ∙ is)
+  | inr (user, databases) ↦ sym (λ k. is_stranger_to (user k) (slot k).marks) ∙ is
 ]
 
-place-loses : (x : Finding) (place : Place) → IsRead x → MayStop Sync x place → loses_rows x ≡ false → loses_rows (left Sync x place) ≡ false
-place-loses x before_mark read may keeps = keeps
-place-loses x (among_news given n) read may keeps = news-loses x given n may keeps
-place-loses x (behind_commit given n) read may keeps = commit-loses x given n read may.got
-place-loses x (at_end given view g) read may keeps = end-loses x given view g read may.0.got may.1
+-- a stranger or a lost database was one, and what stayed stays
+cost_by : (s t h g l k : Bool) → (t ≡ true → s ≡ true) → (g ≡ true → h ≡ true) → (l ≡ false → k ≡ false) → ((s || h) && l) ≡ false
+    → ((t || g) && k) ≡ false
+cost_by s t h g l k strange lost stay none = grind arith
+
+none_cost : (b l : Bool) → l ≡ false → (b && l) ≡ false
+none_cost b l none = grind arith
+
+-- the view of a session shows the records that are there
+abbrev Sees : Finding → Type 0
+Sees x = (i : ℕ) → is_there x.view i ≡ (nat_lt i id_bound && is_some (first i x.records))
+
+place-costs : (x : Finding) (place : Place) (s t : Bool) → IsRead x → Sees x → MayStop Sync x place → (t ≡ true → s ≡ true)
+    → costs_rows s x ≡ false → costs_rows t (left Sync x place) ≡ false
+place-costs x before_mark s t read sees may strange keeps =
+    cost_by s t (has_lost x) (has_lost x) (loses_rows x) (loses_rows x) strange (λ is. is) (λ is. is) keeps
+place-costs x (among_news given n) s t read sees may strange keeps =
+    let y = left Sync x (among_news given n) in
+    cost_by s t (has_lost x) (has_lost y) (loses_rows x) (loses_rows y) strange (news-has_lost x given n may sees) (news-loses x given n may) keeps
+place-costs x (behind_commit given n) s t read sees may strange keeps =
+    let y = left Sync x (behind_commit given n) in
+    none_cost (t || has_lost y) (loses_rows y) (commit-loses x given n read may.got)
+place-costs x (at_end given view g) s t read sees may strange keeps =
+    let y = left Sync x (at_end given view g) in
+    none_cost (t || has_lost y) (loses_rows y) (end-loses x given view g read may.0.got may.1)
 
 -- ---- the session that is run again
 
@@ -163,28 +185,26 @@ module _ (meeting next : Meeting) (writes : ℕ) (given later : List ℕ) (sound
       reading-shows meeting (task_of meeting name) own.ids own.bounded (fresh name is).honest
 
   among-none : slot_of next ≡ slot_of meeting → StandsAmongNews meeting given next.device → first_loss meeting ≡ None → first_loss next ≡ None
-  among-none slot stands costs = by (is_new meeting) refl
+  among-none slot stands costs = none-first next each
     where
-      each : is_new meeting ≡ true → (name : List ℕ) → IsActive next name → is_loss next (task_of next name) ≡ false
-      each new name is_next =
+      each : (name : List ℕ) → IsActive next name → is_loss next (task_of next name) ≡ false
+      each name is_next =
           let is = active-back meeting next name
           (λ none. record {
             handheld = stands.others name none;
             rows = λ k. database_of name (slot k).shelves.rows;
             base = λ k. database_of name (slot k).shelves.bases;
           }) runs.asks is_next in
+          let x = found_of meeting name in
           let read = read-of name is in
           let step = step-among stands is runs.asks slot runs.number read
           (none-front _ (ids_at meeting given name) (ids_at next later name) (fresh name is).fresh) (fresh name is).gone in
           none-lost next name (λ sync.
           let first : action_at meeting name ≡ Sync = sym step.follows.action ∙ sync in
-          ap loses_rows step.follows.finds ∙ ap (λ a. loses_rows (left a (found_of meeting name) step.place)) first
-          ∙ place-loses (found_of meeting name) step.place read (subst (λ a. MayStop a (found_of meeting name) step.place) first step.may)
-          (lost-sync meeting name (none-of meeting name costs new is) first))
-
-      by : (b : Bool) → is_new meeting ≡ b → first_loss next ≡ None
-      by true new = none-first next (each new)
-      by false old = not-new next (among-new meeting next given stands slot ∙ old)
+          ap (costs_rows (is_stranger next)) step.follows.finds ∙ ap (λ a. costs_rows (is_stranger next) (left a x step.place)) first
+          ∙ place-costs x step.place (is_stranger meeting) (is_stranger next) read (there-view meeting (task_of meeting name))
+          (subst (λ a. MayStop a x step.place) first step.may) (stranger-back meeting next given stands slot)
+          (lost-sync meeting name (none-of meeting name costs is) first))
 
   behind-loses : slot_of next ≡ merged_slot meeting given → (stands : StandsBehindCommit meeting given next.device) (name : List ℕ)
       → IsActive meeting name → action_at meeting name ≡ Sync → loses_rows (found_of next name) ≡ false
@@ -218,7 +238,8 @@ module _ (meeting next : Meeting) (writes : ℕ) (given later : List ℕ) (sound
       let same = untouched-at meeting next given name slot (not-active meeting name none) in
       record { handheld = stands.others name none; rows = same.rows; base = same.base }) runs.asks is_next in
       let action : action_at next name ≡ action_at meeting name = λ k. action_or_sync (action_of_word (action_for name (runs.asks.actions k))) in
-      none-lost next name (λ sync. behind-loses slot stands name is (sym action ∙ sync)))
+      none-lost next name (λ sync.
+      none_cost (is_stranger next || has_lost (found_of next name)) (loses_rows (found_of next name)) (behind-loses slot stands name is (sym action ∙ sync))))
 
 pub runs-costless : (meeting next : Meeting) (writes : ℕ) (given later : List ℕ) → IsSoundMeeting meeting → first_over meeting ≡ None
     → first_loss meeting ≡ None → RunsAgain meeting next writes given

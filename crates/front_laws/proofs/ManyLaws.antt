@@ -9,7 +9,7 @@ use Rattle.conduit_rules.specs.Choices.{Choice}
 use Rattle.conduit_rules.specs.Plans.{replaced_rows}
 use Rattle.conduit_rules.specs.States.{base_at}
 use Rattle.conduit_rules.specs.declared.action.Action.{Action}
-use Rattle.conduit_rules.specs.declared.action.Action.TheVariants.{Sync, Handheld, Desktop}
+use Rattle.conduit_rules.specs.declared.action.Action.TheVariants.{Sync, Handheld, Desktop, Both}
 use Rattle.conduit_rules.proofs.ActionLaws.{handheld-is}
 use Rattle.record_merge.specs.Stops.{NoBase}
 use Rattle.record_merge.specs.Writes.{replaces}
@@ -27,6 +27,7 @@ use Rattle.front_laws.proofs.DesktopLaws.{chosen-again}
 use Rattle.front_laws.proofs.MeetingLaws.{all-follow, reading-shows}
 use Rattle.front_laws.proofs.NewsLaws.{news-adds, whole-is}
 use Rattle.front_laws.proofs.SoundLaws.{read-commit, read-news}
+use Rattle.front_laws.proofs.BaselessLaws.{baseless-adds}
 use Rattle.front_laws.proofs.RepeatLaws.{both_repeat, got-any}
 use Rattle.front_laws.proofs.WholeLaws.{holds-end, meetings-hold}
 use Rattle.front_laws.specs.Again.{AllRunAgain, AreFresh, EndsAtMerge, IsFreshBehind, Later, RunsAgain, ids_of_all, last_run}
@@ -46,6 +47,7 @@ read-left a y before_mark read may = read
 read-left Sync y (among_news given n) read may = read-news Sync y given n read may.got
 read-left Handheld y (among_news given n) read may = read-news Handheld y given n read (got-any y given)
 read-left Desktop y (among_news given n) read may = read-news Desktop y given n read may
+read-left Both y (among_news given n) read may = read-news Both y given n read may.got
 read-left a y (behind_commit given n) read may = read-commit a y given n read may.got
 read-left a y (at_end given view g) read may = may.1
 
@@ -80,6 +82,9 @@ adds-left Sync y (among_news given n) read may none =
     (news-adds y given n may (read-news Sync y given n read may.got) ∙ ap length none)
 adds-left Handheld y (among_news given n) read may none = ap (λ (c : Choice). c.adds) (handheld-is (sides (left Handheld y (among_news given n))))
 adds-left Desktop y (among_news given n) read may none = ap (λ (c : Choice). c.adds) (chosen-again y given n) ∙ none
+adds-left Both y (among_news given n) read may none =
+    no_items (chosen Both (left Both y (among_news given n))).adds (length given)
+    (baseless-adds y n may (read-news Both y given n read may.got) ∙ ap length none)
 adds-left a y (behind_commit given n) read may none = adds-behind a y given n read may.got
 adds-left a y (at_end given view g) read may none = end-adds a y given view g read may.0.got may.1
 
@@ -190,6 +195,7 @@ ids-other : (a : Action) (place : Place) (later : List ℕ) → (a ≡ Desktop �
 ids-other Sync place later other = refl
 ids-other Handheld place later other = refl
 ids-other Desktop place later other = absurd (other refl)
+ids-other Both place later other = refl
 
 chain : (x : Finding) (a : Action) {meeting : Meeting} (es : List Later) (later : List ℕ) {name : List ℕ} → action_at meeting name ≡ a
     → AllRunAgain meeting es → IsActive meeting name → IsReady a x (found_of meeting name) → AreFresh (base_at x.base true) meeting es later name

@@ -43,6 +43,8 @@ choice-counted view rows base records false shows free =
       desktop = s.desktop;
       loose_live = s.loose_live;
       loose_archived = s.loose_archived;
+      all_live = s.all_live;
+      all_archived = s.all_archived;
     } in
     ap choice left_out ∙ choice-gone s (λ i. if_gone (s.base i) (shows i) (free i))
 

@@ -11,7 +11,7 @@ use Rattle.conduit_rules.specs.Choices.{Choice}
 use Rattle.conduit_rules.specs.Plans.{gone_rows}
 use Rattle.conduit_rules.specs.States.{SideState, first}
 use Rattle.conduit_rules.specs.declared.action.Action.{Action}
-use Rattle.conduit_rules.specs.declared.action.Action.TheVariants.{Sync, Handheld, Desktop}
+use Rattle.conduit_rules.specs.declared.action.Action.TheVariants.{Sync, Handheld, Desktop, Both}
 use Rattle.conduit_rules.proofs.ActionLaws.{handheld-is}
 use Rattle.record_merge.specs.Merging.{settled_record, gone_record, kept_record, new_under, merged_archive}
 use Rattle.record_merge.specs.Writes.{numbered}
@@ -19,6 +19,7 @@ use Rattle.front_laws.specs.Repeats.{StopsAmongNews, Finding, IsRead, Ending, En
 use Rattle.front_laws.specs.Repeats.{among_news, behind_commit, at_end}
 use Rattle.front_laws.specs.Repeats.{left, MayStop, left_by, left_among_news, left_behind_commit, left_at_end, ids_with, all_ids, AreStops}
 use Rattle.front_laws.specs.Renaming.{AreUnknown, SameEnds}
+use Rattle.front_laws.proofs.BaselessLaws.{baseless-adds, baseless-behind, baseless-commit_adds, baseless-news}
 use Rattle.front_laws.proofs.CommitLaws.{behind-commit, commit-adds, at-end, end-adds}
 use Rattle.front_laws.proofs.DesktopLaws.{desktop-news, chosen-again}
 use Rattle.front_laws.proofs.HandheldLaws.{handheld-news, handheld-behind}
@@ -108,10 +109,21 @@ module _ {x : Finding} (later : List ℕ) (read : IsRead x) where
   desktop_stop (at_end given view g) may then_read got =
       by_ids later (left Desktop x (at_end given view g)) may.0 (at-end Desktop x given later view g read may.0.got then_read)
 
+  baseless_stop : (place : Place) → MayStop Both x place → IsRead (left Both x place) → GotIds Both (left Both x place) later → TakenUp Both x place later
+  baseless_stop before_mark may then_read got = (got, alike_same {e = ended Both x later} {f = ended Both x later} refl)
+  baseless_stop (among_news given n) may then_read got =
+      let both = baseless-news x n may then_read later got in
+      (both.0, alike_same both.1)
+  baseless_stop (behind_commit given n) may then_read got =
+      by_ids later (left Both x (behind_commit given n)) may (baseless-behind x given n read may.got then_read later)
+  baseless_stop (at_end given view g) may then_read got =
+      by_ids later (left Both x (at_end given view g)) may.0 (at-end Both x given later view g read may.0.got then_read)
+
   one_stop : (a : Action) (place : Place) → MayStop a x place → IsRead (left a x place) → GotIds a (left a x place) later → TakenUp a x place later
   one_stop Sync place may then_read got = sync_stop place may then_read got
   one_stop Handheld place may then_read got = handheld_stop place may then_read got
   one_stop Desktop place may then_read got = desktop_stop place may then_read got
+  one_stop Both place may then_read got = baseless_stop place may then_read got
 
 -- ---- one after another
 
@@ -121,6 +133,7 @@ read-left a before_mark read may = read
 read-left Sync {x} (among_news given n) read may = read-news Sync x given n read may.got
 read-left Handheld {x} (among_news given n) read may = read-news Handheld x given n read (got-any x given)
 read-left Desktop {x} (among_news given n) read may = read-news Desktop x given n read may
+read-left Both {x} (among_news given n) read may = read-news Both x given n read may.got
 read-left a {x} (behind_commit given n) read may = read-commit a x given n read may.got
 read-left a (at_end given view g) read may = may.1
 
@@ -156,6 +169,11 @@ pub purges-alone : (a : Action) (x : Finding) (given later : List ℕ) (n : ℕ)
 purges-alone Sync x given later n read got = behind-commit Sync x given n tt read got (read-commit Sync x given n read got) later
 purges-alone Handheld x given later n read got = handheld-behind x given later n read got (read-commit Handheld x given n read got)
 purges-alone Desktop x given later n read got = behind-commit Desktop x given n tt read got (read-commit Desktop x given n read got) later
+purges-alone Both x given later n read got = baseless-behind x given n read got (read-commit Both x given n read got) later
+
+pub baseless-alone : (x : Finding) (given later : List ℕ) (n : ℕ) → StopsAmongNews Both x given n → GotIds Both (left_among_news Both x given n) later
+    → ended Both (left_among_news Both x given n) later ≡ ended Both x (given ++ later)
+baseless-alone x given later n stops got = (baseless-news x n stops (read-news Both x given n stops.read stops.got) later got).1
 
 -- ---- as many ids stand as there are adds
 
@@ -195,11 +213,22 @@ desktop_enough x (behind_commit given n) later read may then_read is =
 desktop_enough x (at_end given view g) later read may then_read is =
     both_lengths given later (chosen Desktop x).adds may.0.each is (end-adds Desktop x given view g read may.0.got then_read)
 
+baseless_enough : (x : Finding) (place : Place) (later : List ℕ) → IsRead x → MayStop Both x place → IsRead (left Both x place)
+    → AreEnough Both x place later
+baseless_enough x before_mark later read may then_read is = is
+baseless_enough x (among_news given n) later read may then_read is =
+    length-append given later ∙ ap (λ m. length given + m) is ∙ baseless-adds x n may then_read
+baseless_enough x (behind_commit given n) later read may then_read is =
+    both_lengths given later (chosen Both x).adds may.each is (baseless-commit_adds x given n read may.got then_read)
+baseless_enough x (at_end given view g) later read may then_read is =
+    both_lengths given later (chosen Both x).adds may.0.each is (end-adds Both x given view g read may.0.got then_read)
+
 one_enough : (a : Action) (x : Finding) (place : Place) (later : List ℕ) → IsRead x → MayStop a x place → IsRead (left a x place)
     → AreEnough a x place later
 one_enough Sync x place later read may then_read is = sync_enough x place later read may then_read is
 one_enough Handheld x place later read may then_read is = handheld_enough x place later may is
 one_enough Desktop x place later read may then_read is = desktop_enough x place later read may then_read is
+one_enough Both x place later read may then_read is = baseless_enough x place later read may then_read is
 
 all_enough : (a : Action) {x : Finding} (places : List Place) (later : List ℕ) → IsRead x → AreStops a x places
     → length later ≡ length (chosen a (left_by a x places)).adds → length (all_ids a places later) ≡ length (chosen a x).adds

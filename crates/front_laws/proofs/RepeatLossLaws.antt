@@ -3,16 +3,18 @@ use Rattle.std.proofs.lemmas.Bool.{cases_lt, or_parts}
 use Rattle.std.proofs.lemmas.Bool.Decides.{nat_tests}
 use Rattle.std.proofs.lemmas.List.{append_assoc}
 use Rattle.std.proofs.lemmas.List.Folds.{list_any-append}
-use Rattle.std.proofs.Common.{◌≡◌, ◌∙◌, ◌<◌, ◌||◌, ◌&&◌, ◌++◌, refl, ap, sym, subst, arith, ℕ, zero, suc, Bool, true, false, not, List, [], ◌∷◌, map, Some, None, inl, inr}
-use Rattle.std.proofs.Common.{if◌then◌else◌, nat_lt, ◌==◌}
+use Rattle.std.proofs.Common.{◌≡◌, ◌∙◌, ◌<◌, ◌||◌, ◌&&◌, ◌++◌, refl, ap, sym, subst, arith, ℕ, zero, suc, Bool, true, false, not, List, [], ◌∷◌, map, Option, Some, None, inl, inr}
+use Rattle.std.proofs.Common.{if◌then◌else◌, is_some, nat_lt, ◌==◌}
 use Rattle.std.specs.List.{list_any}
 use Rattle.std.specs.Prelude.{◌⊎◌, ◌≤◌}
 use Rattle.pdb_values.specs.Contents.{ContentValue}
 use Rattle.pdb_values.specs.declared.record.Record.{Record}
+use Rattle.palm_device.specs.Records.{put_record}
 use Rattle.conduit_rules.specs.ById.{each_below, each_id, id_bound, put, with_id}
 use Rattle.conduit_rules.specs.Choices.{Choice, Sides, choice, sides_of}
 use Rattle.conduit_rules.specs.Contents.{same_content}
 use Rattle.conduit_rules.specs.Plans.{kept_rows}
+use Rattle.conduit_rules.specs.States.{first}
 use Rattle.conduit_rules.specs.Views.{slow_view}
 use Rattle.conduit_rules.specs.Writes.{given_to}
 use Rattle.conduit_rules.specs.declared.action.Action.TheVariants.{Sync}
@@ -21,11 +23,13 @@ use Rattle.conduit_rules.proofs.ByIdLaws.{each_below-same, each_below-suc, each_
 use Rattle.conduit_rules.proofs.ChoiceLaws.{choice-add, choice-put}
 use Rattle.conduit_rules.proofs.ContentLaws.{same_content-same}
 use Rattle.record_merge.specs.Merging.{row_at, row_under, settled_record}
-use Rattle.record_merge.specs.Stops.{AreOf, behind, rest_of, with_add}
+use Rattle.record_merge.specs.Stops.{AreOf, AreWrites, behind, rest_of, with_add}
 use Rattle.record_merge.specs.Writes.{GotFreeIds, Write, add, after, clean_up, giving, purge, replace, reset}
+use Rattle.record_merge.proofs.PutLaws.{first-put, put_over}
 use Rattle.record_merge.proofs.StopLaws.{choice-after, giving-of, of-take, sides-again, writes-of}
-use Rattle.session_plan.specs.Losses.{is_lost, stays}
-use Rattle.front_laws.specs.Losses.{loses_rows}
+use Rattle.session_plan.specs.Losses.{is_among, is_lost, is_there, stays}
+use Rattle.session_plan.proofs.LossLaws.{lost_all_grows, there-slow_view}
+use Rattle.front_laws.specs.Losses.{has_lost, loses_rows}
 use Rattle.front_laws.specs.Repeats.{Finding, GotIds, IsRead, StopsAmongNews, chosen, left_among_news, left_at_end, left_behind_commit, news_done}
 use Rattle.front_laws.proofs.CommitLaws.{chosen-commit, chosen-end, kept_alone, within_bound}
 use Rattle.front_laws.proofs.NewsLaws.{choice-counted}
@@ -64,6 +68,28 @@ module _ {A : Type 0} (p : A → Bool) where
           let same : i ≡ n = omega (arith, below, past) in
           ap (λ b. list_any p (each_below f n) || b) (sym (ap (λ j. list_any p (f j)) same) ∙ is) ∙ or_right (list_any p (each_below f n))
 
+-- ---- records that are there
+
+still : (b : Bool) (old now : Option Record) → (is_some old ≡ true → is_some now ≡ true) → (b && is_some old) ≡ true → (b && is_some now) ≡ true
+still true old now grows is = grows is
+still false old now grows is = is
+
+put-there : (i : ℕ) (c : ContentValue) (records : List Record) (j : ℕ) → is_some (first j records) ≡ true → is_some (first j (put_record i c records)) ≡ true
+put-there i c records j is = ap is_some (first-put i c records j) ∙ by (j == i)
+  where
+    by : (b : Bool) → is_some (if b then Some (put_over i c (first i records)) else first j records) ≡ true
+    by true = refl
+    by false = is
+
+-- replacements and adds take none away
+stays-there : (ws : List Write) (records : List Record) (i : ℕ) → AreWrites ws → is_some (first i records) ≡ true → is_some (first i (after ws records)) ≡ true
+stays-there [] records i writes is = is
+stays-there (replace j c ∷ ws) records i writes is = stays-there ws (put_record j c records) i writes (put-there j c records i is)
+stays-there (add g c ∷ ws) records i writes is = stays-there ws (put_record g c records) i writes (put-there g c records i is)
+stays-there (purge j ∷ ws) records i writes is = absurd writes
+stays-there (clean_up ∷ ws) records i writes is = absurd writes
+stays-there (reset ∷ ws) records i writes is = absurd writes
+
 -- ---- what stays, stays
 
 -- a row has this content
@@ -88,108 +114,146 @@ module _ (ch : Choice) (g : ℕ) (a c : ContentValue) (none : ch.keep g ≡ None
       by true own = rw is
       by false own = absurd cc
 
-  stays-add : stays (kept_rows ch.keep) ch.adds c ≡ true → stays (kept_rows (with_add ch g a).keep) (with_add ch g a).adds c ≡ true
-  stays-add is =
-      by (list_any (has_content c) (kept_rows ch.keep)) (same_content a c) (list_any (λ new. same_content new c) (behind ch.adds)) refl refl
-      (ap (λ xs. list_any (has_content c) (kept_rows ch.keep) || list_any (λ new. same_content new c) xs) (sym next) ∙ is)
+  stays-add : (es : List (ℕ × ContentValue)) → stays (kept_rows ch.keep) ch.adds es c ≡ true
+      → stays (kept_rows (with_add ch g a).keep) (with_add ch g a).adds es c ≡ true
+  stays-add es is =
+      by (list_any (has_content c) (kept_rows ch.keep)) (same_content a c) (list_any (λ new. same_content new c) (behind ch.adds)) (is_among es c) refl refl
+      (ap (λ xs. list_any (has_content c) (kept_rows ch.keep) || (list_any (λ new. same_content new c) xs || is_among es c)) (sym next) ∙ is)
     where
       or_true : (b : Bool) → (b || true) ≡ true
       or_true true = refl
       or_true false = refl
 
-      by : (old own later : Bool) → list_any (has_content c) (kept_rows ch.keep) ≡ old → same_content a c ≡ own → (old || (own || later)) ≡ true
-          → (list_any (has_content c) (kept_rows (put ch.keep g (Some a))) || later) ≡ true
-      by true own later was has is =
+      by : (old own later put_away : Bool) → list_any (has_content c) (kept_rows ch.keep) ≡ old → same_content a c ≡ own
+          → (old || ((own || later) || put_away)) ≡ true
+          → (list_any (has_content c) (kept_rows (put ch.keep g (Some a))) || (later || put_away)) ≡ true
+      by true own later put_away was has is =
           rw (any-grows (has_content c) (λ i. with_id i (ch.keep i)) (λ i. with_id i (put ch.keep g (Some a) i)) id_bound put_same was)
-      by false true later was has is =
+      by false true later put_away was has is =
           rw (any-one (has_content c) (λ i. with_id i (put ch.keep g (Some a) i)) g id_bound below (put_here has))
-      by false false true was has is = or_true (list_any (has_content c) (kept_rows (put ch.keep g (Some a))))
-      by false false false was has is = absurd cc
+      by false false later put_away was has is = rw is (or_true (list_any (has_content c) (kept_rows (put ch.keep g (Some a)))))
 
-stays-rest : (done : List Write) (ch : Choice) (s : Sides) → choice s ≡ ch → AreOf done ch s → (c : ContentValue)
-    → stays (kept_rows ch.keep) ch.adds c ≡ true → stays (kept_rows (rest_of done ch).keep) (rest_of done ch).adds c ≡ true
-stays-rest [] ch s e of c is = is
-stays-rest (replace i d ∷ ws) ch s e of c is =
-    stays-rest ws ch (given_to s i d) (choice-put s i d (ap (λ x. Choice.keep x i) e ∙ of.0) ∙ e) of.1 c is
-stays-rest (add g a ∷ ws) ch s e of c is =
+stays-rest : (es : List (ℕ × ContentValue)) (done : List Write) (ch : Choice) (s : Sides) → choice s ≡ ch → AreOf done ch s → (c : ContentValue)
+    → stays (kept_rows ch.keep) ch.adds es c ≡ true → stays (kept_rows (rest_of done ch).keep) (rest_of done ch).adds es c ≡ true
+stays-rest es [] ch s e of c is = is
+stays-rest es (replace i d ∷ ws) ch s e of c is =
+    stays-rest es ws ch (given_to s i d) (choice-put s i d (ap (λ x. Choice.keep x i) e ∙ of.0) ∙ e) of.1 c is
+stays-rest es (add g a ∷ ws) ch s e of c is =
     let none : ch.keep g ≡ None = sym (ap (λ x. Choice.keep x g) e) ∙ not_kept (s.desktop g) of.1 of.2 in
     let again : choice (given_to s g a) ≡ with_add ch g a = choice-add s g a (behind ch.adds) of.1 of.2 of.3 (ap (λ x. Choice.adds x) e ∙ of.0)
     ∙ λ k. record { keep = put (e k).keep g (Some a); archive = (e k).archive; adds = behind ch.adds } in
-    stays-rest ws (with_add ch g a) (given_to s g a) again of.4 c (stays-add ch g a c none of.0 of.3 is)
-stays-rest (purge i ∷ ws) ch s e of c is = absurd of
-stays-rest (clean_up ∷ ws) ch s e of c is = absurd of
-stays-rest (reset ∷ ws) ch s e of c is = absurd of
+    stays-rest es ws (with_add ch g a) (given_to s g a) again of.4 c (stays-add ch g a c none of.0 of.3 es is)
+stays-rest es (purge i ∷ ws) ch s e of c is = absurd of
+stays-rest es (clean_up ∷ ws) ch s e of c is = absurd of
+stays-rest es (reset ∷ ws) ch s e of c is = absurd of
+
+-- what is archived is archived still
+rest-archive : (done : List Write) (ch : Choice) → (rest_of done ch).archive ≡ ch.archive
+rest-archive [] ch = refl
+rest-archive (replace i d ∷ ws) ch = rest-archive ws ch
+rest-archive (add g a ∷ ws) ch = rest-archive ws (with_add ch g a)
+rest-archive (purge i ∷ ws) ch = refl
+rest-archive (clean_up ∷ ws) ch = refl
+rest-archive (reset ∷ ws) ch = refl
 
 -- ---- rows that are lost
 
-abbrev lost_of : Choice → Record → Bool
-lost_of ch row = is_lost (kept_rows ch.keep) ch.adds row
+abbrev lost_of : List (ℕ × ContentValue) → Choice → Record → Bool
+lost_of es ch row = is_lost (kept_rows ch.keep) ch.adds es row
 
 lost_by : (alive s t : Bool) → (s ≡ true → t ≡ true) → (alive && not s) ≡ false → (alive && not t) ≡ false
 lost_by false s t grows is = refl
 lost_by true true t grows is = rw (grows refl)
 lost_by true false t grows is = absurd cc
 
-none-lost : (ch now : Choice) → ((c : ContentValue) → stays (kept_rows ch.keep) ch.adds c ≡ true → stays (kept_rows now.keep) now.adds c ≡ true)
-    → (rows : List Record) → list_any (lost_of ch) rows ≡ false → list_any (lost_of now) rows ≡ false
-none-lost ch now grows [] is = refl
-none-lost ch now grows (r ∷ rows) is =
-    let parts = or_parts (lost_of ch r) (list_any (lost_of ch) rows) is in
-    let here : lost_of now r ≡ false = lost_by (not r.deleted) (stays (kept_rows ch.keep) ch.adds r.content)
-    (stays (kept_rows now.keep) now.adds r.content) (grows r.content) parts.0 in
-    rw here (none-lost ch now grows rows parts.1)
+none-lost : (es : List (ℕ × ContentValue)) (ch now : Choice)
+    → ((c : ContentValue) → stays (kept_rows ch.keep) ch.adds es c ≡ true → stays (kept_rows now.keep) now.adds es c ≡ true)
+    → (rows : List Record) → list_any (lost_of es ch) rows ≡ false → list_any (lost_of es now) rows ≡ false
+none-lost es ch now grows [] is = refl
+none-lost es ch now grows (r ∷ rows) is =
+    let parts = or_parts (lost_of es ch r) (list_any (lost_of es ch) rows) is in
+    let here : lost_of es now r ≡ false = lost_by (not r.deleted) (stays (kept_rows ch.keep) ch.adds es r.content)
+    (stays (kept_rows now.keep) now.adds es r.content) (grows r.content) parts.0 in
+    rw here (none-lost es ch now grows rows parts.1)
 
-pub news-loses : (x : Finding) (given : List ℕ) (n : ℕ) → StopsAmongNews Sync x given n → loses_rows x ≡ false
-    → loses_rows (left_among_news Sync x given n) ≡ false
-news-loses x given n stops keeps =
-    let s = sides_of x.view x.rows x.base true in
-    let ch = chosen Sync x in
-    let done = news_done Sync x given n in
-    let y = left_among_news Sync x given n in
-    let read = read-news Sync x given n stops.read stops.got in
-    let same : choice s ≡ ch = sym (choice-counted x.view x.rows x.base x.records x.gone_counts stops.read.shows stops.gone) in
-    let all_of : AreOf (giving ch s.handheld given) ch s = subst (λ c. AreOf (giving c s.handheld given) c s) same
-    (giving-of s given x.records stops.fresh stops.read.shows (subst (λ c. GotFreeIds c s.handheld given x.records) (sym same) stops.got)) in
-    let of = of-take n (giving ch s.handheld given) ch s all_of in
-    let sides_are = sides-again x.view (slow_view (after done x.records)) done x.rows x.base x.records true (writes-of done ch s of) stops.read.shows
-    read.shows in
-    let chosen_is : chosen Sync y ≡ rest_of done ch = ap choice sides_are ∙ choice-after done ch s same of in
-    ap (λ c. list_any (lost_of c) x.rows) chosen_is ∙ none-lost ch (rest_of done ch) (stays-rest done ch s same of) x.rows keeps
+-- ---- among the news
+
+-- the sides of a session, where gone rows count
+abbrev counted_sides : Finding → Sides
+counted_sides x = sides_of x.view x.rows x.base true
+
+module _ (x : Finding) (given : List ℕ) (n : ℕ) (stops : StopsAmongNews Sync x given n) where
+  counted : choice (counted_sides x) ≡ chosen Sync x
+  counted = sym (choice-counted x.view x.rows x.base x.records x.gone_counts stops.read.shows stops.gone)
+
+  done_of : AreOf (news_done Sync x given n) (chosen Sync x) (counted_sides x)
+  done_of =
+      let s = counted_sides x in
+      let ch = chosen Sync x in
+      let all_of : AreOf (giving ch s.handheld given) ch s = subst (λ c. AreOf (giving c s.handheld given) c s) counted
+      (giving-of s given x.records stops.fresh stops.read.shows (subst (λ c. GotFreeIds c s.handheld given x.records) (sym counted) stops.got)) in
+      of-take n (giving ch s.handheld given) ch s all_of
+
+  pub news-loses : loses_rows x ≡ false → loses_rows (left_among_news Sync x given n) ≡ false
+  news-loses keeps =
+      let s = counted_sides x in
+      let ch = chosen Sync x in
+      let done = news_done Sync x given n in
+      let y = left_among_news Sync x given n in
+      let read = read-news Sync x given n stops.read stops.got in
+      let sides_are = sides-again x.view (slow_view (after done x.records)) done x.rows x.base x.records true (writes-of done ch s done_of) stops.read.shows
+      read.shows in
+      let chosen_is : chosen Sync y ≡ rest_of done ch = ap choice sides_are ∙ choice-after done ch s counted done_of in
+      ap (λ c. list_any (lost_of (x.archive ++ c.archive) c) x.rows) chosen_is
+      ∙ ap (λ es. list_any (lost_of (x.archive ++ es) (rest_of done ch)) x.rows) (rest-archive done ch)
+      ∙ none-lost (x.archive ++ ch.archive) ch (rest_of done ch) (stays-rest (x.archive ++ ch.archive) done ch s counted done_of) x.rows keeps
+
+  -- no record goes
+  pub news-has_lost : ((i : ℕ) → is_there x.view i ≡ (nat_lt i id_bound && is_some (first i x.records)))
+      → has_lost (left_among_news Sync x given n) ≡ true → has_lost x ≡ true
+  news-has_lost sees is =
+      let done = news_done Sync x given n in
+      let writes = writes-of done (chosen Sync x) (counted_sides x) done_of in
+      lost_all_grows x.base x.view (slow_view (after done x.records))
+      (λ i there. there-slow_view (after done x.records) i
+      ∙ still (nat_lt i id_bound) (first i x.records) (first i (after done x.records)) (stays-there done x.records i writes) (sym (sees i) ∙ there)) is
 
 -- ---- behind the commit
 
 -- rows stay among themselves
-settled-stay : (before es : List (ℕ × ContentValue)) → list_any (is_lost (before ++ es) []) (map settled_record es) ≡ false
-settled-stay before [] = refl
-settled-stay before (e ∷ es) =
+settled-stay : (before es archive : List (ℕ × ContentValue)) → list_any (is_lost (before ++ es) [] archive) (map settled_record es) ≡ false
+settled-stay before [] archive = refl
+settled-stay before (e ∷ es) archive =
     let here : list_any (has_content e.1) (before ++ e ∷ es) ≡ true = list_any-append (has_content e.1) before (e ∷ es)
     ∙ ap (λ b. list_any (has_content e.1) before || (b || list_any (has_content e.1) es)) (same_content-same e.1)
     ∙ or_true (list_any (has_content e.1) before) in
-    let later = settled-stay (before ++ e ∷ []) es in
+    let later = settled-stay (before ++ e ∷ []) es archive in
     let front : (before ++ e ∷ []) ++ es ≡ before ++ e ∷ es = append_assoc before (e ∷ []) es in
-    ap (λ b. not (b || false) || list_any (is_lost (before ++ e ∷ es) []) (map settled_record es)) here
-    ∙ ap (λ all. list_any (is_lost all []) (map settled_record es)) (sym front) ∙ later
+    ap (λ b. not (b || is_among archive e.1) || list_any (is_lost (before ++ e ∷ es) [] archive) (map settled_record es)) here
+    ∙ ap (λ all. list_any (is_lost all [] archive) (map settled_record es)) (sym front) ∙ later
   where
     or_true : (b : Bool) → (b || true) ≡ true
     or_true true = refl
     or_true false = refl
 
 -- so merged rows lose none where they alone are kept
-merged-loses : (ch : Choice) (given : List ℕ) (now : Choice) → now ≡ kept_alone (row_under ch given)
-    → list_any (lost_of now) (map settled_record (each_id (λ i. with_id i (row_at ch given i)))) ≡ false
-merged-loses ch given now is =
+merged-loses : (archive : List (ℕ × ContentValue)) (ch : Choice) (given : List ℕ) (now : Choice) → now ≡ kept_alone (row_under ch given)
+    → list_any (lost_of archive now) (map settled_record (each_id (λ i. with_id i (row_at ch given i)))) ≡ false
+merged-loses archive ch given now is =
     let rows = each_id (λ i. with_id i (row_at ch given i)) in
     let kept : kept_rows (row_under ch given) ≡ rows = each_below-same (λ i. with_id i (row_under ch given i)) (λ i. with_id i (row_at ch given i)) id_bound
     (λ i l. ap (with_id i) (within_bound (nat_lt i id_bound) (row_at ch given i) (grind (arith, nat_tests, l)))) in
-    ap (λ c. list_any (lost_of c) (map settled_record rows)) is ∙ ap (λ es. list_any (is_lost es []) (map settled_record rows)) kept
-    ∙ settled-stay [] rows
+    ap (λ c. list_any (lost_of archive c) (map settled_record rows)) is ∙ ap (λ es. list_any (is_lost es [] archive) (map settled_record rows)) kept
+    ∙ settled-stay [] rows archive
 
 pub commit-loses : (x : Finding) (given : List ℕ) (n : ℕ) → IsRead x → GotIds Sync x given → loses_rows (left_behind_commit Sync x given n) ≡ false
 commit-loses x given n read got =
-    merged-loses (chosen Sync x) given (chosen Sync (left_behind_commit Sync x given n))
+    let y = left_behind_commit Sync x given n in
+    merged-loses (y.archive ++ (chosen Sync y).archive) (chosen Sync x) given (chosen Sync (left_behind_commit Sync x given n))
     (chosen-commit Sync x given n tt read got (read-commit Sync x given n read got)).0
 
 pub end-loses : (x : Finding) (given : List ℕ) (view : List Seen) (gone_counts : Bool) → IsRead x → GotIds Sync x given
     → IsRead (left_at_end Sync x given view gone_counts) → loses_rows (left_at_end Sync x given view gone_counts) ≡ false
 end-loses x given view gone_counts read got then_read =
-    merged-loses (chosen Sync x) given (chosen Sync (left_at_end Sync x given view gone_counts)) (chosen-end Sync x given view gone_counts read got then_read)
+    let y = left_at_end Sync x given view gone_counts in
+    merged-loses (y.archive ++ (chosen Sync y).archive) (chosen Sync x) given (chosen Sync (left_at_end Sync x given view gone_counts)) (chosen-end Sync x given view gone_counts read got then_read)

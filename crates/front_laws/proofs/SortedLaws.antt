@@ -7,7 +7,7 @@ use Rattle.std.specs.Option.{option_map}
 use Rattle.pdb_values.specs.Contents.{ContentValue}
 use Rattle.pdb_values.specs.declared.record.Record.{Record}
 use Rattle.conduit_rules.specs.ById.{each_below, each_id, id_bound, put, with_id}
-use Rattle.conduit_rules.specs.Choices.{Sides, choice_for, fate_for, loose_for, offers_for, partners_for, sides_of}
+use Rattle.conduit_rules.specs.Choices.{Sides, choice_for, fate_for, offered_for, offers_for, partners_for, sides_of}
 use Rattle.conduit_rules.specs.Contents.{count_of}
 use Rattle.conduit_rules.specs.Fates.{fate_under}
 use Rattle.conduit_rules.specs.News.{less_one, live_contents, loose, unpaired}
@@ -71,6 +71,7 @@ pub record AreSorted (s : Sides) : Type 0 where
   pub handheld : (i : ℕ) → IfHeld (s.handheld i)
   pub desktop : (i : ℕ) → IfHeld (s.desktop i)
   pub loose : AllByRecursion IsSorted s.loose_live
+  pub all : AllByRecursion IsSorted s.all_live
 
 -- no side has anything under the id 0
 pub record HasNoZero (s : Sides) : Type 0 where
@@ -123,6 +124,7 @@ sides-sorted view rows base counts of_view of_rows of_base =
       found HasSorted,
       found SeenSorted,
       live_contents_sorted (loose (has_row base) rows) (loose_sorted (has_row base) rows of_rows),
+      live_contents_sorted rows of_rows,
     )
 
 -- ---- what is chosen
@@ -131,13 +133,13 @@ unpaired_sorted : (free : ContentValue → ℕ) (xs : List ContentValue) → All
 unpaired_sorted free [] all = tt
 unpaired_sorted free (c ∷ xs) all = grind (arith, unpaired_sorted free xs all.1, unpaired_sorted (less_one free c) xs all.1)
 
-loose_for_sorted : (a : Action) (xs : List ContentValue) → AllByRecursion IsSorted xs → AllByRecursion IsSorted (loose_for a xs)
-loose_for_sorted a xs all = grind (arith, common_steps)
+offered_sorted : (a : Action) {s : Sides} → AreSorted s → AllByRecursion IsSorted (offered_for a s)
+offered_sorted a are = grind (arith, common_steps)
 
 pub adds-sorted : (a : Action) {s : Sides} → AreSorted s → AllByRecursion IsSorted (choice_for a s).adds
 adds-sorted a {s} are =
     unpaired_sorted (λ c. count_of c (partners_for a s)) (offers_for a s)
-    (all-append IsSorted (loose_for a s.loose_live) (each_id (λ i. option_to_list (fate_for a s i).news)) (loose_for_sorted a s.loose_live are.loose)
+    (all-append IsSorted (offered_for a s) (each_id (λ i. option_to_list (fate_for a s i).news)) (offered_sorted a {s = s} are)
     (all-below IsSorted (λ i. option_to_list (fate_for a s i).news) id_bound
     (λ i l. listed IsSorted (fate_for a s i).news (fate_news a (s.base i) (s.handheld i) (s.desktop i) (are.desktop i)))))
 

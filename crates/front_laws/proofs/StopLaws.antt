@@ -12,7 +12,7 @@ use Rattle.pdb_values.specs.declared.user.UserInfo.{UserInfo}
 use Rattle.conduit_rules.specs.States.{base_at}
 use Rattle.conduit_rules.specs.Views.{fast_view, slow_view}
 use Rattle.conduit_rules.specs.declared.action.Action.{Action}
-use Rattle.conduit_rules.specs.declared.action.Action.TheVariants.{Sync, Handheld, Desktop}
+use Rattle.conduit_rules.specs.declared.action.Action.TheVariants.{Sync, Handheld, Desktop, Both}
 use Rattle.conduit_rules.specs.declared.view.Seen.{Seen}
 use Rattle.conduit_rules.proofs.ActionLaws.{handheld-is}
 use Rattle.record_merge.specs.Stops.{NoBase}
@@ -36,6 +36,7 @@ use Rattle.front_laws.specs.Meetings.{action_at, found_of, holding_after, ids_at
 use Rattle.front_laws.specs.Renaming.{AreUnknown, SameEnds}
 use Rattle.front_laws.specs.Repeats.{Finding, GotAllIds, GotIds, IsRead, MayStop, NoneUnderGone, Place, among_news, at_end, before_mark, behind_commit, chosen}
 use Rattle.front_laws.specs.Repeats.{given_by, ids_given, ids_with, left_behind_commit, news_done, shown, sides}
+use Rattle.front_laws.proofs.BaselessLaws.{baseless-commit_adds}
 use Rattle.front_laws.proofs.CommitLaws.{commit-adds, end-adds}
 use Rattle.front_laws.proofs.MeetingLaws.{among-news, at-the_end, behind-the_commit, reading-shows, same_action}
 use Rattle.front_laws.proofs.MergedLaws.{handheld-merged}
@@ -82,6 +83,7 @@ may-among : (a : Action) {x : Finding} {given : List ℕ} (n : ℕ) → IsRead x
 may-among Sync n read all free fresh gone = record { read = read; all = all; got = free; fresh = fresh; gone = gone }
 may-among Handheld {x} {given} n read all free fresh gone = grind (arith, take_none n (handheld-given (sides x) given))
 may-among Desktop n read all free fresh gone = free
+may-among Both n read all free fresh gone = record { read = read; all = all; got = free; fresh = fresh; gone = gone }
 
 -- ids that stand in the end are among those that were given
 module _ (x : Finding) (given later : List ℕ) (un : AreUnknown x (given ++ later)) where
@@ -89,11 +91,13 @@ module _ (x : Finding) (given later : List ℕ) (un : AreUnknown x (given ++ lat
   ids-among Sync n = un
   ids-among Handheld n = un
   ids-among Desktop n = unknown-back x given later un
+  ids-among Both n = un
 
   ids-before : (a : Action) → AreUnknown x (ids_with a before_mark later)
   ids-before Sync = unknown-back x given later un
   ids-before Handheld = unknown-back x given later un
   ids-before Desktop = unknown-back x given later un
+  ids-before Both = unknown-back x given later un
 
   ids-behind : (a : Action) (n : ℕ) → AreUnknown x (ids_with a (behind_commit given n) later)
   ids-behind a n = grind (arith, common_steps)
@@ -279,6 +283,7 @@ pub adds-behind : (a : Action) (x : Finding) (given : List ℕ) (n : ℕ) → Is
 adds-behind Sync x given n read got = commit-adds Sync x given n tt read got (read-commit Sync x given n read got)
 adds-behind Handheld x given n read got = grind (arith, handheld-is (sides (left_behind_commit Handheld x given n)))
 adds-behind Desktop x given n read got = commit-adds Desktop x given n tt read got (read-commit Desktop x given n read got)
+adds-behind Both x given n read got = baseless-commit_adds x given n read got (read-commit Both x given n read got)
 
 pub none-later : {a : Action} {y : Finding} {later : List ℕ} (records : List Record) → (chosen a y).adds ≡ [] → GotAllIds a y later
     → AllByRecursion (IsNewIn records) later

@@ -79,7 +79,8 @@ EndsAsWhole meeting last later name =
     × SameEnds (found_of meeting name) (holding_after last later name)
     (holding_after meeting new name)
 
--- a meeting at which the desktop loses no live row to a new handheld
+-- a meeting at which the desktop loses no live row to a handheld that is a stranger, or lost a
+-- database
 abbrev pub LosesNone : Meeting → Type 0
 LosesNone meeting = first_loss meeting ≡ None
 

@@ -3,6 +3,7 @@ pub mod Again
 pub mod Answered
 pub mod Equal
 pub mod Given
+pub mod Lives
 pub mod Losses
 pub mod Meetings
 pub mod Renaming

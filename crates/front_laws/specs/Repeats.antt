@@ -8,7 +8,7 @@ use Rattle.conduit_rules.specs.States.{SideState, nothing, held, BaseState, no_b
 use Rattle.conduit_rules.specs.Choices.{Choice, Sides, sides_of, choice_for}
 use Rattle.conduit_rules.specs.Views.{view_held, slow_view}
 use Rattle.conduit_rules.specs.declared.action.Action.{Action}
-use Rattle.conduit_rules.specs.declared.action.Action.TheVariants.{Sync, Handheld, Desktop}
+use Rattle.conduit_rules.specs.declared.action.Action.TheVariants.{Sync, Handheld, Desktop, Both}
 use Rattle.conduit_rules.specs.declared.view.Seen.{Seen}
 use Rattle.record_merge.specs.Merging.{merged_records, merged_rows, merged_base, merged_archive, AreBounded}
 use Rattle.record_merge.specs.Stops.{NoBase}
@@ -201,6 +201,7 @@ abbrev pub MayStopAmongNews : Action → Finding → List ℕ → ℕ → Type 0
 MayStopAmongNews Sync x given n = StopsAmongNews Sync x given n
 MayStopAmongNews Handheld x given n = given ≡ []
 MayStopAmongNews Desktop x given n = GotIds Desktop x given
+MayStopAmongNews Both x given n = StopsAmongNews Both x given n
 
 -- a session may stop there; behind a whole one the view shows what the records hold
 abbrev pub MayStop : Action → Finding → Place → Type 0
@@ -230,6 +231,7 @@ ids_with Desktop before_mark later = later
 ids_with Desktop (among_news given n) later = later
 ids_with Desktop (behind_commit given n) later = given ++ later
 ids_with Desktop (at_end given view gone_counts) later = given ++ later
+ids_with Both place later = ids_given place ++ later
 
 -- those of all these sessions, and of the one behind them
 abbrev pub all_ids : Action → List Place → List ℕ → List ℕ

@@ -18,6 +18,7 @@ ghost use Rattle.front_laws.specs.Again.{AllRunAgain, AllSkip, AreAllFresh, AreR
 ghost use Rattle.front_laws.specs.Again.{Later, RunsAgain, last_run};
 ghost use Rattle.front_laws.specs.Answered.{IsAnsweredExchange, RefusesNone};
 ghost use Rattle.front_laws.specs.Equal.{HoldsEqual, IsShownWhole};
+ghost use Rattle.front_laws.specs.Losses.{LeavesEach, MightLose};
 ghost use Rattle.front_laws.specs.Given.{GetFreeIds, TellIds, ids_in};
 ghost use Rattle.front_laws.specs.Sound.{FitsLimits, IsSoundMeeting};
 ghost use Rattle.front_laws.specs.Stops.{IsFittingFront, StandsAmongNews, StandsBehindCommit};
@@ -37,6 +38,16 @@ pub fn both_sides_end_equal()
     ensures { (meeting : Meeting) (given name : List ℕ) → IsSoundMeeting meeting
         → IsActive meeting name → IsShownWhole meeting name
         → GotAllAt meeting given name → HoldsEqual meeting given name }
+{}
+
+/// A session that isn't refused costs the desktop no live row of a database that it merges by both sides and
+/// their base, behind a handheld that is a stranger to it or lost the database: the content of each live
+/// row is live on the desktop still, or in its archive.
+pub fn a_lost_database_costs_no_live_row()
+    ensures { (meeting : Meeting) (given name : List ℕ) → IsSoundMeeting meeting
+        → IsActive meeting name → IsShownWhole meeting name
+        → GotAllAt meeting given name → LosesNone meeting
+        → MightLose meeting name → LeavesEach meeting given name }
 {}
 
 /// What a session says fits into messages: so any beginning of it can be said whose new records get free
@@ -133,9 +144,10 @@ pub fn a_stopped_session_is_run_again()
         → IsRunAgain meeting next given later name → EndsAsWhole meeting next later name }
 {}
 
-/// A session that is run again behind one that stopped meets no new handheld that would cost the desktop
-/// live rows, where the one that stopped met none: not among its news, and not behind the desktop's commit,
-/// where the desktop has the date of a session that the handheld never ended.
+/// A session that is run again behind one that stopped isn't refused for live rows that it would cost the
+/// desktop, where the one that stopped wasn't: not among its news, where the handheld is no stranger that
+/// was none and has each record that it had, and not behind the desktop's commit, where the desktop has the
+/// date of a session that the handheld never ended.
 pub fn a_stopped_session_makes_no_new_handheld()
     ensures { (meeting next : Meeting) (writes : ℕ) (given later : List ℕ) → FitsLimits meeting
         → LosesNone meeting → RunsAgain meeting next writes given

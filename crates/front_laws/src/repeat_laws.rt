@@ -2,7 +2,7 @@
 //! nothing: its contract is the law.
 ghost use Rattle.std.specs.Prelude.{◌≡◌, ◌++◌, ℕ, List, Bool, false};
 ghost use Rattle.conduit_rules.specs.declared.action.Action.{Action};
-ghost use Rattle.conduit_rules.specs.declared.action.Action.TheVariants.{Sync, Handheld, Desktop};
+ghost use Rattle.conduit_rules.specs.declared.action.Action.TheVariants.{Sync, Handheld, Desktop, Both};
 ghost use Rattle.conduit_rules.specs.declared.view.Seen.{Seen};
 ghost use Rattle.front_laws.specs.Losses.{loses_rows};
 ghost use Rattle.front_laws.specs.Repeats.{EndsLike, Finding, GotIds, IsRead, IsSession, Place, ended};
@@ -18,6 +18,15 @@ pub fn news_are_taken_up()
         → let y = left_among_news Sync x given n in
         GotIds Sync y later
         → ended Sync y later ≡ ended Sync x (given ++ later) }
+{}
+
+/// A session of both sides without their base that stops among its replacements and adds is taken up too.
+pub fn what_is_live_is_taken_up()
+    ensures { (x : Finding) (given later : List ℕ) (n : ℕ)
+        → StopsAmongNews Both x given n
+        → let y = left_among_news Both x given n in
+        GotIds Both y later
+        → ended Both y later ≡ ended Both x (given ++ later) }
 {}
 
 /// A session that goes by the handheld and stops before the desktop's commit has given it nothing, and the
