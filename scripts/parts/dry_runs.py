@@ -63,13 +63,13 @@ def try_run(title, words):
 
 
 def try_transcript(folder):
-    """The commands of a transcript, with a dry run before each run."""
+    """The commands of a transcript, with a dry run before each run that is none itself."""
     with open("transcript") as file:
         lines = [line[2:].rstrip("\n") for line in file if line.startswith("$ ")]
     runs = 0
     for line in lines:
         words = shlex.split(line)
-        if words[:2] == ["hotsync", "run"]:
+        if words[:2] == ["hotsync", "run"] and "--dry-run" not in words:
             try_run(folder, words[1:])
             runs += 1
         else:

@@ -196,6 +196,7 @@ fn action_word(action: ActionWord) -> &'static str {
         ActionWord::Sync => "sync",
         ActionWord::Handheld => "handheld",
         ActionWord::Desktop => "desktop",
+        ActionWord::Both => "both",
         ActionWord::Nothing => "nothing",
     }
 }
