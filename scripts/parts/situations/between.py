@@ -1,0 +1,125 @@
+"""What one command leaves to the next, to another desktop and to another handheld: nothing is lost that nobody let go."""
+import os
+import shutil
+
+from situations.rig import (
+    DATE, DIRTY, LATER, LATEST, all_files, call, memos, pdb, put, records_of, texts, two_sides, want, want_line, want_run, situation,
+)
+
+THREE = [b"one\0", b"three\0", b"two\0"]
+
+
+def want_refused(*words, name="MemoDB"):
+    """The handheld is refused by a database, before anything is written."""
+    before = all_files(".")
+    want_line(call("run", *words), 7, f"new handheld {name}")
+    want(all_files("."), before, "files behind a refusal")
+
+
+def reset(*names):
+    """A hard reset: the folder has empty databases of these names."""
+    shutil.rmtree("h")
+    os.makedirs("h")
+    for name in names:
+        put(f"h/{name}.pdb", pdb(name, []))
+
+
+def want_both(*wanted, name="MemoDB"):
+    """Both sides have these contents, and no other."""
+    want((texts(f"h/{name}.pdb"), texts(f"d/{name}.pdb")), (sorted(wanted), sorted(wanted)), f"both sides of {name}")
+
+
+@situation
+def a_database_that_was_missing_is_empty_when_it_comes_back():
+    """A hard reset, a run in which the database is missing, and then the empty one that each Palm makes."""
+    two_sides()
+    reset()
+    want(call("run", "h", "d", LATER)[:2], (0, ["MemoDB skipped missing", "ended"]), "a run without the database")
+    put("h/MemoDB.pdb", pdb("MemoDB", []))
+    want_refused("h", "d", LATEST)
+    put("h/MemoDB.pdb", pdb("MemoDB", memos("welcome", attributes=DIRTY)))
+    want_run("h", "d", LATEST, "--actions=MemoDB:both")
+    want_both(*THREE, b"welcome\0")
+
+
+@situation
+def a_backup_is_put_back_over_a_later_session():
+    """What came since the backup stays on the desktop, and comes back to the handheld where its user asks for both."""
+    two_sides()
+    os.makedirs("b")
+    want_line(call("backup", "h", "b"), 0, "ended")
+    old = records_of("h/MemoDB.pdb")
+    put("h/MemoDB.pdb", pdb("MemoDB", [(DIRTY, old[0][1], b"one more\0"), *old[1:], (DIRTY, 99, b"four\0")]))
+    want_run("h", "d", LATER)
+    want_line(call("restore", "h", "b"), 0, "ended")
+    want_refused("h", "d", LATEST)
+    want_run("h", "d", LATEST, "--actions=MemoDB:both")
+    want_both(*THREE, b"one more\0", b"four\0")
+
+
+@situation
+def a_new_edition_is_installed_over_a_synchronised_one():
+    """The edition is on both sides behind the next run."""
+    two_sides()
+    put("edition/MemoDB.pdb", pdb("MemoDB", [(0, 0, text) for text in (b"preface\0", b"one\0", b"two\0", b"three\0")]))
+    want_line(call("install", "h", "edition/MemoDB.pdb"), 0, "ended")
+    want_run("h", "d", LATER)
+    want_both(*THREE, b"preface\0")
+
+
+@situation
+def two_empty_databases_come_back_one_by_one():
+    """Bringing one of them back lets the other one go no more than before."""
+    put("h/ToDoDB.pdb", pdb("ToDoDB", memos("task")))
+    two_sides()
+    reset("MemoDB", "ToDoDB")
+    want_refused("h", "d", LATER)
+    want_run("h", "d", LATER, "--only=MemoDB", "--actions=MemoDB:desktop")
+    want_both(*THREE)
+    want_refused("h", "d", LATEST, name="ToDoDB")
+    want_run("h", "d", LATEST, "--actions=ToDoDB:desktop")
+    want_both(b"task\0", name="ToDoDB")
+
+
+@situation
+def an_empty_handheld_meets_another_desktop_first():
+    """A session with a fresh folder in between takes nothing from the first desktop."""
+    two_sides()
+    reset("MemoDB")
+    want_refused("h", "d", LATER)
+    os.makedirs("e")
+    want_run("h", "e", LATER)
+    want_refused("h", "d", LATEST)
+    want_run("h", "d", LATEST, "--actions=MemoDB:desktop")
+    want_both(*THREE)
+
+
+@situation
+def somebody_elses_handheld_meets_a_desktop():
+    """A handheld of another person, synchronised with a desktop of its own, takes nothing from this one."""
+    two_sides()
+    put("other/MemoDB.pdb", pdb("MemoDB", [(0, 0x777, b"theirs\0")]))
+    os.makedirs("theirs")
+    want_run("other", "theirs", DATE)
+    want_refused("other", "d", LATER)
+    want_run("h", "d", LATER)
+    want_both(*THREE)
+
+
+@situation
+def a_database_is_made_anew_between_two_sessions():
+    """It was deleted on the handheld and made again, empty."""
+    two_sides()
+    put("h/MemoDB.pdb", pdb("MemoDB", []))
+    want_refused("h", "d", LATER)
+    want_run("h", "d", LATER, "--actions=MemoDB:desktop")
+    want_both(*THREE)
+
+
+@situation
+def what_a_user_deletes_is_let_go():
+    """Memos that were deleted on the handheld, all of them, are there until they are purged: nothing is refused."""
+    two_sides()
+    put("h/MemoDB.pdb", pdb("MemoDB", [(0x80 | DIRTY, number, text) for _, number, text in records_of("h/MemoDB.pdb")]))
+    want_run("h", "d", LATER)
+    want_both()

@@ -1,0 +1,146 @@
+"""What is asked for and told: traces, dates, names, hints, texts from an editor."""
+import datetime
+import os
+import subprocess
+
+from situations.rig import (
+    DATE, DIRTY, LATER, LATEST, PROGRAM, all_files, call, memos, mode, pdb, put, situation, texts, two_sides,
+    want, want_line, want_run,
+)
+
+
+# ---- traces
+
+
+@situation
+def a_trace_takes_no_database():
+    """A trace under the name of a file that a side reads is refused, and what stands there stays."""
+    two_sides()
+    for path in ("h/MemoDB.pdb", "h/ToDoDB.pdb", "h/device.inf", "d/MemoDB.base", "d/A.arc", "d/desktop.inf", "d/hotsync.journal"):
+        before = all_files("h", "d")
+        want_line(call("run", "h", "d", LATER, f"--trace={path}"), 4, "trace write failed")
+        want(all_files("h", "d"), before, "files")
+
+
+@situation
+def a_trace_comes_whole():
+    """A trace replaces a file with its permissions, and where the words or a folder are refused the file stays."""
+    two_sides()
+    put("t.txt", "old")
+    os.chmod("t.txt", 0o600)
+    call("run", "nowhere", "d", LATER, "--trace=t.txt")
+    want(open("t.txt").read(), "old", "trace")
+    want_run("h", "d", LATER, "--trace=t.txt")
+    assert open("t.txt").read().startswith("1 H ok "), "no trace"
+    want(mode("t.txt"), 0o600, "permissions")
+    want(sorted(os.listdir(".")), ["d", "h", "t.txt"], "names")
+    put("mine", "mine")
+    os.symlink("mine", "u.txt.hotsync-tmp")
+    want_line(call("run", "h", "d", LATEST, "--trace=u.txt"), 4, "trace write failed")
+    want(open("mine").read(), "mine", "what a link leads to")
+
+# ---- dates, names, hints
+
+
+@situation
+def now_is_now():
+    """The date now is the clock's."""
+    put("h/MemoDB.pdb", pdb("MemoDB", memos("one")))
+    os.makedirs("d")
+    before = datetime.datetime.utcnow()
+    want_run("h", "d", "--date=now")
+    last = [line.split()[-1] for line in open("h/device.inf") if line.startswith("last ")][0]
+    told = datetime.datetime(int(last[:4], 16), *(int(last[place : place + 2], 16) for place in (4, 6, 8, 10, 12)))
+    assert abs((told - before).total_seconds()) < 100, last
+
+
+@situation
+def a_name_prints_no_line():
+    """A file name with a line feed in it prints no line of its own."""
+    put("h/a\nended\n.pdb", "no database")
+    os.makedirs("d")
+    status, lines, _ = call("run", "h", "d", DATE)
+    want((status, len(lines)), (3, 1), "status and number of lines")
+    assert lines[0].startswith("bad file handheld a"), lines
+
+
+@situation
+def hints_are_apart():
+    """Hints stand on standard error alone, and where that is closed nothing fails."""
+    two_sides()
+    put("h/TODODB.PDB", pdb("ToDoDB", memos("one")))
+    words = ("run", "h", "d", LATER, "--actions=memodb:nothing")
+    status, lines, hints = call(*words)
+    want((status, lines[-1]), (0, "ended"), "status and last line")
+    assert any("TODODB.PDB" in hint for hint in hints), hints
+    assert any("memodb" in hint for hint in hints), hints
+    want((call(*words, before=lambda: os.close(2))[:2]), (0, lines), "without standard error")
+
+
+@situation
+def hints_name_what_helps():
+    """A date that is not behind the last one, and a database that the handheld lost, get a hint with the word that helps."""
+    two_sides()
+    status, lines, hints = call("run", "h", "d", DATE)
+    want((status, lines[-1]), (0, "ended"), "status and last line")
+    assert any("--slow" in hint for hint in hints), hints
+    os.remove("h/MemoDB.pdb")
+    status, lines, hints = call("run", "h", "d", LATER)
+    want((status, lines), (0, ["MemoDB skipped missing", "ended"]), "status and lines")
+    want(hints, ["hint: --actions=MemoDB:desktop brings MemoDB back to the handheld"], "hints")
+    want_run("h", "d", LATEST, "--actions=MemoDB:desktop")
+    want(texts("h/MemoDB.pdb"), texts("d/MemoDB.pdb"), "both sides")
+
+
+@situation
+def kept_twice_is_told():
+    """Where both sides changed a record, each its own way, a hint says how many of a database are there twice now."""
+    two_sides()
+    put("h/MemoDB.pdb", pdb("MemoDB", memos("one here", "two here", "three", attributes=DIRTY)))
+    put("d/MemoDB.pdb", pdb("MemoDB", memos("one there", "two here", "three there")))
+    status, lines, hints = call("run", "h", "d", LATER)
+    want((status, lines[-1]), (0, "ended"), "status and last line")
+    want(hints, ["hint: MemoDB: changed on both sides, and kept in both versions: 1"], "hints")
+    want(texts("h/MemoDB.pdb"), texts("d/MemoDB.pdb"), "both sides")
+
+
+@situation
+def nothing_to_do_writes_no_database():
+    """Where nothing changed no database is written again: each keeps its place on the disk and its times."""
+    two_sides()
+    put("h/MemoDB.pdb", pdb("MemoDB", memos("new", attributes=DIRTY)))
+    want_run("h", "d", LATER)
+    stood = lambda: {path: (os.stat(path).st_ino, os.stat(path).st_mtime_ns) for path in all_files("h", "d") if not path.endswith(".inf")}
+    before = stood()
+    want_run("h", "d", LATEST)
+    want(stood(), before, "files")
+
+
+@situation
+def sources_are_files():
+    """A pipe is no source, and is not waited for."""
+    two_sides()
+    os.mkfifo("script")
+    want_line(call("run", "h", "d", LATER, "--script=script"), 4, "source read failed")
+    want_line(call("check", "script"), 4, "source read failed")
+
+@situation
+def memos_come_from_an_editor():
+    """A text becomes a database, and a session brings its memos to the other side."""
+    text = "--- new Errands\nShopping\nflour 1 kg\n--- 00a001 private\nKeys\n----- under the mat\n--- new\n\u20ac 5\n"
+    put("notes.txt", text)
+    os.makedirs("d", exist_ok=True)
+    with open("h.pdb", "wb") as file:
+        done = subprocess.run([PROGRAM, "import", "notes.txt", "--as=txt"], stdout=file, timeout=60)
+    want(done.returncode, 0, "status of the import")
+    os.makedirs("h", exist_ok=True)
+    os.rename("h.pdb", "h/MemoDB.pdb")
+    want_line(call("check", "h/MemoDB.pdb"), 0, "ok 3 records")
+    want_run("h", "d", DATE)
+    told = call("export", "d/MemoDB.pdb", "--as=txt")
+    want(sorted(line for line in told[1] if not line.startswith("--- ")),
+         sorted(line for line in text.splitlines() if not line.startswith("--- ")), "lines of the memos")
+    heads = [line[10:] for line in call("export", "h/MemoDB.pdb", "--as=txt")[1] if line.startswith("--- ")]
+    want(sorted(heads), ["", " Errands", " private"], "heads on the handheld")
+    put("bad.txt", "Shopping\n")
+    want_line(call("import", "bad.txt", "--as=txt"), 3, "bad text line 1")
