@@ -3,8 +3,8 @@
 The program is proved, built and installed by the scripts that README names, but for the gate;
 HOTSYNC stands for the program that the kit would build. Then each command in a block of a console
 has to print what stands below it, the files that README names have to lie where it says, and each
-example of a command, with names in place of capitals, has to be done. Ends with 1 where something
-is otherwise.
+example of a command in README and in docs/MANUAL.md, with names in place of capitals, has to be
+done. Ends with 1 where something is otherwise, or the examples have become few.
 """
 import os
 import re
@@ -16,9 +16,11 @@ import tempfile
 
 TOP = os.path.abspath(f"{os.path.dirname(__file__)}/../..")
 BUILT = "crates/hotsync_cli/out/hotsync_cli"
-STEPS = "## Your memos in five minutes"
+STEPS = "## The package and the first build"
+MANUAL = "docs/MANUAL.md"
+FEWEST = 29
 LEFT = ["desktop/MemoDB.pdb", "desktop/MemoDB.base", "desktop/desktop.inf", "handheld/device.inf"]
-# What stands for a name in README: capitals, and an option's value of one letter.
+# What stands for a name in both pages: capitals, and an option's value of one letter.
 PLACEHOLDER = re.compile(r"\b[A-Z][A-Z-]+\b(?!\.)|=[A-Z]\b|\b[A-Z]\b")
 
 failed = []
@@ -54,6 +56,11 @@ def with_kit(scratch):
     os.makedirs(home)
     others = {name: value for name, value in os.environ.items() if name != "HOTSYNC"}
     return {**others, "HOME": home, "PATH": f"{scratch}/kit:{home}/.local/bin:{os.environ['PATH']}"}
+
+
+def page(repository, name):
+    with open(f"{repository}/{name}", encoding="utf-8") as file:
+        return file.read()
 
 
 def run(command, where, surroundings):
@@ -142,8 +149,7 @@ def main():
         os.makedirs(repository)
         fresh_copy(repository)
         surroundings = with_kit(scratch)
-        with open(f"{repository}/README.md", encoding="utf-8") as file:
-            readme = file.read()
+        readme, manual = (page(repository, name) for name in ["README.md", MANUAL])
         steps = readme[readme.index(STEPS):]
         if "HOTSYNC" in os.environ:
             must_run("scripts/build", repository, surroundings)
@@ -159,10 +165,13 @@ def main():
                 fail(f"README and the steps don't agree on {name}")
         for command in quoted(steps, "hotsync export desktop/"):
             must_run(command, repository, surroundings)
-        count = try_examples(readme, repository, scratch, surroundings)
+        count = try_examples(f"{readme}\n{manual}", repository, scratch, surroundings)
+        if count < FEWEST:
+            fail(f"README and {MANUAL} have {count} examples of commands, and had {FEWEST}")
     if failed:
         sys.exit(1)
-    print(f"README's steps come out as shown, and its {count} examples of commands are done")
+    print(f"README's steps come out as shown, and {count} examples of commands there and in the manual"
+          " are done")
 
 
 if __name__ == "__main__":
