@@ -170,7 +170,7 @@ def main():
             fail(f"README and {MANUAL} have {count} examples of commands, and had {FEWEST}")
     if failed:
         sys.exit(1)
-    print(f"README's steps come out as shown, and {count} examples of commands there and in the manual"
+    print(f"README's steps come out as shown, and {count} examples of commands, with the manual's,"
           " are done")
 
 
