@@ -1,6 +1,6 @@
-# What `scripts/package --check` runs. Both packages are the same byte for byte when they are made twice, lintian has no error
-# where it is there, and the program of each, unpacked into an empty root with nothing but the C library, runs `check` and
-# `run` there.
+# What `scripts/package --check` runs. Both packages are the same byte for byte when they are made twice, and have the sums that
+# lie beside them, lintian has no error where it is there, and the program of each, unpacked into an empty root with nothing but
+# the C library, runs `check` and `run` there.
 set -eu
 cd "$(dirname "$0")/../.."
 scratch=$(mktemp -d)
@@ -9,8 +9,10 @@ scripts/package "$scratch/one" >/dev/null
 scripts/package "$scratch/two" >/dev/null
 for file in "$scratch"/one/*; do
     cmp "$file" "$scratch/two/${file##*/}"
+    case $file in *.sha256) ;; *) grep -qx "[0-9a-f]*  ${file##*/}" "$file.sha256" ;; esac
 done
-echo "package: both packages are the same when they are made twice"
+(cd "$scratch/one" && sha256sum --strict --quiet -c ./*.sha256)
+echo "package: both packages are the same when they are made twice, and have the sums beside them"
 
 deb=$(ls "$scratch"/one/*.deb)
 tar=$(ls "$scratch"/one/*.tar.gz)

@@ -1,0 +1,53 @@
+# The functions of scripts/package, which sets root (the folder that is filled), to, version and day.
+
+# Ends with the name of each tool that isn't here: need TOOL..
+need() {
+    for tool; do
+        if ! command -v "$tool" >/dev/null; then
+            echo "package: the tool '$tool' is missing: README.md says what the project needs. Nothing was packed or installed." >&2
+            exit 1
+        fi
+    done
+}
+
+# Puts a file below the root: put MODE FROM TO.
+put() {
+    mkdir -p "$(dirname "$root/$3")"
+    install -m "$1" "$2" "$root/$3"
+}
+
+# Writes the sum of a file that was made beside it: sum FILE
+sum() {
+    (cd "$to" && sha256sum "$1" >"$1.sha256")
+}
+
+copyright() {
+    printf 'Format: https://www.debian.org/doc/packaging-manuals/copyright-format/1.0/\nUpstream-Name: hotsync\n\n'
+    printf 'Files: *\n'
+    sed -n 's/^Copyright (c) /Copyright: /p' LICENSE
+    printf 'License: Expat\n'
+    sed '1,4d; s/^$/./; s/^/ /' LICENSE
+}
+
+changelog() {
+    printf 'hotsync (%s) unstable; urgency=medium\n\n  * docs/ has what is proved of this version.\n\n' "$version"
+    printf ' -- %s  %s\n' "$maintainer" "$day"
+}
+
+# Makes a Debian package of what is below the root, with its description from standard input: debian NAME SECTION DEPENDS
+debian() {
+    deb=${1}_${version}_amd64.deb
+    mkdir -p "$root/DEBIAN" "$root/usr/share/doc/$1"
+    copyright >"$root/usr/share/doc/$1/copyright"
+    changelog | gzip -9n >"$root/usr/share/doc/$1/changelog.gz"
+    (cd "$root" && find usr -type f | LC_ALL=C sort | xargs md5sum) >"$root/DEBIAN/md5sums"
+    {
+        printf 'Package: %s\nVersion: %s\nArchitecture: amd64\nMaintainer: %s\n' "$1" "$version" "$maintainer"
+        printf 'Installed-Size: %s\n' "$(du -sk --apparent-size "$root/usr" | cut -f1)"
+        printf 'Depends: %s\nSection: %s\nPriority: optional\n' "$3" "$2"
+        cat
+    } >"$root/DEBIAN/control"
+    find "$root" -exec touch -h -d "@$SOURCE_DATE_EPOCH" {} +
+    dpkg-deb --root-owner-group -Zxz --build "$root" "$to/$deb" >/dev/null
+    sum "$deb"
+}
