@@ -1,8 +1,10 @@
 # What `scripts/package --check` runs. Both packages are the same byte for byte when they are made twice, and have the sums that
-# lie beside them, lintian has no error where it is there, and the program of each, unpacked into an empty root with nothing but
-# the C library, runs `check` and `run` there.
+# lie beside them. The Debian package asks for the C library that its program needs, and for nothing else. lintian has no error
+# where it is there, and the program of each, unpacked into an empty root with nothing but the C library, runs `check` and
+# `run` there.
 set -eu
 cd "$(dirname "$0")/../.."
+. scripts/parts/packing.sh
 scratch=$(mktemp -d)
 trap 'rm -rf "$scratch"' EXIT
 scripts/package "$scratch/one" >/dev/null
@@ -26,6 +28,21 @@ else
     echo "package: lintian is not here: it was not asked"
 fi
 
+# Each tool that reads it tells the same of the program.
+mkdir "$scratch/deb"
+dpkg-deb -x "$deb" "$scratch/deb"
+for reader in objdump readelf; do
+    if command -v "$reader" >/dev/null; then
+        wanted="libc6 (>= $(asked "$reader" "$scratch/deb/usr/bin/hotsync"))"
+        others=$(shared "$reader" "$scratch/deb/usr/bin/hotsync" | grep -vxF libc.so.6) || true
+        if [ "$(dpkg-deb -f "$deb" Depends)" != "$wanted" ] || [ "$others" ]; then
+            echo "package: Depends is $(dpkg-deb -f "$deb" Depends), and by $reader the program needs $wanted $others" >&2
+            exit 1
+        fi
+    fi
+done
+echo "package: the program needs $wanted, and the Debian package says so"
+
 # Runs the program that lies at this path of a root.
 try() {
     root=$1
@@ -48,8 +65,7 @@ if ! chroot / true 2>/dev/null; then
     echo "package: this user may not change the root: the program was not tried there"
     exit 0
 fi
-mkdir "$scratch/deb" "$scratch/tar" "$scratch/installed"
-dpkg-deb -x "$deb" "$scratch/deb"
+mkdir "$scratch/tar" "$scratch/installed"
 try "$scratch/deb" /usr/bin/hotsync
 tar -C "$scratch/tar" -xzf "$tar"
 "$scratch"/tar/*/install "$scratch/installed/home" >/dev/null

@@ -10,6 +10,37 @@ need() {
     done
 }
 
+# What reads the dynamic part of a program: either tool of binutils.
+reader() {
+    if command -v objdump >/dev/null; then echo objdump; else need readelf && echo readelf; fi
+}
+
+# The highest version of the C library's symbols that a program asks for: asked READER PROGRAM
+asked() {
+    case $1 in objdump) objdump -T "$2" ;; readelf) readelf -VW "$2" ;; esac |
+        grep -oE 'GLIBC_[0-9.]+' | sort -uV | tail -n 1 | sed 's/GLIBC_//'
+}
+
+# The shared libraries that it needs: shared READER PROGRAM
+shared() {
+    case $1 in
+    objdump) objdump -p "$2" | sed -n 's/^ *NEEDED *//p' ;;
+    readelf) readelf -dW "$2" | sed -n 's/.*(NEEDED).*\[\(.*\)\]/\1/p' ;;
+    esac
+}
+
+# The packages that a program needs: those of the C library alone, of a version that has each symbol. Any other is refused.
+depends() {
+    with=$(reader)
+    for library in $(shared "$with" "$1"); do
+        case $library in
+        libc.so.6 | libm.so.6 | ld-linux-x86-64.so.2) ;;
+        *) echo "package: the program needs $library, whose package is not known here. Nothing was packed." >&2; exit 1 ;;
+        esac
+    done
+    echo "libc6 (>= $(asked "$with" "$1"))"
+}
+
 # Puts a file below the root: put MODE FROM TO.
 put() {
     mkdir -p "$(dirname "$root/$3")"
