@@ -43,6 +43,19 @@ for reader in objdump readelf; do
 done
 echo "package: the program needs $wanted, and the Debian package says so"
 
+# Each link of a page that is packed leads to something that is packed: lead FOLDER
+lead() {
+    astray=$(cd "$1" && find . -name '*.md' | { while read -r page; do dead "$page"; done; })
+    if [ "$astray" ]; then
+        echo "package: in ${1##*/}: $astray" >&2
+        exit 1
+    fi
+}
+mkdir "$scratch/tar"
+tar -C "$scratch/tar" -xzf "$tar"
+for folder in "$scratch"/deb/usr/share/doc/* "$scratch"/tar/*/share/doc/*; do lead "$folder"; done
+echo "package: each link of the pages leads to a file that is packed"
+
 # Runs the program that lies at this path of a root.
 try() {
     root=$1
@@ -65,9 +78,8 @@ if ! chroot / true 2>/dev/null; then
     echo "package: this user may not change the root: the program was not tried there"
     exit 0
 fi
-mkdir "$scratch/tar" "$scratch/installed"
+mkdir "$scratch/installed"
 try "$scratch/deb" /usr/bin/hotsync
-tar -C "$scratch/tar" -xzf "$tar"
 "$scratch"/tar/*/install "$scratch/installed/home" >/dev/null
 try "$scratch/installed" /home/bin/hotsync
 echo "package: unpacked into an empty root, the program runs"

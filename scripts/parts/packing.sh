@@ -1,4 +1,5 @@
 # The functions of scripts/package, which sets root (the folder that is filled), to, version and day.
+. scripts/parts/links.sh
 
 # Ends with the name of each tool that isn't here: need TOOL..
 need() {
@@ -45,6 +46,15 @@ depends() {
 put() {
     mkdir -p "$(dirname "$root/$3")"
     install -m "$1" "$2" "$root/$3"
+}
+
+# Puts files of the sources, as git has them, into a folder of documents below the root, and leaves the pages there no link
+# into what isn't packed: document FOLDER PATH..
+document() {
+    folder=$1
+    shift
+    git ls-files -- "$@" | while read -r file; do put 644 "$file" "$folder/$file"; done
+    (cd "$root/$folder" && find . -name '*.md' | while read -r page; do plain "$page"; done)
 }
 
 # Writes the sum of a file that was made beside it: sum FILE
