@@ -19,9 +19,9 @@ ARM = re.compile(rf"({NAME}) ")
 LABELS_OF = re.compile(rf"((?:`{NAME}`(?:, and |, | and )?)+) of `([^`]+)`")
 
 
-# Names of the system, of Rust and of other software that the pages use.
+# Names of the system, of Rust, of packages and of other software that the pages use.
 FOREIGN = set("cc pkg-config stdin stdout PATH umask flock RLIMIT_FSIZE match Vec".split())
-FOREIGN |= {"mem::swap", "jiff::civil::Date", "RT_JOBS"}
+FOREIGN |= {"mem::swap", "jiff::civil::Date", "RT_JOBS", "libhotsync-dev"}
 
 
 class Names:

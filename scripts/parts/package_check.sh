@@ -1,7 +1,7 @@
-# What `scripts/package --check` runs. Both packages are the same byte for byte when they are made twice, and have the sums that
-# lie beside them. The Debian package asks for the C library that its program needs, and for nothing else. lintian has no error
-# where it is there, and the program of each, unpacked into an empty root with nothing but the C library, runs `check` and
-# `run` there.
+# What `scripts/package --check` runs. The packages are the same byte for byte when they are made twice, and have the sums that
+# lie beside them. The Debian package asks for the C library that its program needs, and for nothing else. Each link of a packed
+# page leads to what is packed. lintian has no error where it is there. The program of each package, unpacked into an empty root
+# with nothing but the C library, runs `check` and `run` there, and a caller of the packed library shows what it shows.
 set -eu
 cd "$(dirname "$0")/../.."
 . scripts/parts/packing.sh
@@ -14,12 +14,13 @@ for file in "$scratch"/one/*; do
     case $file in *.sha256) ;; *) grep -qx "[0-9a-f]*  ${file##*/}" "$file.sha256" ;; esac
 done
 (cd "$scratch/one" && sha256sum --strict --quiet -c ./*.sha256)
-echo "package: both packages are the same when they are made twice, and have the sums beside them"
+echo "package: the packages are the same when they are made twice, and have the sums beside them"
 
-deb=$(ls "$scratch"/one/*.deb)
+deb=$(ls "$scratch"/one/hotsync_*.deb)
+dev=$(ls "$scratch"/one/libhotsync-dev_*.deb)
 tar=$(ls "$scratch"/one/*.tar.gz)
 if command -v lintian >/dev/null; then
-    lintian --fail-on error "$deb" >"$scratch/lintian" 2>&1 || {
+    lintian --fail-on error "$deb" "$dev" >"$scratch/lintian" 2>&1 || {
         cat "$scratch/lintian" >&2
         exit 1
     }
@@ -29,8 +30,9 @@ else
 fi
 
 # Each tool that reads it tells the same of the program.
-mkdir "$scratch/deb"
+mkdir "$scratch/deb" "$scratch/dev"
 dpkg-deb -x "$deb" "$scratch/deb"
+dpkg-deb -x "$dev" "$scratch/dev"
 for reader in objdump readelf; do
     if command -v "$reader" >/dev/null; then
         wanted="libc6 (>= $(asked "$reader" "$scratch/deb/usr/bin/hotsync"))"
@@ -53,8 +55,32 @@ lead() {
 }
 mkdir "$scratch/tar"
 tar -C "$scratch/tar" -xzf "$tar"
-for folder in "$scratch"/deb/usr/share/doc/* "$scratch"/tar/*/share/doc/*; do lead "$folder"; done
+for folder in "$scratch"/deb/usr/share/doc/* "$scratch"/dev/usr/share/doc/* "$scratch"/tar/*/share/doc/*; do lead "$folder"; done
 echo "package: each link of the pages leads to a file that is packed"
+
+# What the packed library shows of a file, called from C as pkg-config says, and from Python as docs/LIBRARY.md says, has to be
+# what the packed program shows of it.
+call() {
+    usr=$scratch/dev/usr
+    examples=$usr/share/doc/libhotsync-dev/examples/library
+    flags="-I$usr/include -L$usr/lib -lhotsync"
+    if command -v pkg-config >/dev/null; then
+        flags=$(PKG_CONFIG_LIBDIR=$usr/lib/pkgconfig pkg-config --define-variable=prefix="$usr" --cflags --libs hotsync)
+    fi
+    cc -o "$scratch/show" "$examples/show.c" $flags
+    cc -shared -o "$scratch/libhotsync.so" -Wl,--whole-archive "$usr/lib/libhotsync.a" -Wl,--no-whole-archive
+    for file in demo/handheld/*.pdb; do
+        "$scratch/deb/usr/bin/hotsync" show "$file" >"$scratch/wanted"
+        "$scratch/show" "$file" | cmp - "$scratch/wanted"
+        HOTSYNC_LIBRARY=$scratch/libhotsync.so python3 -B "$examples/hotsync.py" "$file" | cmp - "$scratch/wanted"
+    done
+}
+if command -v cc >/dev/null; then
+    call
+    echo "package: the packed library shows from C and from Python what the program shows"
+else
+    echo "package: there is no cc here: the packed library was not called"
+fi
 
 # Runs the program that lies at this path of a root.
 try() {
