@@ -83,7 +83,9 @@ debian() {
     changelog | gzip -9n >"$root/usr/share/doc/$1/changelog.gz"
     (cd "$root" && find usr -type f | LC_ALL=C sort | xargs md5sum) >"$root/DEBIAN/md5sums"
     {
-        printf 'Package: %s\nVersion: %s\nArchitecture: amd64\nMaintainer: %s\n' "$1" "$version" "$maintainer"
+        printf 'Package: %s\n' "$1"
+        [ "$1" = hotsync ] || printf 'Source: hotsync\n'
+        printf 'Version: %s\nArchitecture: amd64\nMaintainer: %s\n' "$version" "$maintainer"
         printf 'Installed-Size: %s\n' "$(du -sk --apparent-size "$root/usr" | cut -f1)"
         printf 'Depends: %s\nSection: %s\nPriority: optional\n' "$3" "$2"
         cat
