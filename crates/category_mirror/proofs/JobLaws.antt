@@ -21,15 +21,15 @@ filed_job shelves job = record {
 }
 
 jobs-filed : (heads : List DbHead) (shelves : ShelvesValue) (wishes : Wishes) (names : List (List ℕ)) → wishes.actions.items ≡ []
-    → map (filed_job shelves) (map (job_of heads shelves false wishes) names) ≡ map (filing_job heads shelves) names
+    → map (filed_job shelves) (map (job_of heads shelves (λ other. false) wishes) names) ≡ map (filing_job heads shelves) names
 jobs-filed heads shelves wishes [] none = refl
 jobs-filed heads shelves wishes (name ∷ names) none =
-    let one : filed_job shelves (job_of heads shelves false wishes name) ≡ filing_job heads shelves name = rw none refl in
-    ap (λ job. job ∷ map (filed_job shelves) (map (job_of heads shelves false wishes) names)) one
+    let one : filed_job shelves (job_of heads shelves (λ other. false) wishes name) ≡ filing_job heads shelves name = rw none refl in
+    ap (λ job. job ∷ map (filed_job shelves) (map (job_of heads shelves (λ other. false) wishes) names)) one
     ∙ ap (λ jobs. filing_job heads shelves name ∷ jobs) (jobs-filed heads shelves wishes names none)
 
 pub jobs-are : (heads : List DbHead) (shelves : ShelvesValue) (wishes : Wishes) → wishes.actions.items ≡ []
-    → map (filed_job shelves) (jobs_of heads shelves false wishes) ≡ filing_jobs heads shelves
+    → map (filed_job shelves) (jobs_of heads shelves (λ other. false) wishes) ≡ filing_jobs heads shelves
 unfolding jobs_of filing_jobs
 jobs-are heads shelves wishes none = jobs-filed heads shelves wishes (names_with heads shelves) none
 

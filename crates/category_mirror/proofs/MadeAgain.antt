@@ -170,6 +170,7 @@ module _ (filing : Filing) (done : List (List ℕ)) (user : UserInfo) where
   unfolding filed_slots filed_shelves
   next_slots = λ k. slice_set filing.slots filing.picked (record {
     marks = (slot_of filing).marks;
+    parted = (slot_of filing).parted;
     shelves = record {
       rows = map (λ (rows : DatabaseValue). rows_by (next_merge rows.head.name k) rows) (shelves_of filing).rows;
       bases = map (λ (base : DatabaseValue). base_by (next_merge base.head.name k) (database_of base.head.name (shelves_of filing).rows) base)

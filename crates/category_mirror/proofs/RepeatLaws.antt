@@ -120,9 +120,9 @@ module _ (filing : Filing) (within : filing.picked < length filing.slots) where
   abbrev own_rows : List DatabaseValue
   own_rows = (shelves_of filing).rows
 
-  behind_slot : slot_at (filed_slots filing) filing.picked ≡ record { marks = (slot_of filing).marks; shelves = filed_shelves filing }
+  behind_slot : slot_at (filed_slots filing) filing.picked ≡ record { marks = (slot_of filing).marks; parted = (slot_of filing).parted; shelves = filed_shelves filing }
   unfolding filed_slots
-  behind_slot = slot_at-set_same filing.slots filing.picked (record { marks = (slot_of filing).marks; shelves = filed_shelves filing }) within
+  behind_slot = slot_at-set_same filing.slots filing.picked (record { marks = (slot_of filing).marks; parted = (slot_of filing).parted; shelves = filed_shelves filing }) within
 
   behind_shelves : shelves_of behind ≡ filed_shelves filing
   behind_shelves = ap (λ (s : SlotValue). s.shelves) behind_slot
@@ -346,9 +346,9 @@ module _ (filing : Filing) (within : filing.picked < length filing.slots) where
     pub slots_again : NamesRise own_rows → filed_slots behind ≡ filed_slots filing
     unfolding filed_slots
     slots_again rise =
-        (λ k. slice_set (filed_slots filing) filing.picked (record { marks = (behind_slot k).marks; shelves = shelves_again rise k }))
-        ∙ set-set filing.slots filing.picked (record { marks = (slot_of filing).marks; shelves = filed_shelves filing })
-        (record { marks = (slot_of filing).marks; shelves = filed_shelves filing })
+        (λ k. slice_set (filed_slots filing) filing.picked (record { marks = (behind_slot k).marks; parted = (behind_slot k).parted; shelves = shelves_again rise k }))
+        ∙ set-set filing.slots filing.picked (record { marks = (slot_of filing).marks; parted = (slot_of filing).parted; shelves = filed_shelves filing })
+        (record { marks = (slot_of filing).marks; parted = (slot_of filing).parted; shelves = filed_shelves filing })
 
     -- ---- what is said and committed
 

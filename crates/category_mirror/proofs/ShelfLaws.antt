@@ -364,7 +364,7 @@ module _ (filing : Filing) where
     unfolding filed_slots
     slots-none none =
         let same : filed_shelves filing ≡ shelves = sym shelves-are ∙ ap (λ (cs : List DbChange). with_changes cs shelves) none in
-        ap (λ (s : ShelvesValue). let slot : SlotValue = record { marks = (slot_of filing).marks; shelves = s } in slice_set filing.slots filing.picked slot) same
+        ap (λ (s : ShelvesValue). let slot : SlotValue = record { marks = (slot_of filing).marks; parted = (slot_of filing).parted; shelves = s } in slice_set filing.slots filing.picked slot) same
         ∙ set-get_or filing.slots filing.picked (new_slot (number_of filing.slots))
 
     pub slots-are : {F : Type 0} (folder : F) → filing.picked < length filing.slots
@@ -374,7 +374,7 @@ module _ (filing : Filing) where
         let there : with_place filing.slots filing.picked ≡ filing.slots =
         ap (λ b. if b then filing.slots else filing.slots ++ new_slot (number_of filing.slots) ∷ []) (let less : nat_lt filing.picked (length filing.slots)
         ≡ true = grind (arith, nat_tests, within) in less) in
-        ap (λ (ss : List SlotValue). let slot : SlotValue = record { marks = (slot_of filing).marks; shelves = with_changes (filing_changes filing) shelves }
+        ap (λ (ss : List SlotValue). let slot : SlotValue = record { marks = (slot_of filing).marks; parted = (slot_of filing).parted; shelves = with_changes (filing_changes filing) shelves }
         in slice_set ss filing.picked slot) there
-        ∙ ap (λ (s : ShelvesValue). let slot : SlotValue = record { marks = (slot_of filing).marks; shelves = s } in slice_set filing.slots filing.picked slot)
+        ∙ ap (λ (s : ShelvesValue). let slot : SlotValue = record { marks = (slot_of filing).marks; parted = (slot_of filing).parted; shelves = s } in slice_set filing.slots filing.picked slot)
         shelves-are

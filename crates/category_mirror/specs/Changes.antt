@@ -10,8 +10,10 @@ use Rattle.pdb_values.specs.declared.record.Record.{Record}
 use Rattle.palm_device.specs.Records.{with_records}
 use Rattle.desk_journal.specs.Entries.{EntryValue}
 use Rattle.desk_store.specs.Changes.{IsDbChange, MayBear, slot_entries}
-use Rattle.desk_store.specs.Shelves.{ShelvesValue, SlotValue, marks_of}
-use Rattle.desk_store.specs.Views.{DeskValue, marks_in}
+use Rattle.folder_files.specs.Partings.{PartedRise}
+use Rattle.folder_files.specs.declared.parted.Parted.{Parted}
+use Rattle.desk_store.specs.Shelves.{ShelvesValue, SlotValue, infos_of}
+use Rattle.desk_store.specs.Views.{DeskValue, marks_in, parted_in}
 use Rattle.desk_store.specs.declared.change.DbChange.{DbChange}
 use Rattle.desk_store.specs.declared.fault.CommitFault.{CommitFault}
 use Rattle.session_plan.specs.Commits.{Commits}
@@ -69,13 +71,15 @@ changes_filed shelves (job ∷ jobs) [] = []
 changes_filed shelves (job ∷ jobs) (merge ∷ merges) =
     change_filed shelves job.name merge ++ changes_filed shelves jobs merges
 
--- the slots of a desktop whose picked slot has these changes and its marks as they were
+-- the slots of a desktop whose picked slot has these changes, its marks as they were, and the same
+-- databases that took no part in its last session
 unfoldable pub slots_filed : {F : Type 0} → List DbChange → DeskValue F → List SlotValue
-slots_filed changes desk = slots_with (marks_in desk) changes desk.picked desk.slots
+slots_filed changes desk =
+    slots_with (marks_in desk) (parted_in desk) changes desk.picked desk.slots
 
 -- the files that this writes
 unfoldable pub entries_filed : {F : Type 0} → List DbChange → DeskValue F → List EntryValue
-entries_filed changes desk = slot_entries desk.picked changes (marks_of (slots_filed changes desk))
+entries_filed changes desk = slot_entries desk.picked changes (infos_of (slots_filed changes desk))
 
 -- one commit of all changes; none where nothing changes
 abbrev pub CommitsFiled : {F : Type 0} → (F → Option FileMap) → (F → Moments)
@@ -96,3 +100,8 @@ pub record AreCommittable {F : Type 0} (changes : List DbChange) (desk : DeskVal
   pub may : MayCommit changes desk
   pub rise : NamesRise (map (λ (change : DbChange). change.rows) changes)
   pub each : AllByRecursion IsDbChange changes
+
+-- the picked slot keeps which databases took no part in its last session
+pub record KeepsParted {F : Type 0} (parted : List Parted) (desk : DeskValue F) : Type 0 where
+  pub same : parted ≡ parted_in desk
+  pub rise : PartedRise parted

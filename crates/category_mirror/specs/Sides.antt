@@ -226,11 +226,11 @@ filed_shelves filing = record {
   archives = map (filed_archive filing) (shelves_of filing).archives;
 }
 
--- the picked slot's databases so, its marks and all other slots as they were
+-- the picked slot's databases so, all else of it and all other slots as they were
 unfoldable pub filed_slots : Filing → List SlotValue
 filed_slots filing =
     slice_set filing.slots filing.picked
-    (record { marks = (slot_of filing).marks; shelves = filed_shelves filing })
+    (record (slot_of filing) { shelves = filed_shelves filing })
 
 -- ---- what is told
 

@@ -1,8 +1,9 @@
 // How the desktop commits what changes.
 ghost use Rattle.std.specs.Prelude.{◌≡◌, IsTrue};
-ghost use Rattle.category_mirror.specs.Changes.{AreCommittable, CommitsFiled, MayCommit};
+ghost use Rattle.category_mirror.specs.Changes.{AreCommittable, CommitsFiled, KeepsParted, MayCommit};
 
 use desk_store::{CommitFault, DbChange, Desk, DeskChange};
+use folder_files::Parted;
 use hs_folders::Folder;
 use pdb_values::{Database, Marks};
 
@@ -18,12 +19,15 @@ fn same_marks(marks: &Marks) -> Marks
     }
 }
 
-// Commits these changes of the picked slot, all at once, where there are any. The slot keeps its marks.
+// Commits these changes of the picked slot, all at once, where there are any. The slot keeps its marks, and which
+// databases took no part in its last session.
 pub(crate) fn commit_filed<D: Folder>(
     desk: Desk<D>,
     changes: Vec<DbChange>,
+    parted: Vec<Parted>,
 ) -> Result<Desk<D>, (CommitFault, D)>
-    requires { AreCommittable changes.items desk }
+    requires fit { AreCommittable changes.items desk }
+    requires kept { KeepsParted parted.items desk }
     ensures { CommitsFiled D.contents D.moments D.paths D.faults changes.items desk result }
 {
     if changes.is_empty() {
@@ -32,6 +36,7 @@ pub(crate) fn commit_filed<D: Folder>(
     let marks = same_marks(desk.marks());
     desk.commit(DeskChange {
         marks,
+        parted,
         databases: changes,
     })
 }

@@ -11,7 +11,7 @@ ghost use Rattle.session_parts.specs.Leaving.{Leaves};
 ghost use Rattle.session_parts.specs.Meets.{IsSeated};
 ghost use Rattle.session_parts.specs.Rests.{WhereAtRest};
 ghost use Rattle.session_plan.specs.Fits.{Rise};
-ghost use Rattle.category_mirror.specs.Changes.{AreCommittable, changes_filed as changes_of};
+ghost use Rattle.category_mirror.specs.Changes.{AreCommittable, KeepsParted, changes_filed as changes_of};
 ghost use Rattle.category_mirror.specs.Courses.{Carries, Files, FilingRan, Finishes, Marks, Turns, picked_for};
 ghost use Rattle.category_mirror.specs.Courses.{reports_filed as reports_of, stopped as left_by};
 ghost use Rattle.category_mirror.specs.FilingActs.{marks_for, marks_unless};
@@ -29,6 +29,7 @@ use crate::telling::reports_filed;
 use desk_store::{DbChange, Desk};
 use desktop_session::{Halted, Linked, SessionFault};
 use dlp_commands::Link;
+use folder_files::{Parted, same_parted};
 use hs_folders::Folder;
 use pdb_values::slot_for;
 use session_parts::{DbReport, Met, Outcome, Stop, meet_over};
@@ -77,6 +78,7 @@ fn finish<L: Link, D: Folder>(
 #[derive(Drop)]
 struct Prepared {
     changes: Vec<DbChange>,
+    parted: Vec<Parted>,
     reports: Vec<DbReport>,
 }
 
@@ -95,13 +97,19 @@ fn prepare<D: Folder>(
     ensures reports { IfOk result (λ prepared. prepared.reports.items
         ≡ reports_of (shelves_in desk.now) jobs.now merges.now) }
     ensures fit { IfOk result (λ prepared. AreCommittable prepared.changes.items desk.now) }
+    ensures kept { IfOk result (λ prepared. KeepsParted prepared.parted.items desk.now) }
 {
     let changes = changes_filed(alloc, desk, jobs, merges)?;
     let reports = reports_filed(alloc, desk, jobs, merges)?;
+    let parted = same_parted(alloc, desk.parted())?;
     if !may_commit(desk, &changes) {
         return Err(AllocError);
     }
-    Ok(Prepared { changes, reports })
+    Ok(Prepared {
+        changes,
+        parted,
+        reports,
+    })
 }
 
 // Marks the handheld as one that knows no desktop.
@@ -136,11 +144,16 @@ fn mark_where<L: Link>(linked: &mut Linked<L>, changes: &[DbChange]) -> Result<(
 fn commit<L: Link, D: Folder>(linked: Linked<L>, desk: Desk<D>, prepared: Prepared) -> Outcome<L, D>
     requires open { linked.abandoned ≡ false }
     requires fit { AreCommittable prepared.changes.items desk }
+    requires kept { KeepsParted prepared.parted.items desk }
     ensures { Carries L.talk L.since L.fault L.downs D.contents D.moments D.paths D.faults
         prepared.changes.items prepared.reports linked desk result }
 {
-    let Prepared { changes, reports } = prepared;
-    match commit_filed(desk, changes) {
+    let Prepared {
+        changes,
+        parted,
+        reports,
+    } = prepared;
+    match commit_filed(desk, changes, parted) {
         Ok(desk) => finish(linked, desk, reports),
         Err((fault, folder)) => Outcome {
             link: link_of(linked),
@@ -158,6 +171,7 @@ fn mark_and_commit<L: Link, D: Folder>(
 ) -> Outcome<L, D>
     requires open { linked.abandoned ≡ false }
     requires fit { AreCommittable prepared.changes.items desk }
+    requires kept { KeepsParted prepared.parted.items desk }
     ensures { Marks L.talk L.since L.fault L.downs D.contents D.moments D.paths D.faults
         prepared.changes.items prepared.reports linked desk result }
 {

@@ -31,6 +31,7 @@ made_device items = record { databases = made_database Handheld items ∷ []; us
 unfoldable pub made_slot : List Item → SlotValue
 made_slot items = record {
   marks = record { pc = 1; user = 0; last = 0; name = [] };
+  parted = [];
   shelves = record { rows = made_database Desktop items ∷ []; bases = made_database Base items ∷ []; archives = [] };
 }
 
@@ -69,7 +70,7 @@ pub not_skipped : (items : List Item) → skip_of (made_task items) ≡ None
 unfolding skip_of made_task
 not_skipped items = refl
 
-agree : (items : List Item) (wishes : Wishes) → agrees (made_meeting items wishes) ≡ true
+agree : (items : List Item) (wishes : Wishes) → agrees (made_meeting items wishes) (made_task items).name ≡ true
 unfolding agrees made_meeting made_device made_slot
 agree items wishes = refl
 

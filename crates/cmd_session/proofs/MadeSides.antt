@@ -30,7 +30,7 @@ use Rattle.desk_journal.specs.Overlays.{finished}
 use Rattle.desk_journal.proofs.OverlayLaws.{finished_none, get_put, same_name, same_name-is, same_name-other}
 use Rattle.desk_store.specs.DeskFiles.{file_in, slot_file}
 use Rattle.desk_store.specs.Desks.{IsDesk}
-use Rattle.desk_store.specs.Shelves.{AreInOrder, SlotValue, database_at, first_slots, if_database, marks_of, shelf_at, slots_or_first}
+use Rattle.desk_store.specs.Shelves.{AreInOrder, SlotValue, database_at, first_slots, if_database, infos_of, shelf_at, slots_or_first}
 use Rattle.desk_store.specs.declared.role.Role.{Role}
 use Rattle.desk_store.specs.declared.role.Role.TheVariants as role
 use Rattle.desk_store.proofs.FileLaws.{database_read}
@@ -257,6 +257,7 @@ found_at {items} are one name =
 -- a desktop with the made files: one slot without a user, with these databases
 pub record MadeSlot (items : List Item) (slot : SlotValue) : Type 0 where
   pub marks : slot.marks ≡ record { pc = 1; user = 0; last = 0; name = [] }
+  pub parted : slot.parted ≡ []
   pub rows : slot.shelves.rows ≡ made_database Desktop items ∷ []
   pub bases : slot.shelves.bases ≡ made_database Base items ∷ []
   pub archives : slot.shelves.archives ≡ []
@@ -302,7 +303,7 @@ pub made_desktop : {items : List Item} {slots : List SlotValue} → AreItems ite
 made_desktop {items} {slots} are desk =
     by slots (desk.stands.marked ∙ ap (λ (o : Option (List ℕ)). slots_or_first (option_map desktop_in o)) (no_info items)) desk.ordered desk.stands.shelved
   where
-    by : (slots : List SlotValue) → marks_of slots ≡ first_slots → AreInOrder slots
+    by : (slots : List SlotValue) → infos_of slots ≡ first_slots → AreInOrder slots
         → ((slot : ℕ) (one : Role) (name : List ℕ) → slot < length slots → database_of name (shelf_at slots slot one)
         ≡ database_at (desktop_files items) (length slots) slot one name) → (slot : SlotValue) × (slots ≡ slot ∷ []) × MadeSlot items slot
     by [] marks order shelved = absurd cc
@@ -311,6 +312,7 @@ made_desktop {items} {slots} are desk =
       refl,
       record {
         marks = cc;
+        parted = cc;
         rows = shelf_is items slot.shelves.rows role.Rows order.0.rows (λ name. shelved 0 role.Rows name (omega arith) ∙ found_at are role.Rows name);
         bases = shelf_is items slot.shelves.bases role.Base order.0.bases (λ name. shelved 0 role.Base name (omega arith) ∙ found_at are role.Base name);
         archives = shelf_is items slot.shelves.archives role.Archive order.0.archives (λ name. shelved 0 role.Archive name (omega arith)

@@ -29,14 +29,14 @@ use Rattle.database_merge.specs.Seeing.{merge_choice, shown, sides, skip_of}
 use Rattle.std.specs.Prelude.{is_some}
 
 pub same_sides : (meeting : Meeting) (task : Task) (action : Action) → is_fast meeting task ≡ false
-    → sides_met meeting task ≡ sides (sides_of_task task) (wishes_of_task meeting action)
+    → sides_met meeting task ≡ sides (sides_of_task task) (wishes_of_task meeting task action)
 unfolding sides_met view sides
 same_sides meeting task action slow =
     ap (λ b. sides_by (if b then fast_view (base_rows task) (records_of task.handheld) else slow_view (records_of task.handheld)) task.rows task.base
-    (agrees meeting)) slow
+    (agrees meeting task.name)) slow
 
 pub same_choice : (meeting : Meeting) (task : Task) (action : Action) → task.action ≡ Some action → is_fast meeting task ≡ false
-    → choice meeting task ≡ merge_choice (sides_of_task task) (wishes_of_task meeting action)
+    → choice meeting task ≡ merge_choice (sides_of_task task) (wishes_of_task meeting task action)
 unfolding choice
 same_choice meeting task action is slow =
     ap (λ a. choice_for (action_or_sync a) (sides_met meeting task)) is ∙ ap (choice_for action) (same_sides meeting task action slow)
@@ -47,8 +47,8 @@ same_skip task action is = ap (λ a. reason_by a (head_of task.handheld) (head_o
 
 pub leaves-as : (meeting : Meeting) (task : Task) (action : Action) (given : List ℕ) (before rows : DatabaseValue) → task.action ≡ Some action
     → is_fast meeting task ≡ false
-    → LeavesAs meeting task given before rows (left_by (merge_choice (sides_of_task task) (wishes_of_task meeting action))
-    (shown (sides_of_task task) (wishes_of_task meeting action)) given task.archive before rows)
+    → LeavesAs meeting task given before rows (left_by (merge_choice (sides_of_task task) (wishes_of_task meeting task action))
+    (shown (sides_of_task task) (wishes_of_task meeting task action)) given task.archive before rows)
 leaves-as meeting task action given before rows is slow =
     let ch = same_choice meeting task action is slow in
     let held = ap (λ (s : Sides). s.handheld) (same_sides meeting task action slow) in
@@ -61,11 +61,11 @@ leaves-as meeting task action given before rows is slow =
 
 pub full-as : (meeting : Meeting) (task : Task) (action : Action) → task.action ≡ Some action → is_fast meeting task ≡ false
     → AreIds (ids_of (records_of task.handheld)) → AreBounded (records_of task.handheld)
-    → is_full (sides_of_task task) (wishes_of_task meeting action) ≡ is_over (sizes_alone meeting task)
+    → is_full (sides_of_task task) (wishes_of_task meeting task action) ≡ is_over (sizes_alone meeting task)
 unfolding sides
 full-as meeting task action is slow ids bounded =
     let both = sides_of_task task in
-    let wishes = wishes_of_task meeting action in
+    let wishes = wishes_of_task meeting task action in
     let records = records_of task.handheld in
     let ch = same_choice meeting task action is slow in
     let held = ap (λ (s : Sides). s.handheld) (same_sides meeting task action slow) in

@@ -25,10 +25,10 @@ sides_of_task task = record {
 }
 
 -- what the session asks
-abbrev pub wishes_of_task : Meeting → Action → MergeWishes
-wishes_of_task meeting action = record {
+abbrev pub wishes_of_task : Meeting → Task → Action → MergeWishes
+wishes_of_task meeting task action = record {
   action = action;
-  agree = agrees meeting;
+  agree = agrees meeting task.name;
   date = meeting.wishes.date;
 }
 
@@ -57,10 +57,10 @@ abbrev pub LeavesAsMerge : Meeting → Task → Action → List ℕ → Database
     → Type 0
 LeavesAsMerge meeting task action given before rows =
     let both = sides_of_task task in
-    let wishes = wishes_of_task meeting action in
+    let wishes = wishes_of_task meeting task action in
     LeavesAs meeting task given before rows
     (left_by (merge_choice both wishes) (shown both wishes) given task.archive before rows)
 
 -- a merge finds a limit passed
 abbrev pub finds_full : Meeting → Task → Action → Bool
-finds_full meeting task action = is_full (sides_of_task task) (wishes_of_task meeting action)
+finds_full meeting task action = is_full (sides_of_task task) (wishes_of_task meeting task action)

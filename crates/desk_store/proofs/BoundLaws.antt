@@ -4,16 +4,15 @@ use Rattle.std.specs.Prelude.{OnOk}
 use Rattle.std.specs.List.{AllByRecursion}
 use Rattle.std.proofs.lemmas.List.{take_all}
 use Rattle.pdb_values.specs.Databases.{DatabaseValue}
-use Rattle.pdb_values.specs.declared.user.Marks.{Marks}
+use Rattle.folder_files.specs.Slots.{SlotInfoValue}
 use Rattle.pdb_values.proofs.NamedLaws.{AllByRecursion-with_put}
 use Rattle.palm_device.specs.Bounds.{IsBoundedDatabase}
 use Rattle.desk_store.specs.Bounds.{AreBounded, AreBoundedMarks, AreBoundedShelves, IsBoundedSlot, KeepsBounds}
 use Rattle.desk_store.specs.Finds.{with_database_at}
-use Rattle.desk_store.specs.Shelves.{ShelvesValue, SlotValue, empty_slot, number_of, slot_at, with_database}
+use Rattle.desk_store.specs.Shelves.{ShelvesValue, SlotValue, bare_slot, number_of, slot_at, with_database}
 use Rattle.desk_store.specs.declared.role.Role.{Role}
 use Rattle.desk_store.specs.declared.role.Role.TheVariants.{Rows, Base, Archive}
 use Rattle.desk_store.proofs.SlotListLaws.{each-at, each-set}
-use Rattle.pdb_files.proofs.WriteLaws.{all_behind, all_of_more}
 
 -- all of it
 pub each_taken : {X : Type 0} (P : X → Type 0) (xs : List X) (place : ℕ) → length xs ≤ place → AllByRecursion P (take place xs) → AllByRecursion P xs
@@ -22,12 +21,12 @@ each_taken P xs place past each = subst (AllByRecursion P) (take_all place xs pa
 -- ---- slots
 
 -- a slot without databases
-pub bounded_empty : (marks : Marks) → AreBoundedMarks marks → IsBoundedSlot (empty_slot marks)
-bounded_empty marks is = search (rules)
+pub bounded_bare : (info : SlotInfoValue) → AreBoundedMarks info.marks → IsBoundedSlot (bare_slot info)
+bounded_bare info is = search (rules)
 
-pub bounded_empties : (marks : List Marks) → AllByRecursion AreBoundedMarks marks → AreBounded (map empty_slot marks)
-bounded_empties [] each = tt
-bounded_empties (known ∷ marks) each = (bounded_empty known each.0, bounded_empties marks each.1)
+pub bounded_bares : (infos : List SlotInfoValue) → AllByRecursion (λ info. AreBoundedMarks info.marks) infos → AreBounded (map bare_slot infos)
+bounded_bares [] each = tt
+bounded_bares (info ∷ infos) each = (bounded_bare info each.0, bounded_bares infos each.1)
 
 -- the number of a desktop, where none of its slots is out of bounds
 number_below : (slots : List SlotValue) → AreBounded slots → number_of slots < 2 ^ 32
@@ -36,7 +35,7 @@ number_below (slot ∷ slots) each = each.0.marks.pc
 
 -- the slot at a place, or a new one behind the last
 pub bounded_at : (slots : List SlotValue) (place : ℕ) → AreBounded slots → IsBoundedSlot (slot_at slots place)
-bounded_at slots place each = search (rules, each-at, bounded_empty, number_below)
+bounded_at slots place each = search (rules, each-at, bounded_bare, number_below)
 
 -- a database more
 bounded_with : (role : Role) {new : DatabaseValue} {shelves : ShelvesValue} → IsBoundedDatabase new → AreBoundedShelves shelves

@@ -10,13 +10,12 @@ use Rattle.std.proofs.lemmas.List.{get_or_past, length-append, length-map, lengt
 use Rattle.hs_folders.specs.FileMaps.{FileMap}
 use Rattle.pdb_values.specs.Databases.{DatabaseValue}
 use Rattle.pdb_values.specs.NamedDatabases.{database_of}
-use Rattle.pdb_values.specs.declared.user.Marks.{Marks}
 use Rattle.pdb_values.proofs.NamedLaws.{bytes_eq-is}
 use Rattle.pdb_files.specs.Files.{canonical}
 use Rattle.pdb_files.specs.Reading.{database_in}
 use Rattle.folder_files.specs.FileNames.{desktop_info_file, is_kept_file, journal_file}
 use Rattle.folder_files.specs.InfoFiles.{IsDesktopFile, desktop_in, desktop_text}
-use Rattle.folder_files.specs.Slots.{AreSlots}
+use Rattle.folder_files.specs.Slots.{AllRise, AreSlots, SlotInfoValue}
 use Rattle.folder_files.specs.declared.bad_line.BadLine.{BadLine}
 use Rattle.folder_files.proofs.InfoLaws.{desktop_only}
 use Rattle.desk_journal.specs.Entries.{EntryValue}
@@ -27,7 +26,7 @@ use Rattle.desk_store.specs.Changes.{with_commit}
 use Rattle.desk_store.specs.Views.{DeskValue}
 use Rattle.desk_store.specs.DeskFiles.{file_in, slot_file}
 use Rattle.desk_store.specs.Desks.{IsDesk, IsDeskOf, IsPlace}
-use Rattle.desk_store.specs.Shelves.{AreInOrder, AreOrdered, SlotValue, bad_at, database_at, if_bad, if_database, marks_of, new_slot, number_of, shelf_at}
+use Rattle.desk_store.specs.Shelves.{AreInOrder, AreOrdered, SlotValue, bad_at, database_at, if_bad, if_database, infos_of, marks_of, new_slot, number_of, shelf_at}
 use Rattle.desk_store.specs.Shelves.{shelf_of, slot_at, slots_or_first, with_place}
 use Rattle.desk_store.specs.declared.change.DbChange.{DbChange}
 use Rattle.desk_store.specs.declared.change.DeskChange.{DeskChange}
@@ -38,7 +37,7 @@ use Rattle.desk_store.proofs.ChangedLaws.{changed_is, found_changed, ordered_cha
 use Rattle.desk_store.proofs.FileLaws.{database_read, role_of_file}
 use Rattle.desk_store.proofs.JournalLaws.{IsFile, IsSlot, change_files, last_database, last_info, last_other}
 use Rattle.desk_store.proofs.OwnLaws.{database_is_own, good_database, good_grows, same_file}
-use Rattle.desk_store.proofs.SlotListLaws.{each-set, few_places, ordered_at, place_there, slot_at-place, slot_at-push, slot_at-set_other, slot_at-set_same}
+use Rattle.desk_store.proofs.SlotListLaws.{each-set, few_places, ordered_at, place_there, rise-commit, slot_at-place, slot_at-push, slot_at-set_other, slot_at-set_same}
 use Rattle.desk_store.proofs.SlotListLaws.{with_place-cases}
 use Rattle.std.proofs.lemmas.Grind.{common_steps}
 use Rattle.std.proofs.lemmas.Bool.Decides.{nat_tests}
@@ -129,10 +128,10 @@ last_good slots q bytes (entry ∷ entries) files there =
     grind (arith, common_steps, nat_tests, last_of, same_name, last_good slots q bytes entries files.1, bytes_eq-is, same_name-is)
 
 -- the slot that changed has the databases of the change, each other one those of before
-filled_changed : {held : FileMap} {slots : List SlotValue} {place : ℕ} {change : DeskChange} {marks : List Marks} → IsFilled held slots
-    → IsSlot (length slots) place → IsDeskChange change → AllByRecursion IsDbWritten change.databases.items → IsDesktopFile marks (desktop_text marks)
-    → IsFilled (put_all (slot_entries place change.databases.items marks) held) (set slots place (changed_slot change (slot_at slots place)))
-filled_changed {held} {slots} {place} {change} {marks} was at is written text = record {
+filled_changed : {held : FileMap} {slots : List SlotValue} {place : ℕ} {change : DeskChange} {infos : List SlotInfoValue} → IsFilled held slots
+    → IsSlot (length slots) place → IsDeskChange change → AllByRecursion IsDbWritten change.databases.items → IsDesktopFile infos (desktop_text infos)
+    → IsFilled (put_all (slot_entries place change.databases.items infos) held) (set slots place (changed_slot change (slot_at slots place)))
+filled_changed {held} {slots} {place} {change} {infos} was at is written text = record {
   shelved = λ slot role name less. by_slot slot role name (eqb slot place) refl (omega (arith, less, count))
       ∙ ap (λ (n : ℕ). database_at now n slot role name) (sym count);
   good = λ q. ap (λ (n : ℕ). bad_at now n q) count
@@ -143,7 +142,7 @@ filled_changed {held} {slots} {place} {change} {marks} was at is written text = 
     changes = change.databases.items
 
     entries : List EntryValue
-    entries = slot_entries place changes marks
+    entries = slot_entries place changes infos
 
     now : FileMap
     now = put_all entries held
@@ -182,7 +181,7 @@ filled_changed {held} {slots} {place} {change} {marks} was at is written text = 
         let apart = eqb-false slot place other in
         ap (λ (s : SlotValue). database_of name (shelf_of s.shelves role)) (slot_at-set_other slots (changed_slot change (slot_at slots place)) less apart)
         ∙ (was.shelved slot role name less ∙ at_file slot role name None
-        (last_other role name changes marks (omega (arith, less, at.few)) (omega (arith, at.there, at.few)) apart))
+        (last_other role name changes infos (omega (arith, less, at.few)) (omega (arith, at.there, at.few)) apart))
     by_slot slot role name true same less =
         let here : slot ≡ place = eqb-true slot place same in
         subst (λ (k : ℕ). database_of name (shelf_at (set slots place (changed_slot change (slot_at slots place))) k role) ≡ database_at now
@@ -192,7 +191,7 @@ filled_changed {held} {slots} {place} {change} {marks} was at is written text = 
         ∙ (ap (option_or (changed role name changes)) (was.shelved place role name at.there)
         ∙ (by_change role name (changed role name changes) refl
         ∙ at_file place role name (option_map canonical (changed role name changes))
-        (last_database place role name changes marks (omega (arith, at.there, at.few)) is.rise is.each written)))))
+        (last_database place role name changes infos (omega (arith, at.there, at.few)) is.rise is.each written)))))
 
 -- ---- the desktop
 
@@ -210,32 +209,36 @@ pub formed_after : (change : DeskChange) {place : ℕ} {slots : List SlotValue} 
     → MayBear slots place change.marks → AreSlots (marks_of (with_commit change place slots))
 formed_after change {place} {slots} formed at may = bears (changed_slot change (slot_at slots place)) at formed may
 
+pub parted_after : (change : DeskChange) {place : ℕ} {slots : List SlotValue} → IsDeskChange change → IsPlace slots place → AllRise (infos_of slots)
+    → AllRise (infos_of (with_commit change place slots))
+parted_after change {place} {slots} is at parted = rise-commit slots place (changed_slot change (slot_at slots place)) at.near is.parted parted
+
 -- what is to be shown of a change that was carried out
 pub record IsDone (made : DeskChange) (place : ℕ) (slots : List SlotValue) : Type 0 where
   pub at : IsPlace slots place
   pub is : IsDeskChange made
   pub may : MayBear slots place made.marks
   pub written : AllByRecursion IsDbWritten made.databases.items
-  pub text : IsDesktopFile (marks_of (with_commit made place slots)) (desktop_text (marks_of (with_commit made place slots)))
+  pub text : IsDesktopFile (infos_of (with_commit made place slots)) (desktop_text (infos_of (with_commit made place slots)))
 
 changed_desk : {held : FileMap} {slots : List SlotValue} {change : DeskChange} {place : ℕ} → AreSlots (marks_of slots) → IsDeskOf held slots
     → IsDone change place slots → IsDeskOf (put_all (change_entries change place slots) held) (with_commit change place slots)
 changed_desk {held} {slots} {change} {place} formed was done =
     let there = with_place slots place in
-    let marks = marks_of (with_commit change place slots) in
+    let infos = infos_of (with_commit change place slots) in
     let entries = change_entries change place slots in
     let slot = slot_of formed done.at in
     let before : IsFilled held there = filled_place held (some_slot slots formed) done.at (record { shelved = was.shelved; good = was.good }) in
     let after : IsFilled (put_all entries held) (with_commit change place slots) = subst (IsFilled (put_all entries held))
     (sym (commit_is change formed done.at)) (filled_changed before slot done.is done.written done.text) in
     let got : (q : List ℕ) → finmap.get (put_all entries held) q ≡ option_or (last_of q entries) (finmap.get held q) = λ q. get-put_all entries held q in
-    let info : finmap.get (put_all entries held) desktop_info_file ≡ Some (desktop_text marks) = got desktop_info_file
-    ∙ ap (λ (o : Option (List ℕ)). option_or o (finmap.get held desktop_info_file)) (last_info place change.databases.items marks) in
+    let info : finmap.get (put_all entries held) desktop_info_file ≡ Some (desktop_text infos) = got desktop_info_file
+    ∙ ap (λ (o : Option (List ℕ)). option_or o (finmap.get held desktop_info_file)) (last_info place change.databases.items infos) in
     record {
       no_journal = got journal_file ∙ (ap (λ (o : Option (List ℕ)). option_or o (finmap.get held journal_file))
           (last_journal (length there) entries (change_files change.databases.items slot done.is.each done.written done.text)) ∙ was.no_journal);
       marked = sym (ap (λ (o : Option (List ℕ)). slots_or_first (option_map desktop_in o)) info
-          ∙ ap (λ (r : Result (List Marks) BadLine). slots_or_first (Some r)) (desktop_only (desktop_text marks) marks done.text));
+          ∙ ap (λ (r : Result (List SlotInfoValue) BadLine). slots_or_first (Some r)) (desktop_only (desktop_text infos) infos done.text));
       shelved = after.shelved;
       good = after.good;
     }
@@ -265,6 +268,7 @@ pub desk_after : {told : Option FileMap} (now : Option FileMap) {slots after : L
     → IsDesk now after
 desk_after {told} now {slots} {change} {place} was done here is = subst (IsDesk now) (sym is) (record {
   formed = formed_after change was.formed done.at done.may;
+  parted = parted_after change done.is done.at was.parted;
   ordered = in_order_after change place slots done.at.near was.ordered;
   stands = told_after told was done here;
 })
@@ -272,6 +276,10 @@ desk_after {told} now {slots} {change} {place} was done here is = subst (IsDesk 
 pub picked_after : (change : DeskChange) {place : ℕ} {slots : List SlotValue} → AreSlots (marks_of slots) → IsPlace slots place
     → slot_at (with_commit change place slots) place ≡ changed_slot change (slot_at slots place)
 picked_after change formed at = grind (arith, common_steps, nat_tests, slot_at-set_same, place_there)
+
+pub picked_as : (change : DeskChange) {place : ℕ} {slots : List SlotValue} (after : List SlotValue) → AreSlots (marks_of slots) → IsPlace slots place
+    → after ≡ with_commit change place slots → slot_at after place ≡ changed_slot change (slot_at slots place)
+picked_as change {place} after formed at is = ap (λ (slots : List SlotValue). slot_at slots place) is ∙ picked_after change formed at
 
 pub databases_after : {change : DeskChange} {place : ℕ} {slots after : List SlotValue} → AreSlots (marks_of slots) → IsPlace slots place → IsDeskChange change
     → after ≡ with_commit change place slots → (role : Role) (name : List ℕ)
@@ -281,13 +289,13 @@ databases_after formed at is here role name = grind (arith, common_steps, nat_te
 -- the entries of a change are those of its databases and then the information file
 pub entries_are : (change : DeskChange) (place : ℕ) {after lent : List SlotValue} (slots : List SlotValue) {given : List DbChange}
     {before now : List EntryValue}
-    → given ≡ change.databases.items → before ≡ flat_map (db_entries place) given → now ≡ before ++ slots_entry (marks_of lent) ∷ [] → lent ≡ after
+    → given ≡ change.databases.items → before ≡ flat_map (db_entries place) given → now ≡ before ++ slots_entry (infos_of lent) ∷ [] → lent ≡ after
     → after ≡ with_commit change place slots → now ≡ change_entries change place slots
 entries_are change place slots is_given is_before is_now is_lent is_after = grind (arith, common_steps, nat_tests)
 
 pub done_when : {change : DeskChange} {place : ℕ} {slots : List SlotValue} → IsPlace slots place → IsDeskChange change
     → MayBear slots place change.marks → AllByRecursion IsDbWritten change.databases.items
-    → IsDesktopFile (marks_of (with_commit change place slots)) (desktop_text (marks_of (with_commit change place slots))) → IsDone change place slots
+    → IsDesktopFile (infos_of (with_commit change place slots)) (desktop_text (infos_of (with_commit change place slots))) → IsDone change place slots
 done_when at is may written text = record { at = at; is = is; may = may; written = written; text = text }
 
 -- what holds of what a desktop is seen as

@@ -5,12 +5,12 @@ use Rattle.std.proofs.lemmas.Bool.Decides.{Decides-eqb, nat_tests}
 use Rattle.std.proofs.lemmas.Slice.Eq.{ends_is}
 use Rattle.pdb_values.specs.Databases.{DatabaseValue}
 use Rattle.pdb_values.specs.Heads.{holds_resources}
-use Rattle.pdb_values.specs.declared.user.Marks.{Marks}
 use Rattle.pdb_files.specs.Files.{IsFileText}
 use Rattle.pdb_files.specs.Reading.{database_in}
 use Rattle.pdb_files.proofs.FileLaws.{file-written}
 use Rattle.folder_files.specs.FileNames.{desktop_info_file, has_ending, is_kept_file, journal_file}
 use Rattle.folder_files.specs.InfoFiles.{IsDesktopFile}
+use Rattle.folder_files.specs.Slots.{SlotInfoValue}
 use Rattle.folder_files.proofs.InfoLaws.{desktop_only}
 use Rattle.desk_store.specs.DeskFiles.{by_role, file_in, if_slot, if_slots, is_desk_file, is_own_file, own_slot, role_of, slot_file}
 use Rattle.desk_store.specs.declared.file.DeskFile.TheVariants as files
@@ -88,6 +88,6 @@ database_read slots slot role database bytes less records text =
           ∙ (own_file (own_slot slots role name (database_in bytes)) role text ∙ ap (if_slot role database) here),
     )
 
-pub slots_read : (slots : ℕ) {marks : List Marks} {bytes : List ℕ} → IsDesktopFile marks bytes → file_in slots desktop_info_file bytes ≡ Ok files.Other
+pub slots_read : (slots : ℕ) {infos : List SlotInfoValue} {bytes : List ℕ} → IsDesktopFile infos bytes → file_in slots desktop_info_file bytes ≡ Ok files.Other
 unfolding file_in
-slots_read slots {marks} {bytes} is = ap if_slots (desktop_only bytes marks is)
+slots_read slots {infos} {bytes} is = ap if_slots (desktop_only bytes infos is)

@@ -11,7 +11,6 @@ use Rattle.std.proofs.lemmas.Map.Text.{is_eq-slice_cmp}
 use Rattle.hs_folders.specs.FileMaps.{FileMap}
 use Rattle.pdb_values.specs.Databases.{DatabaseValue}
 use Rattle.pdb_values.specs.NamedDatabases.{database_of}
-use Rattle.pdb_values.specs.declared.user.Marks.{Marks}
 use Rattle.pdb_values.proofs.NamedLaws.{bytes_eq-is, bytes_eq-own}
 use Rattle.pdb_files.specs.declared.bad_kind.BadKind.TheVariants as kinds
 use Rattle.folder_files.specs.FileNames.{journal_file}
@@ -19,7 +18,8 @@ use Rattle.desk_journal.specs.Overlays.{bad_of}
 use Rattle.desk_journal.specs.declared.bad_journal.BadJournal.{BadJournal}
 use Rattle.desk_store.specs.DeskFiles.{file_in, slot_file}
 use Rattle.desk_store.specs.Finds.{Adds, AddsAny, FindsAll, RefusesAmong, RefusesAt, first_bad, is_among, with_database_at}
-use Rattle.desk_store.specs.Shelves.{SlotValue, bad_at, database_at, empty_slot, file_at, if_bad, if_database, marks_of, new_slot, number_of, shelf_at}
+use Rattle.folder_files.specs.Slots.{SlotInfoValue}
+use Rattle.desk_store.specs.Shelves.{SlotValue, bad_at, bare_slot, database_at, file_at, if_bad, if_database, infos_of, new_slot, number_of, shelf_at}
 use Rattle.desk_store.specs.Shelves.{shelf_of, slots_in}
 use Rattle.desk_store.specs.declared.file_fault.BadDeskFile.{BadDeskFile}
 use Rattle.desk_store.specs.declared.file.DeskFile.{DeskFile}
@@ -28,7 +28,7 @@ use Rattle.desk_store.specs.declared.role.Role.{Role}
 use Rattle.desk_store.specs.declared.role.Role.TheVariants.{Rows, Base, Archive}
 use Rattle.desk_store.specs.declared.fault.DeskOpenFault.{DeskOpenFault}
 use Rattle.desk_store.proofs.OwnLaws.{IsOwn, database_is_own, journal_is_bad, same_file}
-use Rattle.desk_store.proofs.SlotListLaws.{database_of-with_at, length-with, marks_of-with}
+use Rattle.desk_store.proofs.SlotListLaws.{database_of-with_at, infos_of-with, length-with}
 use Rattle.std.proofs.lemmas.Grind.{common_steps}
 use Rattle.std.proofs.lemmas.Bool.Decides.{nat_tests}
 use Rattle.pdb_files.proofs.FileLaws.{or_none}
@@ -151,7 +151,7 @@ file_more {held} {names} file {old} new (Ok (files.Database slot role database))
     let count : length old ≡ length (with_database_at slot role database old) = sym (length-with slot role database old) in
     subst (FindsAll held (names ++ file ∷ [])) (sym adds)
     (record {
-      marked = marks_of-with slot role database old ∙ so_far.marked;
+      marked = infos_of-with slot role database old ∙ so_far.marked;
       good = ap (λ (n : ℕ). first_bad held n (names ++ file ∷ [])) (sym count)
           ∙ still_good held (length old) names file so_far.good (bad_is held (length old) file there says);
       shelved = subst (λ (n : ℕ). AreRead held n (names ++ file ∷ []) (with_database_at slot role database old)) count
@@ -187,26 +187,27 @@ found_more {held} {names} file {old} {new} few so_far adds = by_file (finmap.get
         })
 
 -- what is known of slots without databases
-pub marks_of-empty : (marks : List Marks) → marks_of (map empty_slot marks) ≡ marks
-marks_of-empty [] = refl
-marks_of-empty (known ∷ marks) = ap (λ (ms : List Marks). known ∷ ms) (marks_of-empty marks)
+pub infos_of-bare : (infos : List SlotInfoValue) → infos_of (map bare_slot infos) ≡ infos
+infos_of-bare [] = refl
+infos_of-bare (info ∷ infos) = ap (λ (more : List SlotInfoValue). info ∷ more) (infos_of-bare infos)
 
 -- nothing was read yet
-pub found_none : {held : FileMap} {marks : List Marks} {slots : List SlotValue} → marks ≡ slots_in held → slots ≡ map empty_slot marks → FindsAll held [] slots
-found_none {held} {marks} known is = subst (FindsAll held []) (sym is) (record {
-  marked = marks_of-empty marks ∙ known;
+pub found_none : {held : FileMap} {infos : List SlotInfoValue} {slots : List SlotValue} → infos ≡ slots_in held → slots ≡ map bare_slot infos
+    → FindsAll held [] slots
+found_none {held} {infos} known is = subst (FindsAll held []) (sym is) (record {
+  marked = infos_of-bare infos ∙ known;
   good = refl;
-  shelved = λ slot role name less. nothing marks slot role name (new_slot (number_of (map empty_slot marks))) (λ r n. in_new r n);
+  shelved = λ slot role name less. nothing infos slot role name (new_slot (number_of (map bare_slot infos))) (λ r n. in_new r n);
 })
   where
-    in_new : (role : Role) (name : List ℕ) → database_of name (shelf_of (new_slot (number_of (map empty_slot marks))).shelves role) ≡ None
+    in_new : (role : Role) (name : List ℕ) → database_of name (shelf_of (new_slot (number_of (map bare_slot infos))).shelves role) ≡ None
     in_new Rows name = refl
     in_new Base name = refl
     in_new Archive name = refl
 
-    nothing : (known : List Marks) (slot : ℕ) (role : Role) (name : List ℕ) (d : SlotValue)
+    nothing : (known : List SlotInfoValue) (slot : ℕ) (role : Role) (name : List ℕ) (d : SlotValue)
         → ((r : Role) (n : List ℕ) → database_of n (shelf_of d.shelves r) ≡ None)
-        → database_of name (shelf_of (get_or (map empty_slot known) slot d).shelves role) ≡ None
+        → database_of name (shelf_of (get_or (map bare_slot known) slot d).shelves role) ≡ None
     nothing [] slot role name d none = none role name
     nothing (first ∷ known) zero Rows name d none = refl
     nothing (first ∷ known) zero Base name d none = refl

@@ -10,8 +10,8 @@ use Rattle.std.proofs.lemmas.List.{append_assoc, length-append}
 use Rattle.std.proofs.lemmas.Str.{IsUtf8-had, is_utf8-from_IsUtf8}
 use Rattle.pdb_values.specs.Databases.{DatabaseValue}
 use Rattle.pdb_files.specs.Files.{canonical}
+use Rattle.folder_files.specs.Slots.{SlotInfoValue}
 use Rattle.folder_files.specs.InfoFiles.{IsDesktopFile, desktop_text}
-use Rattle.pdb_values.specs.declared.user.Marks.{Marks}
 use Rattle.folder_files.specs.FileNames.{desktop_info_file, is_kept_file}
 use Rattle.desk_journal.specs.Entries.{AreEntries, EntryValue, IsJournal, entry_values, is_named}
 use Rattle.desk_journal.specs.declared.entry.Entry.{Entry}
@@ -81,8 +81,8 @@ databases_files {slots} {slot} (change ∷ changes) at each written =
     all-append (IsFile slots) (db_entries slot change) (flat_map (db_entries slot) changes) (db_files at each.0 written.0)
     (databases_files changes at each.1 written.1)
 
-pub change_files : {slots slot : ℕ} (changes : List DbChange) {marks : List Marks} → IsSlot slots slot → AllByRecursion IsDbChange changes
-    → AllByRecursion IsDbWritten changes → IsDesktopFile marks (desktop_text marks) → AllByRecursion (IsFile slots) (slot_entries slot changes marks)
+pub change_files : {slots slot : ℕ} (changes : List DbChange) {infos : List SlotInfoValue} → IsSlot slots slot → AllByRecursion IsDbChange changes
+    → AllByRecursion IsDbWritten changes → IsDesktopFile infos (desktop_text infos) → AllByRecursion (IsFile slots) (slot_entries slot changes infos)
 change_files {slots} {slot} changes at each written text =
     all-append (IsFile slots) (flat_map (db_entries slot) changes) _ (databases_files changes at each written)
     (record { short_name = omega arith; kept = refl; short_bytes = slots-short text; good = ap if_bad (slots_read slots text) }, tt)
@@ -165,14 +165,14 @@ last_databases slot role name (change ∷ changes) few rise each written =
     by false is = none_behind (option_map canonical (changed role name changes))
 
 -- the information file comes behind them and is none of theirs
-last_behind_all : (slot slot' : ℕ) (role : Role) (name : List ℕ) (changes : List DbChange) (marks : List Marks)
-    → last_of (slot_file slot role name) (slot_entries slot' changes marks) ≡ last_of (slot_file slot role name) (flat_map (db_entries slot') changes)
-last_behind_all slot slot' role name changes marks = grind (arith, common_steps, nat_tests, last_of-append, last_of, same_name-other, not_info)
+last_behind_all : (slot slot' : ℕ) (role : Role) (name : List ℕ) (changes : List DbChange) (infos : List SlotInfoValue)
+    → last_of (slot_file slot role name) (slot_entries slot' changes infos) ≡ last_of (slot_file slot role name) (flat_map (db_entries slot') changes)
+last_behind_all slot slot' role name changes infos = grind (arith, common_steps, nat_tests, last_of-append, last_of, same_name-other, not_info)
 
-pub last_database : (slot : ℕ) (role : Role) (name : List ℕ) (changes : List DbChange) (marks : List Marks) → slot < 16 → NamesRise (rows_of changes)
+pub last_database : (slot : ℕ) (role : Role) (name : List ℕ) (changes : List DbChange) (infos : List SlotInfoValue) → slot < 16 → NamesRise (rows_of changes)
     → AllByRecursion IsDbChange changes → AllByRecursion IsDbWritten changes
-    → last_of (slot_file slot role name) (slot_entries slot changes marks) ≡ option_map canonical (changed role name changes)
-last_database slot role name changes marks few rise each written = search (rules, last_behind_all, last_databases)
+    → last_of (slot_file slot role name) (slot_entries slot changes infos) ≡ option_map canonical (changed role name changes)
+last_database slot role name changes infos few rise each written = search (rules, last_behind_all, last_databases)
 
 -- no file of another slot is written
 other_slot : {slot other : ℕ} (role own : Role) (name named bytes : List ℕ) (rest : List EntryValue) → slot < 16 → other < 16 → (slot ≡ other → ⊥)
@@ -196,13 +196,13 @@ other_databases {slot} {other} role name (change ∷ changes) few less apart =
     by None later = later
     by (Some archive) later = other_slot role Archive name archive.head.name (canonical archive) (flat_map (db_entries other) changes) few less apart later
 
-pub last_other : {slot other : ℕ} (role : Role) (name : List ℕ) (changes : List DbChange) (marks : List Marks) → slot < 16 → other < 16 → (slot ≡ other → ⊥)
-    → last_of (slot_file slot role name) (slot_entries other changes marks) ≡ None
-last_other role name changes marks few less apart = search (rules, last_behind_all, other_databases)
+pub last_other : {slot other : ℕ} (role : Role) (name : List ℕ) (changes : List DbChange) (infos : List SlotInfoValue) → slot < 16 → other < 16 → (slot ≡ other → ⊥)
+    → last_of (slot_file slot role name) (slot_entries other changes infos) ≡ None
+last_other role name changes infos few less apart = search (rules, last_behind_all, other_databases)
 
-pub last_info : (slot : ℕ) (changes : List DbChange) (marks : List Marks)
-    → last_of desktop_info_file (slot_entries slot changes marks) ≡ Some (desktop_text marks)
-last_info slot changes marks = grind (arith, common_steps, nat_tests, last_of-append, last_of, same_name-is, bytes_eq-own)
+pub last_info : (slot : ℕ) (changes : List DbChange) (infos : List SlotInfoValue)
+    → last_of desktop_info_file (slot_entries slot changes infos) ≡ Some (desktop_text infos)
+last_info slot changes infos = grind (arith, common_steps, nat_tests, last_of-append, last_of, same_name-is, bytes_eq-own)
 
 -- ---- no name twice
 
@@ -266,21 +266,21 @@ apart_db slot rows base (Some archive) rest few named given none apart = (
   ),
 )
 
-last_behind : (slot : ℕ) (role : Role) (name : List ℕ) (changes : List DbChange) (marks : List Marks) → slot < 16
+last_behind : (slot : ℕ) (role : Role) (name : List ℕ) (changes : List DbChange) (infos : List SlotInfoValue) → slot < 16
     → list_all (λ later. comes_before name later.head.name) (rows_of changes) ≡ true → NamesRise (rows_of changes) → AllByRecursion IsDbChange changes
     → AllByRecursion IsDbWritten changes
-    → last_of (slot_file slot role name) (slot_entries slot changes marks) ≡ None
-last_behind slot role name changes marks few behind rise each written = search (rules, last_database, changed_none)
+    → last_of (slot_file slot role name) (slot_entries slot changes infos) ≡ None
+last_behind slot role name changes infos few behind rise each written = search (rules, last_database, changed_none)
 
-apart_databases : (slot : ℕ) (changes : List DbChange) (marks : List Marks) → slot < 16 → NamesRise (rows_of changes) → AllByRecursion IsDbChange changes
-    → AllByRecursion IsDbWritten changes → AreApart (slot_entries slot changes marks)
-apart_databases slot [] marks few rise each written = (refl, tt)
-apart_databases slot (change ∷ changes) marks few rise each written =
-    subst AreApart (sym (append_assoc (db_entries slot change) (flat_map (db_entries slot) changes) (slots_entry marks ∷ [])))
-    (apart_db slot change.rows change.base change.archive (slot_entries slot changes marks) few each.0.base.named
+apart_databases : (slot : ℕ) (changes : List DbChange) (infos : List SlotInfoValue) → slot < 16 → NamesRise (rows_of changes) → AllByRecursion IsDbChange changes
+    → AllByRecursion IsDbWritten changes → AreApart (slot_entries slot changes infos)
+apart_databases slot [] infos few rise each written = (refl, tt)
+apart_databases slot (change ∷ changes) infos few rise each written =
+    subst AreApart (sym (append_assoc (db_entries slot change) (flat_map (db_entries slot) changes) (slots_entry infos ∷ [])))
+    (apart_db slot change.rows change.base change.archive (slot_entries slot changes infos) few each.0.base.named
     (λ database here. (changed_to_is Archive each.0 written.0 here).named)
-    (λ role. last_behind slot role change.rows.head.name changes marks few rise.0 rise.1 each.1 written.1)
-    (apart_databases slot changes marks few rise.1 each.1 written.1))
+    (λ role. last_behind slot role change.rows.head.name changes infos few rise.0 rise.1 each.1 written.1)
+    (apart_databases slot changes infos few rise.1 each.1 written.1))
 
 -- ---- texts
 
@@ -297,15 +297,15 @@ databases-length slot (change ∷ changes) = grind (arith, common_steps, nat_tes
 
 -- ---- the change
 
-pub change_is_journal : {slots slot : ℕ} {change : DeskChange} {marks : List Marks} (entries : List Entry) → IsSlot slots slot → IsDeskChange change
-    → AllByRecursion IsDbWritten change.databases.items → IsDesktopFile marks (desktop_text marks)
-    → entry_values entries ≡ slot_entries slot change.databases.items marks → IsJournal (entry_values entries)
-change_is_journal {slots} {slot} {change} {marks} entries at is written text are =
+pub change_is_journal : {slots slot : ℕ} {change : DeskChange} {infos : List SlotInfoValue} (entries : List Entry) → IsSlot slots slot → IsDeskChange change
+    → AllByRecursion IsDbWritten change.databases.items → IsDesktopFile infos (desktop_text infos)
+    → entry_values entries ≡ slot_entries slot change.databases.items infos → IsJournal (entry_values entries)
+change_is_journal {slots} {slot} {change} {infos} entries at is written text are =
     let changes = change.databases.items in
     let few : slot < 16 = omega (arith, at.there, at.few) in
     subst IsJournal (sym are) (
-      omega (arith, is.few, databases-length slot changes, length-append (flat_map (db_entries slot) changes) (slots_entry marks ∷ [])),
-      are_entries slots [] (slot_entries slot changes marks) (change_files changes at is.each written text)
-          (subst (AllByRecursion (λ e. is_utf8 e.name ≡ true)) are (texts_of entries)) (new_in_none (slot_entries slot changes marks))
-          (apart_databases slot changes marks few is.rise is.each written),
+      omega (arith, is.few, databases-length slot changes, length-append (flat_map (db_entries slot) changes) (slots_entry infos ∷ [])),
+      are_entries slots [] (slot_entries slot changes infos) (change_files changes at is.each written text)
+          (subst (AllByRecursion (λ e. is_utf8 e.name ≡ true)) are (texts_of entries)) (new_in_none (slot_entries slot changes infos))
+          (apart_databases slot changes infos few is.rise is.each written),
     )

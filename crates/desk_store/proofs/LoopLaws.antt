@@ -9,7 +9,7 @@ use Rattle.std.proofs.lemmas.List.Elements.{filter-append}
 use Rattle.hs_folders.specs.FileMaps.{FileMap}
 use Rattle.folder_files.specs.FileNames.{has_ending}
 use Rattle.desk_store.specs.Finds.{AddsAny, FindsAll, RefusesAmong, RefusesAt, first_bad, rows_count}
-use Rattle.desk_store.specs.Shelves.{SlotValue, bad_at, file_at, slots_in}
+use Rattle.desk_store.specs.Shelves.{SlotValue, bad_at, file_at, info_of, slots_in}
 use Rattle.desk_store.specs.declared.fault.DeskOpenFault.{DeskOpenFault}
 use Rattle.desk_store.proofs.FindLaws.{found_more, refused_among}
 use Rattle.std.proofs.lemmas.Grind.{common_steps}
@@ -56,7 +56,7 @@ told_refused None names place found fault less is so_far refused = tt
 told_refused (Some held) names place {file} found fault less is so_far refused =
     let all : names ≡ take place names ++ file ∷ drop (suc place) names = split_at names place file less
     ∙ ap (λ (n : List ℕ). take place names ++ n ∷ drop (suc place) names) (sym is) in
-    let count : length found ≡ length (slots_in held) = sym (length-map found (λ slot. slot.marks)) ∙ ap length so_far.marked in
+    let count : length found ≡ length (slots_in held) = sym (length-map found info_of) ∙ ap length so_far.marked in
     subst (λ (n : ℕ). RefusesAmong (first_bad held n names) fault) count
     (subst (λ (ns : List (List ℕ)). RefusesAmong (first_bad held (length found) ns) fault) (sym all)
     (refused_among held (length found) (take place names) (drop (suc place) names) file fault so_far.good refused))

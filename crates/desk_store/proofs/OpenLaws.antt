@@ -8,16 +8,16 @@ use Rattle.std.proofs.lemmas.List.{length-map}
 use Rattle.hs_folders.specs.FileMaps.{FileMap}
 use Rattle.folder_files.specs.FileNames.{desktop_info_file, journal_file}
 use Rattle.folder_files.specs.InfoFiles.{desktop_in}
-use Rattle.folder_files.specs.Slots.{AreSlots}
+use Rattle.folder_files.specs.Partings.{PartedRise}
+use Rattle.folder_files.specs.Slots.{AllRise, AreSlots, SlotInfoValue}
 use Rattle.pdb_values.specs.NamedDatabases.{NamesRise}
-use Rattle.pdb_values.specs.declared.user.Marks.{Marks}
 use Rattle.desk_journal.specs.Overlays.{HasNoJournal, bad_of, finished}
 use Rattle.desk_journal.specs.declared.bad_journal.BadJournal.{BadJournal}
 use Rattle.desk_store.specs.Desks.{IsDesk}
 use Rattle.desk_store.specs.Finds.{FindsAll, first_bad_in, rows_count}
-use Rattle.desk_store.specs.Shelves.{AreInOrder, SlotValue, empty_slot, first_slots, marks_of, new_slot, number_of, slot_at, slots_in, slots_or_first}
+use Rattle.desk_store.specs.Shelves.{AreInOrder, SlotValue, bare_slot, first_slots, infos_of, marks_of, new_slot, number_of, slot_at, slots_in, slots_or_first}
 use Rattle.desk_store.proofs.FindLaws.{all_databases, found_none, good_all, no_bad_journal}
-use Rattle.desk_store.proofs.SlotListLaws.{ordered_at}
+use Rattle.desk_store.proofs.SlotListLaws.{ordered_at, parted_at}
 
 -- a bad journal stays as it is
 bad_stays : (held : FileMap) {bad : BadJournal} → Some bad ≡ bad_of (finmap.get held journal_file) → finished held ≡ held
@@ -45,29 +45,32 @@ told_good None slots is = tt
 told_good (Some held) slots is = good_in held slots is
 
 -- what was found is the desktop
-pub told_desk : (told : Option FileMap) {slots : List SlotValue} → AreSlots (marks_of slots) → AreInOrder slots → IfSome told (λ held. HoldsAll held slots)
-    → IfSome told HasNoJournal → IsDesk told slots
-told_desk told formed ordered is none = search (rules, all_databases, good_all)
+pub told_desk : (told : Option FileMap) {slots : List SlotValue} → AreSlots (marks_of slots) → AllRise (infos_of slots) → AreInOrder slots
+    → IfSome told (λ held. HoldsAll held slots) → IfSome told HasNoJournal → IsDesk told slots
+told_desk told formed parted ordered is none = search (rules, all_databases, good_all)
 
 -- ---- the slots of the information file
 
-pub told_info : (told : Option FileMap) (bytes : List ℕ) {slots : List Marks} → IfSome told (λ held. finmap.get held desktop_info_file ≡ Some bytes)
+pub told_info : (told : Option FileMap) (bytes : List ℕ) {slots : List SlotInfoValue} → IfSome told (λ held. finmap.get held desktop_info_file ≡ Some bytes)
     → slots ≡ slots_or_first (Some (desktop_in bytes)) → IfSome told (λ held. slots ≡ slots_in held)
 told_info told bytes there is = search (rules)
 
-pub told_missing : (told : Option FileMap) {slots : List Marks} → IfSome told (λ held. finmap.get held desktop_info_file ≡ None) → slots ≡ first_slots
+pub told_missing : (told : Option FileMap) {slots : List SlotInfoValue} → IfSome told (λ held. finmap.get held desktop_info_file ≡ None) → slots ≡ first_slots
     → IfSome told (λ held. slots ≡ slots_in held)
 told_missing told there is = search (rules)
 
-pub told_empty : (told : Option FileMap) (marks : List Marks) {slots : List SlotValue} → IfSome told (λ held. marks ≡ slots_in held)
-    → slots ≡ map empty_slot marks → IfSome told (λ held. FindsAll held [] slots)
-told_empty None marks known is = tt
-told_empty (Some held) marks known is = found_none known is
+pub told_empty : (told : Option FileMap) (infos : List SlotInfoValue) {slots : List SlotValue} → IfSome told (λ held. infos ≡ slots_in held)
+    → slots ≡ map bare_slot infos → IfSome told (λ held. FindsAll held [] slots)
+told_empty None infos known is = tt
+told_empty (Some held) infos known is = found_none known is
 
 -- ---- the picked slot
 
 pub picked_rise : (told : Option FileMap) (slots : List SlotValue) (place : ℕ) → IsDesk told slots → NamesRise (slot_at slots place).shelves.rows
 picked_rise told slots place is = (ordered_at slots place is.ordered).rows
+
+pub picked_parted : (told : Option FileMap) (slots : List SlotValue) (place : ℕ) → IsDesk told slots → PartedRise (slot_at slots place).parted
+picked_parted told slots place is = parted_at slots place is.parted
 
 pub picked_number : (told : Option FileMap) (slots : List SlotValue) (place : ℕ) → IsDesk told slots → (slot_at slots place).marks.pc ≡ number_of slots
 picked_number told slots place is = by slots place (new_slot (number_of slots)) is.formed.one_desktop refl

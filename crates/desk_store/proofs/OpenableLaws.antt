@@ -10,7 +10,7 @@ use Rattle.desk_journal.specs.Overlays.{FinishesAs, finished}
 use Rattle.desk_journal.proofs.FinishLaws.{plain_finished}
 use Rattle.desk_store.specs.Desks.{IsDesk, IsDeskOf, IsOpenable, IsReadable, StaysOpenable, all_rows}
 use Rattle.desk_store.specs.Finds.{first_bad, rows_count}
-use Rattle.desk_store.specs.Shelves.{SlotValue, bad_at}
+use Rattle.desk_store.specs.Shelves.{SlotValue, bad_at, info_of}
 use Rattle.desk_store.proofs.CountLaws.{told_number}
 
 -- ---- a desktop
@@ -22,7 +22,7 @@ none_bad held slots (name ∷ names) good = rw (good name, none_bad held slots n
 readable : (held : FileMap) (slots : List SlotValue) → IsDeskOf held slots → rows_count (finmap.keys held) ≤ 200 → IsReadable held
 readable held slots is few = record {
   few = few;
-  good = subst (λ (n : ℕ). first_bad held n (finmap.keys held) ≡ None) (sym (length-map slots (λ slot. slot.marks)) ∙ ap length is.marked)
+  good = subst (λ (n : ℕ). first_bad held n (finmap.keys held) ≡ None) (sym (length-map slots info_of) ∙ ap length is.marked)
       (none_bad held (length slots) (finmap.keys held) is.good);
 }
 

@@ -1,5 +1,5 @@
 -- How long the files of a change are.
-use Rattle.std.proofs.Common.{◌≡◌, ℕ, zero, suc, inl, inr, ◌+◌, ◌*◌, ◌^◌, ◌<◌, ◌≤◌, ltb, Bool, false, List, [], ◌∷◌, length, None}
+use Rattle.std.proofs.Common.{◌≡◌, ℕ, zero, suc, inl, inr, ◌+◌, ◌*◌, ◌^◌, ◌<◌, ◌≤◌, ltb, Bool, true, false, List, [], ◌∷◌, length, None}
 use Rattle.std.proofs.Common.{Some, refl, ap, arith, rules}
 use Rattle.std.specs.Prelude.{◌||◌, cond, codes}
 use Rattle.std.specs.Fmt.{decimal}
@@ -22,7 +22,12 @@ use Rattle.pdb_files.specs.Files.{IsFileText, canonical, file_text, has_resource
 use Rattle.pdb_files.specs.Headers.{header_text}
 use Rattle.pdb_files.proofs.WriteLaws.{length-zeros_behind, length-block_list}
 use Rattle.folder_files.specs.FileNames.{slot_prefix}
-use Rattle.folder_files.specs.InfoFiles.{IsDesktopFile, desktop_forms, desktop_values, one_user_forms, one_user_values, slot_forms}
+use Rattle.folder_files.specs.InfoFiles.{IsDesktopFile, desktop_forms, desktop_values, one_user_forms, one_user_values, parting_word, slot_forms, title_form}
+use Rattle.folder_files.specs.InfoFiles.{with_parted}
+use Rattle.folder_files.specs.Slots.{AllRise, SlotInfoValue}
+use Rattle.folder_files.specs.declared.parted.Parted.{Parted}
+use Rattle.folder_files.specs.declared.parted.Parting.{Parting}
+use Rattle.folder_files.specs.declared.parted.Parting.TheVariants.{Apart, Unmet}
 use Rattle.folder_files.specs.Hexadecimal.{bytes_text}
 use Rattle.folder_files.specs.Lines.{AreLines, LineForm, ValueKind, Says, Value, Values}
 use Rattle.desk_store.specs.DeskFiles.{slot_file}
@@ -125,7 +130,7 @@ text-length : (bytes : List ℕ) → length bytes ≤ 40 → length (bytes_text 
 text-length bytes few = grind (arith, common_steps, nat_tests, length-encode_with)
 
 value-length : (kind : ValueKind) (value : Value kind) (text : List ℕ) → Says kind value text → length text ≤ 130
-value-length kind value text is = search (rules, length-encode_with, text-length, few_bytes, few_password, length-decimal-le, length-append)
+value-length kind value text is = search (rules, length-encode_with, text-length, few_bytes, few_password, length-decimal-le, length-append, stem-length)
 
 lines-length : (forms : List LineForm) (values : Values forms) (bytes : List ℕ) → AllByRecursion (λ form. length form.key ≤ 19) forms → AreLines forms values bytes
     → length bytes ≤ 150 * length forms
@@ -133,27 +138,51 @@ lines-length [] values bytes keys are = omega (arith, ap length are)
 lines-length (form ∷ forms) values bytes keys are =
     grind (arith, common_steps, nat_tests, length-append, value-length, lines-length forms values.1 are.1 keys.1 are.4, mul-suc)
 
-slot_keys : (number : ℕ) (slots : List Marks) → number + length slots ≤ 16 → AllByRecursion (λ form. length form.key ≤ 19) (slot_forms number slots)
+word-length : (how : Parting) → length (parting_word how) ≤ 19
+word-length Apart = omega arith
+word-length Unmet = omega arith
+
+parted_keys : (parted : List Parted) (forms : List LineForm) → AllByRecursion (λ form. length form.key ≤ 19) forms
+    → AllByRecursion (λ form. length form.key ≤ 19) (with_parted parted forms)
+parted_keys [] forms keys = keys
+parted_keys (one ∷ parted) forms keys = (word-length one.how, parted_keys parted forms keys)
+
+slot_keys : (number : ℕ) (infos : List SlotInfoValue) → number + length infos ≤ 16 → AllByRecursion (λ form. length form.key ≤ 19) (slot_forms number infos)
 slot_keys number [] few = tt
-slot_keys number (marks ∷ slots) few = (
+slot_keys number (info ∷ infos) few = (
   omega (arith, length-append (decimal number) (codes " "), length-decimal-le 2 number (omega arith) (omega arith) (omega arith)),
-  slot_keys (suc number) slots (omega arith),
+  parted_keys info.parted (slot_forms (suc number) infos) (slot_keys (suc number) infos (omega arith)),
 )
 
-slot_forms-length : (number : ℕ) (slots : List Marks) → length (slot_forms number slots) ≡ length slots
-slot_forms-length number [] = refl
-slot_forms-length number (marks ∷ slots) = ap (λ (n : ℕ). suc n) (slot_forms-length (suc number) slots)
+parted_forms-length : (parted : List Parted) (forms : List LineForm) → length (with_parted parted forms) ≡ length parted + length forms
+parted_forms-length [] forms = omega arith
+parted_forms-length (one ∷ parted) forms = omega (arith, parted_forms-length parted forms)
+
+-- a slot has at most 401 lines
+slot_forms-length : (number : ℕ) (infos : List SlotInfoValue) → AllRise infos → length (slot_forms number infos) ≤ 401 * length infos
+slot_forms-length number [] rise = omega arith
+slot_forms-length number (info ∷ infos) rise = omega (
+  arith,
+  parted_forms-length info.parted (slot_forms (suc number) infos),
+  rise.0.few,
+  slot_forms-length (suc number) infos rise.1,
+)
+
+title-length : (third : Bool) → length (title_form third).key ≤ 19
+title-length true = omega arith
+title-length false = omega arith
 
 one_user-length : (marks : Marks) (bytes : List ℕ) → AreLines one_user_forms (one_user_values marks) bytes → length bytes < 2 ^ 32
 one_user-length marks bytes is = let few = lines-length one_user_forms (one_user_values marks) bytes
     (omega arith, (omega arith, (omega arith, (omega arith, (omega arith, tt))))) is in omega (arith, few)
 
-pub slots-short : {slots : List Marks} {bytes : List ℕ} → IsDesktopFile slots bytes → length bytes < 2 ^ 32
-slots-short {slots} {bytes} is =
+pub slots-short : {infos : List SlotInfoValue} {bytes : List ℕ} → IsDesktopFile infos bytes → length bytes < 2 ^ 32
+slots-short {infos} {bytes} is =
     elim is.lines [
       | inl one ↦ one_user-length one.marks bytes one.lines
       | inr many ↦
-          let few = lines-length (desktop_forms slots) (desktop_values slots) bytes
-          (omega arith, (omega arith, (omega arith, slot_keys 0 slots (omega (arith, is.formed.few))))) many in
-          omega (arith, few, slot_forms-length 0 slots, is.formed.few)
+          let slots : length infos ≤ 16 = omega (arith, is.formed.few, length-map infos (λ info. info.marks)) in
+          let few = lines-length (desktop_forms many.third infos) (desktop_values many.third infos) bytes
+          (title-length many.third, (omega arith, (omega arith, slot_keys 0 infos (omega (arith, slots))))) many.lines in
+          omega (arith, few, slot_forms-length 0 infos is.rise, slots)
     ]

@@ -1,5 +1,5 @@
 -- The slots of a desktop as a list: one that gets a database or changes, and one that comes behind the last.
-use Rattle.std.proofs.Common.{◌≡◌, ◌⊎◌, ◌<◌, ◌≤◌, ℕ, zero, suc, List, [], ◌∷◌, ◌++◌, map, length, get_or, set, Some}
+use Rattle.std.proofs.Common.{◌≡◌, ◌∙◌, ◌⊎◌, ◌<◌, ◌≤◌, ℕ, zero, suc, List, [], ◌∷◌, ◌++◌, map, length, get_or, set, Some}
 use Rattle.std.proofs.Common.{Result, Ok, Err, refl, sym, ap, subst, arith, rules}
 use Rattle.std.specs.List.{AllByRecursion}
 use Rattle.std.proofs.lemmas.Bool.{eqb-false, eqb-true, ltb-false, ltb-true}
@@ -12,7 +12,9 @@ use Rattle.desk_store.specs.Finds.{Adds, KeepsForm, with_database_at}
 use Rattle.desk_store.specs.declared.file_fault.BadDeskFile.{BadDeskFile}
 use Rattle.desk_store.specs.declared.file.DeskFile.{DeskFile}
 use Rattle.desk_store.specs.declared.file.DeskFile.TheVariants as files
-use Rattle.desk_store.specs.Shelves.{AreInOrder, AreOrdered, SlotValue, empty_slot, marks_of, new_slot, number_of, shelf_at, slot_at}
+use Rattle.folder_files.specs.Partings.{PartedRise}
+use Rattle.folder_files.specs.Slots.{AllRise, SlotInfoValue, all_marks}
+use Rattle.desk_store.specs.Shelves.{AreInOrder, AreOrdered, SlotValue, bare_slot, info_of, infos_of, marks_of, new_slot, number_of, shelf_at, slot_at}
 use Rattle.desk_store.specs.Shelves.{with_place}
 use Rattle.desk_store.specs.declared.role.Role.{Role}
 use Rattle.desk_store.proofs.OrderLaws.{database_of-with, ordered_with}
@@ -46,28 +48,29 @@ each-at P (slot ∷ slots) (suc place) d each here = each-at P slots place d eac
 
 -- ---- a database more in a slot
 
-marks_of-set : (slots : List SlotValue) (place : ℕ) (slot d : SlotValue) → slot.marks ≡ (get_or slots place d).marks
-    → marks_of (set slots place slot) ≡ marks_of slots
-marks_of-set [] place slot d is = refl
-marks_of-set (first ∷ slots) zero slot d is = ap (λ (known : Marks). known ∷ marks_of slots) is
-marks_of-set (first ∷ slots) (suc place) slot d is = ap (λ (marks : List Marks). first.marks ∷ marks) (marks_of-set slots place slot d is)
+infos_of-set : (slots : List SlotValue) (place : ℕ) (slot d : SlotValue) → info_of slot ≡ info_of (get_or slots place d)
+    → infos_of (set slots place slot) ≡ infos_of slots
+infos_of-set [] place slot d is = refl
+infos_of-set (first ∷ slots) zero slot d is = ap (λ (known : SlotInfoValue). known ∷ infos_of slots) is
+infos_of-set (first ∷ slots) (suc place) slot d is =
+    ap (λ (infos : List SlotInfoValue). info_of first ∷ infos) (infos_of-set slots place slot d is)
 
-pub marks_of-with : (slot : ℕ) (role : Role) (database : DatabaseValue) (slots : List SlotValue)
-    → marks_of (with_database_at slot role database slots) ≡ marks_of slots
-marks_of-with slot role database slots = marks_of-set slots slot _ (new_slot (number_of slots)) refl
+pub infos_of-with : (slot : ℕ) (role : Role) (database : DatabaseValue) (slots : List SlotValue)
+    → infos_of (with_database_at slot role database slots) ≡ infos_of slots
+infos_of-with slot role database slots = infos_of-set slots slot _ (new_slot (number_of slots)) refl
 
 pub length-with : (slot : ℕ) (role : Role) (database : DatabaseValue) (slots : List SlotValue)
     → length (with_database_at slot role database slots) ≡ length slots
 length-with slot role database slots = length-set slots slot _
 
-no_database : (marks : Marks) → AreOrdered (empty_slot marks).shelves
-no_database marks = record { rows = tt; bases = tt; archives = tt }
+no_database : (info : SlotInfoValue) → AreOrdered (bare_slot info).shelves
+no_database info = record { rows = tt; bases = tt; archives = tt }
 
 pub ordered_at : (slots : List SlotValue) (place : ℕ) → AreInOrder slots → AreOrdered (slot_at slots place).shelves
 ordered_at slots place ordered = search (rules, each-at, no_database)
 
 pub form-with : (slot : ℕ) (role : Role) (database : DatabaseValue) (slots : List SlotValue) → KeepsForm slots (with_database_at slot role database slots)
-form-with slot role database slots = search (rules, marks_of-with, each-set, ordered_with, ordered_at)
+form-with slot role database slots = search (rules, infos_of-with, each-set, ordered_with, ordered_at)
 
 pub same_form : (slots : List SlotValue) → KeepsForm slots slots
 same_form slots = record { marked = refl; ordered = λ ordered. ordered }
@@ -80,15 +83,45 @@ adds_form (Ok (files.Database slot role database)) {old} adds = subst (KeepsForm
 adds_form (Ok files.Other) {old} adds = subst (KeepsForm old) (sym adds) (same_form old)
 adds_form (Err bad) adds = absurd adds
 
+-- what is known of the users is among what an information file says
+pub marks-infos : (slots : List SlotValue) → all_marks (infos_of slots) ≡ marks_of slots
+marks-infos [] = refl
+marks-infos (slot ∷ slots) = ap (λ (marks : List Marks). slot.marks ∷ marks) (marks-infos slots)
+
+pub marks_of-as : (old new : List SlotValue) → infos_of new ≡ infos_of old → marks_of new ≡ marks_of old
+marks_of-as old new is = sym (marks-infos new) ∙ (ap all_marks is ∙ marks-infos old)
+
+-- those that took no part in each slot
+abbrev EachRises : List SlotValue → Type 0
+EachRises slots = AllByRecursion (λ slot. PartedRise slot.parted) slots
+
+rise-slots : (slots : List SlotValue) → AllRise (infos_of slots) → EachRises slots
+rise-slots [] rise = tt
+rise-slots (slot ∷ slots) rise = (rise.0, rise-slots slots rise.1)
+
+rise-infos : (slots : List SlotValue) → EachRises slots → AllRise (infos_of slots)
+rise-infos [] rise = tt
+rise-infos (slot ∷ slots) rise = (rise.0, rise-infos slots rise.1)
+
+none_rise : PartedRise []
+none_rise = record { few = omega arith; rise = tt }
+
+pub parted_at : (slots : List SlotValue) (place : ℕ) → AllRise (infos_of slots) → PartedRise (slot_at slots place).parted
+parted_at slots place rise = each-at (λ slot. PartedRise slot.parted) slots place (new_slot (number_of slots)) (rise-slots slots rise) none_rise
+
+rise-push : (slots : List SlotValue) (slot : SlotValue) → EachRises slots → PartedRise slot.parted → EachRises (slots ++ slot ∷ [])
+rise-push [] slot rise here = (here, tt)
+rise-push (first ∷ slots) slot rise here = (rise.0, rise-push slots slot rise.1 here)
+
 pub marks-length : (slots : List SlotValue) → length (marks_of slots) ≡ length slots
 marks-length slots = length-map slots (λ slot. slot.marks)
 
 pub same_count : {old new : List SlotValue} → KeepsForm old new → length new ≡ length old
 same_count form = grind (arith, common_steps, nat_tests, length-map)
 
-pub empty_in_order : (marks : List Marks) → AreInOrder (map empty_slot marks)
-empty_in_order [] = tt
-empty_in_order (known ∷ marks) = (no_database known, empty_in_order marks)
+pub bare_in_order : (infos : List SlotInfoValue) → AreInOrder (map bare_slot infos)
+bare_in_order [] = tt
+bare_in_order (info ∷ infos) = (no_database info, bare_in_order infos)
 
 -- what is looked up is the database, or else what was there
 abbrev pub IsFound : ℕ → Role → DatabaseValue → List SlotValue → ℕ → Role → List ℕ → Type 0
@@ -129,3 +162,11 @@ place_there slots place near = grind (arith, common_steps, nat_tests, with_place
 
 pub few_places : (slots : List SlotValue) (place : ℕ) → place ≤ length slots → place < 16 → length slots ≤ 16 → length (with_place slots place) ≤ 16
 few_places slots place near room few = grind (arith, common_steps, nat_tests, with_place-cases, length-append)
+
+-- with one slot changed, the stems of each rise
+pub rise-commit : (slots : List SlotValue) (place : ℕ) (slot : SlotValue) → place ≤ length slots → PartedRise slot.parted → AllRise (infos_of slots)
+    → AllRise (infos_of (set (with_place slots place) place slot))
+rise-commit slots place slot near here rise =
+    let before : EachRises (with_place slots place) = with_place-cases EachRises slots place near (λ _. rise-slots slots rise)
+    (λ _. rise-push slots (new_slot (number_of slots)) (rise-slots slots rise) none_rise) in
+    rise-infos (set (with_place slots place) place slot) (each-set (λ slot. PartedRise slot.parted) (with_place slots place) place slot before here)

@@ -13,11 +13,12 @@ use Rattle.folder_files.specs.FileNames.{desktop_info_file}
 use Rattle.desk_journal.specs.Entries.{EntryValue}
 use Rattle.desk_journal.specs.Overlays.{put_all}
 use Rattle.desk_journal.specs.Steps.{changed_in, commit_steps}
-use Rattle.folder_files.specs.Slots.{users_of}
+use Rattle.folder_files.specs.Partings.{PartedRise}
+use Rattle.folder_files.specs.Slots.{SlotInfoValue, users_of}
 use Rattle.desk_store.specs.DeskFiles.{slot_file}
 use Rattle.desk_store.specs.declared.role.Role.{Role}
 use Rattle.desk_store.specs.declared.role.Role.TheVariants.{Rows, Base, Archive}
-use Rattle.desk_store.specs.Shelves.{ShelvesValue, SlotValue, marks_of, number_of, shelf_of, slot_at, with_database, with_place}
+use Rattle.desk_store.specs.Shelves.{ShelvesValue, SlotValue, infos_of, marks_of, number_of, shelf_of, slot_at, with_database, with_place}
 use Rattle.desk_store.specs.declared.change.DbChange.{DbChange}
 use Rattle.desk_store.specs.declared.change.DeskChange.{DeskChange}
 use Rattle.pdb_values.specs.NamedDatabases.{NamesRise, database_of}
@@ -35,11 +36,13 @@ pub record IsDbChange (change : DbChange) : Type 0 where
   pub archive : IfSome change.archive
       (λ archive. IsOf change.rows.head.name archive × (0 < length archive.records))
 
--- at most 200 databases change, whose names rise in byte order
+-- at most 200 databases change, whose names rise in byte order; the databases that took no part are
+-- such as a slot can keep: at most 400, whose stems rise in byte order
 pub record IsDeskChange (change : DeskChange) : Type 0 where
   pub few : length change.databases.items ≤ 200
   pub rise : NamesRise (map (λ database. database.rows) change.databases.items)
   pub each : AllByRecursion IsDbChange change.databases.items
+  pub parted : PartedRise change.parted.items
 
 -- no other slot than that at this place has this user
 abbrev pub IsFree : List SlotValue → ℕ → ℕ → Type 0
@@ -75,12 +78,12 @@ db_entries slot change =
     ∷ archive_entries slot change.archive
 
 -- the information file
-abbrev pub slots_entry : List Marks → EntryValue
-slots_entry slots = record { name = desktop_info_file; bytes = desktop_text slots }
+abbrev pub slots_entry : List SlotInfoValue → EntryValue
+slots_entry infos = record { name = desktop_info_file; bytes = desktop_text infos }
 
 -- the files of a change of a slot: those of each database in order, and then the information file
-abbrev pub slot_entries : ℕ → List DbChange → List Marks → List EntryValue
-slot_entries slot changes slots = flat_map (db_entries slot) changes ++ slots_entry slots ∷ []
+abbrev pub slot_entries : ℕ → List DbChange → List SlotInfoValue → List EntryValue
+slot_entries slot changes infos = flat_map (db_entries slot) changes ++ slots_entry infos ∷ []
 
 -- ---- databases
 
@@ -125,6 +128,7 @@ with_changes (change ∷ changes) shelves = with_change change (with_changes cha
 abbrev pub changed_slot : DeskChange → SlotValue → SlotValue
 changed_slot change slot = record {
   marks = change.marks;
+  parted = change.parted.items;
   shelves = with_changes change.databases.items slot.shelves;
 }
 
@@ -137,7 +141,7 @@ with_commit change place slots =
 -- the files that this writes
 abbrev pub change_entries : DeskChange → ℕ → List SlotValue → List EntryValue
 change_entries change place slots =
-    slot_entries place change.databases.items (marks_of (with_commit change place slots))
+    slot_entries place change.databases.items (infos_of (with_commit change place slots))
 
 -- the files of a folder with those of a change of the slot at this place
 abbrev pub files_with : DeskChange → ℕ → List SlotValue → Option FileMap → Option FileMap

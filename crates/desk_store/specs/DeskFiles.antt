@@ -5,7 +5,6 @@ use Rattle.std.specs.Prelude.{option_and_then}
 use Rattle.std.specs.Option.{option_or}
 use Rattle.pdb_values.specs.Databases.{DatabaseValue}
 use Rattle.pdb_values.specs.Heads.{holds_resources}
-use Rattle.pdb_values.specs.declared.user.Marks.{Marks}
 use Rattle.pdb_files.specs.BadKinds.{bad_file}
 use Rattle.pdb_files.specs.Faults.{file_fault}
 use Rattle.pdb_files.specs.Reading.{database_in}
@@ -13,6 +12,7 @@ use Rattle.pdb_files.specs.declared.bad_kind.BadKind.{BadKind}
 use Rattle.pdb_files.specs.declared.bad_kind.BadKind.TheVariants as kinds
 use Rattle.folder_files.specs.FileNames.{archive_file, base_file, desktop_info_file, has_ending, is_kept_file, journal_file, rows_file, slot_prefix}
 use Rattle.folder_files.specs.InfoFiles.{desktop_in}
+use Rattle.folder_files.specs.Slots.{SlotInfoValue}
 use Rattle.folder_files.specs.declared.bad_line.BadLine.{BadLine}
 use Rattle.desk_journal.specs.Overlays.{bad_of}
 use Rattle.desk_journal.specs.declared.bad_journal.BadJournal.{BadJournal}
@@ -75,8 +75,8 @@ abbrev pub broken_rule : List ℕ → Option (BadKind × ℕ)
 broken_rule bytes = option_and_then bad_file (file_fault bytes)
 
 -- an information file in its form, or its first bad line
-abbrev pub if_slots : Result (List Marks) BadLine → Result DeskFile BadDeskFile
-if_slots (Ok slots) = Ok files.Other
+abbrev pub if_slots : Result (List SlotInfoValue) BadLine → Result DeskFile BadDeskFile
+if_slots (Ok infos) = Ok files.Other
 if_slots (Err line) = Err (record { kind = kinds.Info; place = line.place })
 
 -- a journal is no file that is kept; it is bad where it is out of its form

@@ -8,10 +8,10 @@ use Rattle.pdb_values.specs.NamedDatabases.{database_of}
 use Rattle.pdb_values.specs.Slots.{most_slots}
 use Rattle.pdb_values.specs.declared.slot.Slot.{Slot}
 use Rattle.pdb_values.specs.declared.slot.Slot.TheVariants.{Old, New, Refused, Full}
-use Rattle.folder_files.specs.Slots.{AreSlots}
+use Rattle.folder_files.specs.Slots.{AllRise, AreSlots}
 use Rattle.desk_journal.specs.Overlays.{HasNoJournal, finished}
 use Rattle.desk_store.specs.Finds.{first_bad_in, rows_count}
-use Rattle.desk_store.specs.Shelves.{AreInOrder, SlotValue, bad_at, database_at, marks_of, shelf_at, slots_in}
+use Rattle.desk_store.specs.Shelves.{AreInOrder, SlotValue, bad_at, database_at, infos_of, marks_of, shelf_at, slots_in}
 use Rattle.desk_store.specs.declared.role.Role.{Role}
 use Rattle.desk_store.specs.declared.fault.DeskOpenFault.{DeskOpenFault}
 use Rattle.desk_store.specs.declared.fault.DeskOpenFault.TheVariants.{DeskFault, TooMany, BadFile, NoMemory}
@@ -19,16 +19,18 @@ use Rattle.desk_store.specs.declared.fault.DeskOpenFault.TheVariants.{DeskFault,
 -- these are all slots of a folder with all their databases; it has no journal and no bad file
 pub record IsDeskOf (held : FileMap) (slots : List SlotValue) : Type 0 where
   pub no_journal : HasNoJournal held
-  pub marked : marks_of slots ≡ slots_in held
+  pub marked : infos_of slots ≡ slots_in held
   pub shelved : (slot : ℕ) (role : Role) (name : List ℕ) → slot < length slots
       → database_of name (shelf_at slots slot role)
       ≡ database_at held (length slots) slot role name
   pub good : (name : List ℕ) → bad_at held (length slots) name ≡ None
 
--- the slots of a desktop are in their form, each with its databases in byte order of their names,
--- and are those of its folder, where that tells what it holds
+-- the slots of a desktop are in their form, each with its databases in byte order of their names
+-- and those that took no part in byte order of their stems, and are those of its folder, where that
+-- tells what it holds
 pub record IsDesk (told : Option FileMap) (slots : List SlotValue) : Type 0 where
   pub formed : AreSlots (marks_of slots)
+  pub parted : AllRise (infos_of slots)
   pub ordered : AreInOrder slots
   pub stands : IfSome told (λ held. IsDeskOf held slots)
 

@@ -13,7 +13,7 @@ use Rattle.desk_store.specs.declared.file_fault.BadDeskFile.{BadDeskFile}
 use Rattle.desk_store.specs.declared.file.DeskFile.{DeskFile}
 use Rattle.desk_store.specs.declared.file.DeskFile.TheVariants as files
 use Rattle.desk_store.specs.declared.role.Role.{Role}
-use Rattle.desk_store.specs.Shelves.{AreInOrder, SlotValue, bad_at, database_at, marks_of, shelf_at, slot_at, slots_in, with_database}
+use Rattle.desk_store.specs.Shelves.{AreInOrder, SlotValue, bad_at, database_at, infos_of, shelf_at, slot_at, slots_in, with_database}
 use Rattle.desk_store.specs.declared.fault.DeskOpenFault.{DeskOpenFault}
 use Rattle.desk_store.specs.declared.fault.DeskOpenFault.TheVariants.{DeskFault, TooMany, BadFile, NoMemory}
 use Rattle.pdb_values.specs.NamedDatabases.{database_of}
@@ -31,9 +31,9 @@ abbrev pub with_file : DeskFile → List SlotValue → List SlotValue
 with_file (files.Database slot role database) slots = with_database_at slot role database slots
 with_file files.Other slots = slots
 
--- each slot keeps its marks, and its databases their order
+-- each slot keeps what an information file says of it, and its databases their order
 pub record KeepsForm (old new : List SlotValue) : Type 0 where
-  pub marked : marks_of new ≡ marks_of old
+  pub marked : infos_of new ≡ infos_of old
   pub ordered : AreInOrder old → AreInOrder new
 
 -- the file is good, and what it holds was added
@@ -63,7 +63,7 @@ is_among names name = list_any (bytes_eq name) names
 
 -- none of these files is bad, and this is what they hold
 pub record FindsAll (held : FileMap) (names : List (List ℕ)) (slots : List SlotValue) : Type 0 where
-  pub marked : marks_of slots ≡ slots_in held
+  pub marked : infos_of slots ≡ slots_in held
   pub good : first_bad held (length slots) names ≡ None
   pub shelved : (slot : ℕ) (role : Role) (name : List ℕ) → slot < length slots
       → database_of name (shelf_at slots slot role)

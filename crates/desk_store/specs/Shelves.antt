@@ -8,9 +8,10 @@ use Rattle.hs_folders.specs.FileMaps.{FileMap}
 use Rattle.pdb_values.specs.Databases.{DatabaseValue}
 use Rattle.pdb_values.specs.declared.user.Marks.{Marks}
 use Rattle.folder_files.specs.FileNames.{desktop_info_file}
-use Rattle.folder_files.specs.InfoFiles.{desktop_in}
-use Rattle.folder_files.specs.Slots.{pc_of}
+use Rattle.folder_files.specs.InfoFiles.{desktop_in, plain_info}
+use Rattle.folder_files.specs.Slots.{SlotInfoValue, pc_of}
 use Rattle.folder_files.specs.declared.bad_line.BadLine.{BadLine}
+use Rattle.folder_files.specs.declared.parted.Parted.{Parted}
 use Rattle.desk_store.specs.DeskFiles.{file_in, slot_file}
 use Rattle.desk_store.specs.declared.file_fault.BadDeskFile.{BadDeskFile}
 use Rattle.desk_store.specs.declared.file.DeskFile.{DeskFile}
@@ -23,17 +24,18 @@ use Rattle.pdb_values.specs.NamedDatabases.{NamesRise, with_put}
 
 -- the slots of a desktop that no session has touched: one, without a user; the desktop's number is
 -- 1
-abbrev pub first_slots : List Marks
-first_slots = record { pc = 1; user = 0; last = 0; name = [] } ∷ []
+abbrev pub first_slots : List SlotInfoValue
+first_slots = plain_info (record { pc = 1; user = 0; last = 0; name = [] }) ∷ []
 
 -- the slots of an information file in its form, else those
-abbrev pub slots_or_first : Option (Result (List Marks) BadLine) → List Marks
+abbrev pub slots_or_first : Option (Result (List SlotInfoValue) BadLine) → List SlotInfoValue
 slots_or_first None = first_slots
-slots_or_first (Some (Ok slots)) = slots
+slots_or_first (Some (Ok infos)) = infos
 slots_or_first (Some (Err line)) = first_slots
 
--- what a desktop knows of the user of each slot: its information file says it
-abbrev pub slots_in : FileMap → List Marks
+-- what a desktop knows of the user of each slot, and which databases took no part in its last
+-- session: its information file says it
+abbrev pub slots_in : FileMap → List SlotInfoValue
 slots_in held = slots_or_first (option_map desktop_in (finmap.get held desktop_info_file))
 
 -- the database of a good file
@@ -90,17 +92,28 @@ with_database Archive database shelves =
 
 -- ---- slots
 
--- a slot is what the desktop knows of its user, and its databases
+-- a slot is what the desktop knows of its user, its databases that took no part in its last
+-- session, and its databases
 pub record SlotValue : Type 0 where
   pub marks : Marks
+  pub parted : List Parted
   pub shelves : ShelvesValue
+
+-- what an information file says of a slot
+abbrev pub info_of : SlotValue → SlotInfoValue
+info_of slot = record { marks = slot.marks; parted = slot.parted }
+
+-- a slot without a database, of which it says this
+abbrev pub bare_slot : SlotInfoValue → SlotValue
+bare_slot info = record {
+  marks = info.marks;
+  parted = info.parted;
+  shelves = record { rows = []; bases = []; archives = [] };
+}
 
 -- a slot without a database
 abbrev pub empty_slot : Marks → SlotValue
-empty_slot marks = record {
-  marks = marks;
-  shelves = record { rows = []; bases = []; archives = [] };
-}
+empty_slot marks = bare_slot (plain_info marks)
 
 -- a slot of a desktop with this number, without a user and without a database
 abbrev pub new_slot : ℕ → SlotValue
@@ -109,6 +122,10 @@ new_slot pc = empty_slot (record { pc = pc; user = 0; last = 0; name = [] })
 -- what is known of the user of each slot
 abbrev pub marks_of : List SlotValue → List Marks
 marks_of slots = map (λ slot. slot.marks) slots
+
+-- what an information file says of each slot
+abbrev pub infos_of : List SlotValue → List SlotInfoValue
+infos_of slots = map info_of slots
 
 -- the number of the desktop
 abbrev pub number_of : List SlotValue → ℕ

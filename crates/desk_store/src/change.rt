@@ -4,6 +4,7 @@ ghost use Rattle.desk_store.specs.Changes.{with_archive, with_change, with_chang
 
 use crate::role::Role;
 use crate::shelves::Shelves;
+use folder_files::Parted;
 use pdb_values::{Database, Marks};
 use std::alloc::AllocError;
 
@@ -12,6 +13,8 @@ use std::alloc::AllocError;
 pub struct DeskChange {
     /// What the desktop knows of the user of the picked slot from now on.
     pub marks: Marks,
+    /// The databases that took no part in the session that ends, at most 400, in rising byte order of their stems.
+    pub parted: Vec<Parted>,
     /// The databases that change, at most 200, in rising byte order of their names.
     pub databases: Vec<DbChange>,
 }

@@ -4,19 +4,19 @@ ghost use Rattle.std.specs.List.{AllByRecursion};
 ghost use Rattle.hs_folders.specs.Causes.{HasCause};
 ghost use Rattle.hs_folders.specs.Moments.{EachMomentSince};
 ghost use Rattle.folder_files.specs.InfoFiles.{IsDesktopFile, desktop_text};
-ghost use Rattle.folder_files.specs.Slots.{AreSlots};
+ghost use Rattle.folder_files.specs.Slots.{AllRise, AreSlots};
 ghost use Rattle.desk_journal.specs.Entries.{entry_values};
 ghost use Rattle.desk_journal.specs.Overlays.{FinishesAs, StandsAs};
 ghost use Rattle.desk_journal.specs.Steps.{GoesThrough, GoesThroughAll};
 ghost use Rattle.desk_store.specs.Changes as changes;
 ghost use Rattle.desk_store.specs.Changes.{IsDbWritten, IsDeskChange, MayBear, steps_of, with_commit};
 ghost use Rattle.desk_store.specs.Desks.{IsDesk, IsPlace};
-ghost use Rattle.desk_store.specs.Shelves.{marks_of as marks_in, new_slot, number_of};
+ghost use Rattle.desk_store.specs.Shelves.{infos_of as infos_in, marks_of as marks_in, new_slot, number_of};
 
 use crate::change::{DeskChange, put_changes};
 use crate::entries::{database_entries, slots_entry};
 use crate::fault::CommitFault;
-use crate::slot::{DeskSlot, marks_of};
+use crate::slot::{DeskSlot, infos_of};
 use desk_journal::{Entry, commit_files};
 use hs_folders::Folder;
 use std::alloc::{AllocError, Global};
@@ -81,6 +81,8 @@ fn files_of_change(
     change: DeskChange,
 ) -> Result<(Vec<Entry>, Vec<DeskSlot>), AllocError>
     requires formed { AreSlots (marks_in slots.items) }
+    requires parted { AllRise (infos_in slots.items) }
+    requires change { IsDeskChange change }
     requires place { IsPlace slots.items place }
     requires newcomer { newcomer ≡ new_slot (number_of slots.items) }
     requires marks { MayBear slots.items place change.marks }
@@ -88,8 +90,8 @@ fn files_of_change(
         ≡ changes.change_entries change place slots.items) }
     ensures slots { IfOk result (λ made. made.1.items ≡ with_commit change place slots.items) }
     ensures written { OnOk result (AllByRecursion IsDbWritten change.databases.items) }
-    ensures text { OnOk result (IsDesktopFile (marks_in (with_commit change place slots.items))
-        (desktop_text (marks_in (with_commit change place slots.items)))) }
+    ensures text { OnOk result (IsDesktopFile (infos_in (with_commit change place slots.items))
+        (desktop_text (infos_in (with_commit change place slots.items)))) }
 {
     let mut entries = database_entries(alloc, place, &change.databases)?;
     let after = put_change(slots, place, newcomer, change)?;
@@ -99,14 +101,15 @@ fn files_of_change(
 
 // Appends the information file.
 fn push_slots(alloc: Global, entries: &mut Vec<Entry>, slots: &[DeskSlot]) -> Result<(), AllocError>
-    requires { AreSlots (marks_in slots.now) }
+    requires formed { AreSlots (marks_in slots.now) }
+    requires parted { AllRise (infos_in slots.now) }
     ensures entries { OnOk result (entry_values entries.new.items
-        ≡ entry_values entries.old.items ++ changes.slots_entry (marks_in slots.now) ∷ []) }
-    ensures written { OnOk result (IsDesktopFile (marks_in slots.now)
-        (desktop_text (marks_in slots.now))) }
+        ≡ entry_values entries.old.items ++ changes.slots_entry (infos_in slots.now) ∷ []) }
+    ensures written { OnOk result (IsDesktopFile (infos_in slots.now)
+        (desktop_text (infos_in slots.now))) }
 {
-    let marks = marks_of(alloc, slots)?;
-    let entry = slots_entry(alloc, &marks)?;
+    let infos = infos_of(alloc, slots)?;
+    let entry = slots_entry(alloc, &infos)?;
     entries.push(entry)?;
     Ok(())
 }
@@ -126,9 +129,14 @@ fn put_change(
     if place == slots.len() {
         slots.push(newcomer)?;
     }
-    let DeskChange { marks, databases } = change;
+    let DeskChange {
+        marks,
+        parted,
+        databases,
+    } = change;
     let slot = &mut slots[place];
     slot.marks = marks;
+    slot.parted = parted;
     put_changes(&mut slot.shelves, databases)?;
     Ok(slots)
 }

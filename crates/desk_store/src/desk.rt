@@ -5,6 +5,8 @@ ghost use Rattle.std.specs.Option.{option_copied, option_map};
 ghost use Rattle.hs_folders.specs.Causes.{HasCause};
 ghost use Rattle.hs_folders.specs.Moments.{EachMomentSince};
 ghost use Rattle.pdb_values.specs.NamedDatabases.{NamesRise, database_of};
+ghost use Rattle.folder_files.specs.Partings as partings;
+ghost use Rattle.folder_files.specs.Partings.{PartedRise};
 ghost use Rattle.folder_files.specs.Slots.{AreSlots, users_of as users_in};
 ghost use Rattle.desk_journal.specs.Overlays.{FinishesAs, StandsAs, finished};
 ghost use Rattle.desk_journal.specs.Steps.{GoesThrough, GoesThroughAll};
@@ -13,7 +15,7 @@ ghost use Rattle.desk_store.specs.Changes.{AreChanged, IsDeskChange, MayBear, fi
 ghost use Rattle.desk_store.specs.Desks.{IsDesk, IsJudged, IsOpenable, IsPickable, IsReadable, ShowsDeskFault, StaysOpenable, all_rows, place_of};
 ghost use Rattle.desk_store.specs.Finds.{rows_count};
 ghost use Rattle.desk_store.specs.Shelves.{marks_of, number_of};
-ghost use Rattle.desk_store.specs.Views.{folder_in, marks_in, picked_slot, shelves_in};
+ghost use Rattle.desk_store.specs.Views.{folder_in, marks_in, parted_in, picked_slot, shelves_in};
 
 use crate::bearing::may_bear;
 use crate::change::DeskChange;
@@ -22,6 +24,7 @@ use crate::fault::{CommitFault, DeskOpenFault};
 use crate::opening::open_files;
 use crate::role::Role;
 use crate::slot::{DeskSlot, users_of};
+use folder_files::{Parted, Parting, parting_of};
 use hs_folders::Folder;
 use pdb_values::{Database, DbName, Marks, Slot};
 use std::alloc::{AllocError, Global};
@@ -123,9 +126,10 @@ impl<F: Folder> Desk<F> {
     /// rows and its archive where one is given, and then the information file, all of them or none. Files that have their new
     /// bytes already are left alone.
     ///
-    /// The marks bear the desktop's number, and a user that no other slot has, 0 only in slot 0. At most 200 databases
-    /// change, in rising byte order of their names, which differ. The rows, base rows and archive of one change hold records
-    /// under one name, and an archive has an entry. A refusal hands the folder back; opening it again finishes what was begun.
+    /// The marks bear the desktop's number, and a user that no other slot has, 0 only in slot 0. At most 400 databases took no
+    /// part, in rising byte order of their stems. At most 200 databases change, in rising byte order of their names, which
+    /// differ. The rows, base rows and archive of one change hold records under one name, and an archive has an entry. A
+    /// refusal hands the folder back; opening it again finishes what was begun.
     pub fn commit(self, change: DeskChange) -> Result<Desk<F>, (CommitFault, F)>
         requires change { IsDeskChange change }
         requires marks { MayBear self.slots self.picked change.marks }
@@ -133,13 +137,14 @@ impl<F: Folder> Desk<F> {
         // The folder holds the files of the change, and all others as they were.
         ensures written { IfOk result (λ desk. F.contents desk.folder ≡
             files_with change self.picked self.slots (F.contents self.folder)) }
-        // The picked slot has the marks and databases of the change and its other databases as they were. All other slots are
-        // as they were, and the desktop is what the folder then stands for.
+        // The picked slot has the marks and databases of the change, keeps which took no part, and has its other databases as
+        // they were. All other slots are as they were, and the desktop is what the folder then stands for.
         ensures slots { IfOk result (λ desk. desk.slots
             ≡ with_commit change self.picked self.slots) }
         ensures picked { IfOk result (λ desk. desk.picked ≡ self.picked) }
         ensures desk { IfOk result (λ desk. IsDesk (F.contents desk.folder) desk.slots) }
         ensures marks { IfOk result (λ desk. marks_in desk ≡ change.marks) }
+        ensures parted { IfOk result (λ desk. parted_in desk ≡ change.parted.items) }
         ensures databases { IfOk result (λ desk.
             AreChanged change.databases.items (shelves_in self) (shelves_in desk)) }
 
@@ -218,11 +223,12 @@ impl<F: Folder> Desk<F> {
     }
 
     // The picked slot.
-    #[tactic(auto, using(crate::proofs::OpenLaws::picked_number, crate::proofs::OpenLaws::picked_rise))]
+    #[tactic(auto, using(crate::proofs::OpenLaws::picked_number, crate::proofs::OpenLaws::picked_rise, crate::proofs::OpenLaws::picked_parted))]
     fn slot(&self) -> &DeskSlot
         ensures slot { result.now ≡ picked_slot self.now }
         ensures number { (marks_in self.now).pc ≡ number_of self.now.slots }
         ensures rise { NamesRise (shelves_in self.now).rows }
+        ensures parted { PartedRise (parted_in self.now) }
     {
         match self.slots.get(self.picked) {
             Some(slot) => slot,
@@ -244,6 +250,22 @@ impl<F: Folder> Desk<F> {
         ensures number { result.now.pc ≡ number_of self.now.slots }
     {
         &self.slot().marks
+    }
+
+    /// The databases that took no part in the last session of the slot. Their stems rise in byte order.
+    pub fn parted(&self) -> &[Parted]
+        ensures parted { result.now ≡ parted_in self.now }
+        ensures rise { PartedRise result.now }
+    {
+        &self.slot().parted
+    }
+
+    /// What is kept of the database of this name: why it took no part in the last session of the slot, or None where it took
+    /// part.
+    pub fn parting(&self, name: &DbName) -> Option<Parting>
+        ensures { result ≡ partings.parting_of name.now (parted_in self.now) }
+    {
+        parting_of(self.parted(), name)
     }
 
     /// How many databases have rows in all slots, which is the number of files of rows; the greatest number, were there more.

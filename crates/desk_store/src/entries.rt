@@ -4,16 +4,16 @@ ghost use Rattle.std.specs.List.{AllByRecursion, flat_map};
 ghost use Rattle.pdb_files.specs.Files.{IsFileText, canonical};
 ghost use Rattle.desk_journal.specs.Entries.{entry_value, entry_values};
 ghost use Rattle.folder_files.specs.InfoFiles.{IsDesktopFile, desktop_text};
-ghost use Rattle.folder_files.specs.Slots.{AreSlots};
+ghost use Rattle.folder_files.specs.Slots.{AllRise, AreSlots, all_marks};
 ghost use Rattle.desk_store.specs.Changes as changes;
 ghost use Rattle.desk_store.specs.Changes.{IsDbWritten, database_entry, db_entries};
 
 use crate::change::DbChange;
 use crate::role::Role;
 use desk_journal::Entry;
-use folder_files::{DESKTOP_INFO, write_desktop_info};
+use folder_files::{DESKTOP_INFO, SlotInfo, write_desktop_info};
 use pdb_files::write_database;
-use pdb_values::{Database, Marks};
+use pdb_values::Database;
 use std::alloc::{AllocError, Global};
 
 // The files of each database in order, in a slot.
@@ -71,13 +71,14 @@ fn push_entry(
 }
 
 // The information file.
-pub(crate) fn slots_entry(alloc: Global, slots: &[Marks]) -> Result<Entry, AllocError>
-    requires { AreSlots slots.now }
-    ensures entry { IfOk result (λ entry. entry_value entry ≡ changes.slots_entry slots.now) }
-    ensures written { IfOk result (λ _. IsDesktopFile slots.now (desktop_text slots.now)) }
+pub(crate) fn slots_entry(alloc: Global, infos: &[SlotInfo]) -> Result<Entry, AllocError>
+    requires formed { AreSlots (all_marks infos.now) }
+    requires parted { AllRise infos.now }
+    ensures entry { IfOk result (λ entry. entry_value entry ≡ changes.slots_entry infos.now) }
+    ensures written { IfOk result (λ _. IsDesktopFile infos.now (desktop_text infos.now)) }
 {
     let name = String::from_str(alloc, DESKTOP_INFO)?;
-    let text = write_desktop_info(alloc, slots)?;
+    let text = write_desktop_info(alloc, infos)?;
     Ok(Entry {
         name,
         bytes: text.into_bytes(),

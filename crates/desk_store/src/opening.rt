@@ -6,20 +6,19 @@ ghost use Rattle.hs_folders.specs.Causes.{HasCause};
 ghost use Rattle.hs_folders.specs.Moments.{EachMomentSince, OnlyRead};
 ghost use Rattle.folder_files.specs.FileNames.{has_ending};
 ghost use Rattle.folder_files.specs.InfoFiles.{desktop_in};
-ghost use Rattle.folder_files.specs.Slots.{AreSlots};
+ghost use Rattle.folder_files.specs.Slots.{AllRise, AreSlots, all_marks};
 ghost use Rattle.desk_journal.specs.Overlays.{FinishesAs, StandsAs, finished};
 ghost use Rattle.desk_store.specs.Bounds.{AreBounded};
 ghost use Rattle.desk_store.specs.Desks.{IsDesk, IsJudged, IsReadable, ShowsDeskFault};
 ghost use Rattle.desk_store.specs.Finds.{FindsAll, rows_count};
-ghost use Rattle.desk_store.specs.Shelves.{AreInOrder, first_slots as untouched, marks_of, slots_in, slots_or_first};
+ghost use Rattle.desk_store.specs.Shelves.{AreInOrder, first_slots as untouched, infos_of, marks_of, slots_in, slots_or_first};
 
 use crate::fault::DeskOpenFault;
 use crate::reading::read_files;
-use crate::slot::{DeskSlot, empty_slots, see_all_marks, unclaimed_marks};
+use crate::slot::{DeskSlot, bare_slots, see_all_marks, unclaimed_info};
 use desk_journal::finish_journal;
-use folder_files::{DESKTOP_INFO, InfoFault, read_desktop_info};
+use folder_files::{DESKTOP_INFO, InfoFault, SlotInfo, read_desktop_info};
 use hs_folders::{Folder, FolderFault};
-use pdb_values::Marks;
 use std::alloc::{AllocError, Global};
 
 // The most files of rows that a folder may have.
@@ -64,6 +63,7 @@ fn read_slots<F: Folder>(alloc: Global, folder: &mut F) -> Result<Vec<DeskSlot>,
     ensures found { IfOk result (λ slots. IfSome (F.contents folder.old)
         (λ held. FindsAll held [] slots.items)) }
     ensures formed { IfOk result (λ slots. AreSlots (marks_of slots.items)) }
+    ensures parted { IfOk result (λ slots. AllRise (infos_of slots.items)) }
     ensures ordered { IfOk result (λ slots. AreInOrder slots.items) }
     ensures bounded { IfOk result (λ slots. AreBounded slots.items) }
     ensures unjudged { IfErr result (λ fault. ¬ IsJudged fault) }
@@ -71,17 +71,18 @@ fn read_slots<F: Folder>(alloc: Global, folder: &mut F) -> Result<Vec<DeskSlot>,
         (IsErrOf result DeskOpenFault.DeskFault) }
     ensures read { OnlyRead F.contents F.moments F.paths F.faults folder.old folder.new }
 {
-    let marks = read_marks(alloc, folder)?;
-    see_all_marks(&marks);
-    let slots = empty_slots(alloc, marks)?;
+    let infos = read_infos(alloc, folder)?;
+    see_all_marks(&infos);
+    let slots = bare_slots(alloc, infos)?;
     Ok(slots)
 }
 
 // What the information file says of the slots; those of a desktop that no session touched where it is missing or bad.
-fn read_marks<F: Folder>(alloc: Global, folder: &mut F) -> Result<Vec<Marks>, DeskOpenFault>
-    ensures slots { IfOk result (λ slots. IfSome (F.contents folder.old)
-        (λ held. slots.items ≡ slots_in held)) }
-    ensures formed { IfOk result (λ slots. AreSlots slots.items) }
+fn read_infos<F: Folder>(alloc: Global, folder: &mut F) -> Result<Vec<SlotInfo>, DeskOpenFault>
+    ensures slots { IfOk result (λ infos. IfSome (F.contents folder.old)
+        (λ held. infos.items ≡ slots_in held)) }
+    ensures formed { IfOk result (λ infos. AreSlots (all_marks infos.items)) }
+    ensures parted { IfOk result (λ infos. AllRise infos.items) }
     ensures unjudged { IfErr result (λ fault. ¬ IsJudged fault) }
     ensures cause { HasCause (F.faults folder.old) (F.faults folder.new)
         (IsErrOf result DeskOpenFault.DeskFault) }
@@ -101,25 +102,27 @@ fn read_marks<F: Folder>(alloc: Global, folder: &mut F) -> Result<Vec<Marks>, De
 }
 
 // The slots of an information file in its form, else those of a desktop that no session touched.
-fn info_slots(alloc: Global, bytes: &[u8]) -> Result<Vec<Marks>, AllocError>
-    ensures slots { IfOk result (λ slots. slots.items
+fn info_slots(alloc: Global, bytes: &[u8]) -> Result<Vec<SlotInfo>, AllocError>
+    ensures slots { IfOk result (λ infos. infos.items
         ≡ slots_or_first (Some (desktop_in bytes.now))) }
-    ensures formed { IfOk result (λ slots. AreSlots slots.items) }
+    ensures formed { IfOk result (λ infos. AreSlots (all_marks infos.items)) }
+    ensures parted { IfOk result (λ infos. AllRise infos.items) }
 {
     match read_desktop_info(alloc, bytes) {
-        Ok(slots) => Ok(slots),
+        Ok(infos) => Ok(infos),
         Err(InfoFault::Bad(_)) => first_slots(alloc),
         Err(InfoFault::NoMemory) => Err(AllocError),
     }
 }
 
 // The slots of a desktop that no session touched.
-fn first_slots(alloc: Global) -> Result<Vec<Marks>, AllocError>
-    ensures slots { IfOk result (λ slots. slots.items ≡ untouched) }
-    ensures formed { IfOk result (λ slots. AreSlots slots.items) }
+fn first_slots(alloc: Global) -> Result<Vec<SlotInfo>, AllocError>
+    ensures slots { IfOk result (λ infos. infos.items ≡ untouched) }
+    ensures formed { IfOk result (λ infos. AreSlots (all_marks infos.items)) }
+    ensures parted { IfOk result (λ infos. AllRise infos.items) }
 {
-    let slots = vec![in alloc; unclaimed_marks(1)]?;
-    Ok(slots)
+    let infos = vec![in alloc; unclaimed_info(alloc, 1)]?;
+    Ok(infos)
 }
 
 // How many files hold rows.

@@ -1,21 +1,25 @@
 // A slot of a desktop: one user with databases of its own.
 ghost use Rattle.std.specs.Prelude.{◌≡◌, [], IfOk, length, map, slice_get, vec_len};
 ghost use Rattle.std.specs.Option.{option_copied, option_map};
+ghost use Rattle.folder_files.specs.InfoFiles.{plain_info};
 ghost use Rattle.folder_files.specs.Slots.{users_of as users_in};
 ghost use Rattle.std.specs.List.{AllByRecursion};
 ghost use Rattle.desk_store.specs.Bounds.{AreBoundedMarks};
-ghost use Rattle.desk_store.specs.Shelves.{empty_slot, marks_of as marks_in, new_slot};
+ghost use Rattle.desk_store.specs.Shelves.{bare_slot, infos_of as infos_in, marks_of as marks_in, new_slot};
 
 use crate::bounds::see_marks;
 use crate::shelves::Shelves;
+use folder_files::{Parted, SlotInfo, same_parted};
 use pdb_values::{DbName, Marks, PalmDate, UserName};
 use std::alloc::{AllocError, Global};
 use std::marker::Model;
 
-// What the desktop knows of the user of a slot, and the databases of that user.
+// What the desktop knows of the user of a slot, the databases that took no part in its last session, and the databases of
+// that user.
 #[derive(Drop)]
 pub(crate) struct DeskSlot {
     pub(crate) marks: Marks,
+    pub(crate) parted: Vec<Parted>,
     pub(crate) shelves: Shelves,
 }
 
@@ -24,16 +28,22 @@ impl Model for DeskSlot {
 
     ghost Value = { SlotValue };
 
-    ghost view = { λ slot. record { marks = slot.marks; shelves = slot.shelves } };
+    ghost view = { λ slot. record {
+      marks = slot.marks;
+      parted = slot.parted.items;
+      shelves = slot.shelves;
+    } };
 }
 
 impl DeskSlot {
-    // A slot without a database.
-    pub(crate) fn empty(alloc: Global, marks: Marks) -> DeskSlot
-        ensures { result ≡ empty_slot marks }
+    // A slot without a database, of which an information file says this.
+    pub(crate) fn bare(alloc: Global, info: SlotInfo) -> DeskSlot
+        ensures { result ≡ bare_slot info }
     {
+        let SlotInfo { marks, parted } = info;
         DeskSlot {
             marks,
+            parted,
             shelves: Shelves::new(alloc),
         }
     }
@@ -42,7 +52,7 @@ impl DeskSlot {
     pub(crate) fn unclaimed(alloc: Global, pc: u32) -> DeskSlot
         ensures { result ≡ new_slot pc }
     {
-        DeskSlot::empty(alloc, unclaimed_marks(pc))
+        DeskSlot::bare(alloc, unclaimed_info(alloc, pc))
     }
 
     // The name of a database that has rows, by its place among them.
@@ -58,7 +68,7 @@ impl DeskSlot {
 }
 
 // What is known of no user.
-pub(crate) fn unclaimed_marks(pc: u32) -> Marks
+fn unclaimed_marks(pc: u32) -> Marks
     ensures { result ≡ record { pc = pc; user = 0; last = 0; name = [] } }
 {
     Marks {
@@ -69,34 +79,46 @@ pub(crate) fn unclaimed_marks(pc: u32) -> Marks
     }
 }
 
-// What is known of users is within bounds.
-pub(crate) fn see_all_marks(slots: &[Marks])
-    ensures { AllByRecursion AreBoundedMarks slots.now }
+// What an information file says of a slot without a user: each database took part in its last session.
+pub(crate) fn unclaimed_info(alloc: Global, pc: u32) -> SlotInfo
+    ensures { result ≡ plain_info (record { pc = pc; user = 0; last = 0; name = [] }) }
 {
-    for marks in slots {
-        see_marks(marks);
+    SlotInfo {
+        marks: unclaimed_marks(pc),
+        parted: Vec::new(alloc),
+    }
+}
+
+// What is known of users is within bounds.
+pub(crate) fn see_all_marks(infos: &[SlotInfo])
+    ensures { AllByRecursion (λ info. AreBoundedMarks info.marks) infos.now }
+{
+    for info in infos {
+        see_marks(&info.marks);
     }
 }
 
 // Slots without databases.
-pub(crate) fn empty_slots(alloc: Global, marks: Vec<Marks>) -> Result<Vec<DeskSlot>, AllocError>
-    ensures { IfOk result (λ slots. slots.items ≡ map empty_slot marks.items) }
+pub(crate) fn bare_slots(alloc: Global, infos: Vec<SlotInfo>) -> Result<Vec<DeskSlot>, AllocError>
+    ensures { IfOk result (λ slots. slots.items ≡ map bare_slot infos.items) }
 {
-    marks
+    infos
         .into_iter()
-        .map(|known| DeskSlot::empty(alloc, known))
+        .map(|info| DeskSlot::bare(alloc, info))
         .collect(alloc)
 }
 
-// What is known of the user of each slot, once more.
-pub(crate) fn marks_of(alloc: Global, slots: &[DeskSlot]) -> Result<Vec<Marks>, AllocError>
-    ensures { IfOk result (λ marks. marks.items ≡ marks_in slots.now) }
+// What an information file says of each slot.
+pub(crate) fn infos_of(alloc: Global, slots: &[DeskSlot]) -> Result<Vec<SlotInfo>, AllocError>
+    ensures { IfOk result (λ infos. infos.items ≡ infos_in slots.now) }
 {
-    let mut marks = Vec::new(alloc);
+    let mut infos = Vec::new(alloc);
     for slot in slots {
-        marks.push(same_marks(&slot.marks))?;
+        let parted = same_parted(alloc, &slot.parted)?;
+        let marks = same_marks(&slot.marks);
+        infos.push(SlotInfo { marks, parted })?;
     }
-    Ok(marks)
+    Ok(infos)
 }
 
 // The users of slots.

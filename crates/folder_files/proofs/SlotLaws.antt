@@ -4,16 +4,23 @@ use Rattle.std.proofs.lemmas.Grind.{common_steps}
 use Rattle.std.proofs.Common.{◌≡◌, ℕ, zero, suc, ◌+◌, ◌<◌, ◌≤◌, Bool, true, false, cond, eqb, List, [], ◌∷◌, ◌++◌, length, get_or, take, Result, Ok, Err, refl}
 use Rattle.std.proofs.Common.{sym, ap, subst, ◌∙◌, arith, inl, inr}
 use Rattle.std.specs.Prelude.{◌||◌, ◌≢◌, not}
-use Rattle.std.specs.List.{AllByRecursion}
+use Rattle.std.specs.List.{AllByRecursion, list_any}
 use Rattle.std.proofs.lemmas.Bool.{and_parts, cases_lt, eqb-false, eqb-true, ne_eqb}
-use Rattle.std.proofs.lemmas.List.{append-nil, append_assoc, length-append, length-map, length-take, nil_from_length}
+use Rattle.std.proofs.lemmas.List.{append-nil, append_assoc, length-append, length-map, length-take, map-append, nil_from_length}
 use Rattle.pdb_values.specs.declared.user.Marks.{Marks}
-use Rattle.folder_files.specs.InfoFiles.{AreSaid, IsSlotSaid, if_follows, marks_of, said_of, slot_form, slot_forms, slot_line, slot_values, slots_at}
-use Rattle.folder_files.specs.Lines.{AreLines, Number, SaysNumber, Slot, Value, lines_text, text_of}
+use Rattle.folder_files.specs.InfoFiles.{AreSaid, IsSlotSaid, if_follows, is_parted_line, marks_of, parted_at, parted_values, said_of, slot_form, slot_forms}
+use Rattle.folder_files.specs.InfoFiles.{slot_lines, slot_values, slots_at, with_parted}
+use Rattle.folder_files.specs.Lines.{AreLines, LineForm, Number, Says, SaysNumber, Slot, Value, Values, lines_text, text_of}
+use Rattle.folder_files.specs.Partings.{StemsRise}
 use Rattle.folder_files.specs.Reading.{◌>>=◌, line_at, lines_at}
-use Rattle.folder_files.specs.Slots.{AreUsers, is_user, may_follow, users_of}
+use Rattle.folder_files.specs.Slots.{AreUsers, SlotInfoValue, all_marks, is_user, may_follow, pc_of, users_of}
+use Rattle.folder_files.specs.Views.{FindsUnless}
+use Rattle.folder_files.specs.declared.fault.LineFault.{LineFault}
+use Rattle.folder_files.specs.declared.fault.LineFault.TheVariants.{Left, OutOfMemory}
+use Rattle.folder_files.specs.declared.parted.Parted.{Parted}
 use Rattle.folder_files.specs.declared.unread.Unread.{Unread}
 use Rattle.folder_files.proofs.LineLaws.{bind_ok, line_found, line_only, ok_is}
+use Rattle.folder_files.proofs.PartedLaws.{parted-text, parted_found, parted_only}
 use Rattle.folder_files.proofs.ValueLaws.{slot_key-no_feed}
 
 -- ---- users
@@ -51,9 +58,9 @@ next_user before marks more = grind (arith, nat_tests, common_steps)
 next_place : (before : List Marks) (marks : Marks) (more : List Marks) → length before < length (users_of (before ++ marks ∷ more))
 next_place before marks more = grind (arith, nat_tests, common_steps)
 
-follows : (before : List Marks) (marks : Marks) (more : List Marks) → AreUsers (users_of (before ++ marks ∷ more)) → may_follow before marks.user ≡ true
-follows [] marks more users = refl
-follows (first ∷ before) marks more users =
+may_come : (before : List Marks) (marks : Marks) (more : List Marks) → AreUsers (users_of (before ++ marks ∷ more)) → may_follow before marks.user ≡ true
+may_come [] marks more users = refl
+may_come (first ∷ before) marks more users =
     let all : List Marks = first ∷ before in
     let place = next_place all marks more in
     let own = next_user all marks more in
@@ -88,132 +95,221 @@ users_more (first ∷ before) marks users may i j less short =
 
 -- ---- lines
 
+pub is_user-infos : (infos : List SlotInfoValue) (user : ℕ) → list_any (λ info. eqb info.marks.user user) infos ≡ is_user (all_marks infos) user
+is_user-infos [] user = refl
+is_user-infos (info ∷ infos) user = ap (λ (b : Bool). eqb info.marks.user user || b) (is_user-infos infos user)
+
+-- the marks of slots with others behind them
+marks-append : (before more : List SlotInfoValue) → all_marks (before ++ more) ≡ all_marks before ++ all_marks more
+marks-append before more = map-append (λ info. info.marks) before more
+
+pub marks-length : (infos : List SlotInfoValue) → length (all_marks infos) ≡ length infos
+marks-length infos = length-map infos (λ info. info.marks)
+
+users-push : (before : List SlotInfoValue) (info : SlotInfoValue) → AreUsers (users_of (all_marks before)) → may_follow (all_marks before) info.marks.user ≡ true
+    → AreUsers (users_of (all_marks (before ++ info ∷ [])))
+users-push before info users may =
+    subst (λ (marks : List Marks). AreUsers (users_of marks)) (sym (marks-append before (info ∷ []))) (users_more (all_marks before) info.marks users may)
+
+users-follow : (before : List SlotInfoValue) (info : SlotInfoValue) (more : List SlotInfoValue) → AreUsers (users_of (all_marks (before ++ info ∷ more)))
+    → may_follow (all_marks before) info.marks.user ≡ true
+users-follow before info more users =
+    may_come (all_marks before) info.marks (all_marks more) (subst (λ (marks : List Marks). AreUsers (users_of marks)) (marks-append before (info ∷ more)) users)
+
+-- a slot that isn't the first may have a user who isn't 0 and whom none has
+pub may_follow-more : (infos : List SlotInfoValue) (user : ℕ) (used : Bool) → (length infos ≡ 0 → ⊥) → (user ≡ 0 → ⊥)
+    → used ≡ list_any (λ info. eqb info.marks.user user) infos → not used ≡ may_follow (all_marks infos) user
+may_follow-more infos user used some other is =
+    let there : eqb (length (all_marks infos)) 0 ≡ false = ne_eqb _ _ (λ e. some (sym (marks-length infos) ∙ e)) in
+    let known : eqb user 0 ≡ false = ne_eqb _ _ other in
+    rw (there, known, sym (is ∙ is_user-infos infos user)) refl
+
+-- at most so many databases of each slot took no part, and their stems rise
+pub record AreRoomy (room : ℕ) (infos : List SlotInfoValue) : Type 0 where
+  pub few : AllByRecursion (λ info. length info.parted ≤ room) infos
+  pub rise : AllByRecursion (λ info. StemsRise info.parted) infos
+
 -- what was read behind the slots before
-pub record ReadsMore (pc count : ℕ) (before all : List Marks) (bytes : List ℕ) : Type 0 where
-  pub more : List Marks
+pub record ReadsMore (room pc count : ℕ) (before all : List SlotInfoValue) (bytes : List ℕ) : Type 0 where
+  pub more : List SlotInfoValue
   pub whole : all ≡ before ++ more
   pub number : length more ≡ count
-  pub one_desktop : AllByRecursion (λ marks. marks.pc ≡ pc) more
+  pub one_desktop : AllByRecursion (λ marks. marks.pc ≡ pc) (all_marks more)
+  pub parted : AreRoomy room more
   pub lines : AreLines (slot_forms (length before) more) (slot_values (length before) more) bytes
-  pub users : AreUsers (users_of before) → AreUsers (users_of all)
+  pub users : AreUsers (users_of (all_marks before)) → AreUsers (users_of (all_marks all))
 
-follows_ok : (before : List Marks) (marks : Marks) (bytes : List ℕ) (slots : List Marks) → if_follows before marks bytes ≡ Ok slots
-    → (may_follow before marks.user ≡ true) × (before ++ marks ∷ [] ≡ slots)
-follows_ok before marks bytes slots e = grind arith
+follows_ok : (before : List SlotInfoValue) (marks : Marks) (bytes : List ℕ) (found : Marks) → if_follows before marks bytes ≡ Ok found
+    → (may_follow (all_marks before) marks.user ≡ true) × (marks ≡ found)
+follows_ok before marks bytes found e = grind arith
 
-pub slots_found : (pc count : ℕ) (before : List Marks) (bytes : List ℕ) (all : List Marks) → slots_at pc count before bytes ≡ Ok all
-    → ReadsMore pc count before all bytes
+no_slot_more : (room pc : ℕ) (before : List SlotInfoValue) (bytes : List ℕ) (all : List SlotInfoValue) → length bytes ≡ 0 → before ≡ all
+    → ReadsMore room pc 0 before all bytes
+no_slot_more room pc before bytes all none same = record {
+  more = [];
+  whole = sym same ∙ sym (append-nil before);
+  number = refl;
+  one_desktop = tt;
+  parted = record { few = tt; rise = tt };
+  lines = nil_from_length bytes none;
+  users = λ users. subst (λ (infos : List SlotInfoValue). AreUsers (users_of (all_marks infos))) same users;
+}
+
+place-push : (before : List SlotInfoValue) (info : SlotInfoValue) → length (before ++ info ∷ []) ≡ suc (length before)
+place-push before info = omega (arith, length-append before (info ∷ []))
+
+-- a slot in front of those that were read
+one_slot_more : (room pc count : ℕ) (before : List SlotInfoValue) (info : SlotInfoValue) (all : List SlotInfoValue) (bytes text behind rest : List ℕ)
+    → bytes ≡ (slot_form (length before)).key ++ (text ++ 10 ∷ behind) → Says Slot (said_of info.marks) text → info.marks.pc ≡ pc
+    → may_follow (all_marks before) info.marks.user ≡ true → length info.parted ≤ room → StemsRise info.parted
+    → ((forms : List LineForm) (values : Values forms) → AreLines forms values rest → AreLines (with_parted info.parted forms) (parted_values info.parted forms values) behind)
+    → ReadsMore room pc count (before ++ info ∷ []) all rest → ReadsMore room pc (suc count) before all bytes
+one_slot_more room pc count before info all bytes text behind rest is says own may few rise lines later = record {
+  more = info ∷ later.more;
+  whole = later.whole ∙ append_assoc before (info ∷ []) later.more;
+  number = omega (arith, later.number);
+  one_desktop = (own, later.one_desktop);
+  parted = record { few = (few, later.parted.few); rise = (rise, later.parted.rise) };
+  lines = (
+    text,
+    behind,
+    is,
+    says,
+    lines (slot_forms (suc (length before)) later.more) (slot_values (suc (length before)) later.more)
+        (subst (λ (k : ℕ). AreLines (slot_forms k later.more) (slot_values k later.more) rest) (place-push before info) later.lines),
+  );
+  users = λ users. later.users (users-push before info users may);
+}
+
+pub slots_found : (room pc count : ℕ) (before : List SlotInfoValue) (bytes : List ℕ) (all : List SlotInfoValue) → slots_at room pc count before bytes ≡ Ok all
+    → ReadsMore room pc count before all bytes
 unfolding slots_at
-slots_found pc zero before bytes all e = empty (eqb (length bytes) 0) refl e
+slots_found room pc zero before bytes all e = empty (eqb (length bytes) 0) refl e
   where
-    empty : (b : Bool) → eqb (length bytes) 0 ≡ b → cond {A = Result (List Marks) Unread} b (Ok before) (Err (record { 0 = length bytes })) ≡ Ok all
-        → ReadsMore pc 0 before all bytes
+    empty : (b : Bool) → eqb (length bytes) 0 ≡ b → cond {A = Result (List SlotInfoValue) Unread} b (Ok before) (Err (record { 0 = length bytes })) ≡ Ok all
+        → ReadsMore room pc 0 before all bytes
     empty false is e = absurd cc
-    empty true is e =
-        let same : before ≡ all = ok_is _ _ e in
-        record {
-          more = [];
-          whole = sym same ∙ sym (append-nil before);
-          number = refl;
-          one_desktop = tt;
-          lines = nil_from_length bytes (eqb-true _ _ is);
-          users = λ users. subst (λ (slots : List Marks). AreUsers (users_of slots)) same users;
-        }
-slots_found pc (suc count) before bytes all e =
+    empty true is e = no_slot_more room pc before bytes all (eqb-true _ _ is) (ok_is _ _ e)
+slots_found room pc (suc count) before bytes all e =
     let line = bind_ok (line_at (slot_form (length before)) bytes) _ all e in
-    let marks : Marks = marks_of pc line.0.0 in
-    let next = bind_ok (if_follows before marks bytes) (λ slots. slots_at pc count slots line.0.1) all line.2 in
-    let step = follows_ok before marks bytes next.0 next.1 in
-    let later : ReadsMore pc count (before ++ marks ∷ []) all line.0.1 =
-    slots_found pc count (before ++ marks ∷ []) line.0.1 all (ap (λ (slots : List Marks). slots_at pc count slots line.0.1) step.1 ∙ next.2) in
+    let next = bind_ok (if_follows before (marks_of pc line.0.0) bytes) _ all line.2 in
+    let step = follows_ok before (marks_of pc line.0.0) bytes next.0 next.1 in
+    let parted = bind_ok (parted_at room [] line.0.1) _ all next.2 in
+    let read = parted_found room [] line.0.1 parted.0 parted.1 in
+    let info : SlotInfoValue = record { marks = next.0; parted = parted.0.0 } in
     let found = line_found (slot_form (length before)) bytes line.0 line.1 in
-    let place : length (before ++ marks ∷ []) ≡ suc (length before) = omega (arith, length-append before (marks ∷ [])) in
-    record {
-      more = marks ∷ later.more;
-      whole = later.whole ∙ append_assoc before (marks ∷ []) later.more;
-      number = omega (arith, later.number);
-      one_desktop = (refl, later.one_desktop);
-      lines = (
-        found.0,
-        line.0.1,
-        found.1,
-        found.2,
-        subst (λ (k : ℕ). AreLines (slot_forms k later.more) (slot_values k later.more) line.0.1) place
-            later.lines,
-      );
-      users = λ users. later.users (users_more before marks users step.0);
-    }
+    one_slot_more room pc count before info all bytes found.0 line.0.1 parted.0.1 found.1
+    (subst (λ (marks : Marks). Says Slot (said_of marks) found.0) step.1 found.2)
+    (ap (λ (marks : Marks). marks.pc) (sym step.1))
+    (subst (λ (marks : Marks). may_follow (all_marks before) marks.user ≡ true) step.1 step.0)
+    (subst (λ (p : List Parted). length p ≤ room) (sym read.whole) read.few)
+    (read.rise tt)
+    (λ forms values lines. subst (λ (p : List Parted). AreLines (with_parted p forms) (parted_values p forms values) line.0.1) (sym read.whole)
+    (read.lines forms values lines))
+    (slots_found room pc count (before ++ info ∷ []) parted.0.1 all parted.2)
 
-pub slots_only : (pc : ℕ) (before more : List Marks) (bytes : List ℕ) → AllByRecursion (λ marks. marks.pc ≡ pc) more → length before + length more ≤ 16
-    → AreUsers (users_of (before ++ more)) → AreLines (slot_forms (length before) more) (slot_values (length before) more) bytes
-    → slots_at pc (length more) before bytes ≡ Ok (before ++ more)
+-- the lines of slots begin with no word of a database
+slots_end_parted : (number : ℕ) (infos : List SlotInfoValue) (rest : List ℕ) → AreLines (slot_forms number infos) (slot_values number infos) rest
+    → is_parted_line rest ≡ false
+slots_end_parted number [] rest is = ap is_parted_line is
+slots_end_parted number (info ∷ infos) rest is = ap is_parted_line is.2
+
+-- a slot more
+slots-step : (room pc left : ℕ) (before : List SlotInfoValue) (info : SlotInfoValue) (bytes behind rest : List ℕ)
+    → line_at (slot_form (length before)) bytes ≡ Ok (said_of info.marks, behind) → info.marks.pc ≡ pc → may_follow (all_marks before) info.marks.user ≡ true
+    → parted_at room [] behind ≡ Ok (info.parted, rest) → slots_at room pc (suc left) before bytes ≡ slots_at room pc left (before ++ info ∷ []) rest
 unfolding slots_at
-slots_only pc before [] bytes one few users lines = cc (append-nil before)
-slots_only pc before (marks ∷ more) bytes one few users lines =
-    let line : line_at (slot_form (length before)) bytes ≡ Ok (said_of marks, lines.1) =
-    ap (line_at (slot_form (length before))) lines.2 ∙ line_only (slot_form (length before)) (said_of marks) lines.0 lines.1
+slots-step room pc left before info bytes behind rest line own may parted =
+    let same : marks_of pc (said_of info.marks) ≡ info.marks = ap (λ (p : ℕ). marks_of p (said_of info.marks)) (sym own) in
+    rw (line, same, may, parted) refl
+
+pub slots_only : (room pc : ℕ) (before more : List SlotInfoValue) (bytes : List ℕ) → AllByRecursion (λ marks. marks.pc ≡ pc) (all_marks more)
+    → length before + length more ≤ 16 → AreUsers (users_of (all_marks (before ++ more))) → AreRoomy room more
+    → AreLines (slot_forms (length before) more) (slot_values (length before) more) bytes → slots_at room pc (length more) before bytes ≡ Ok (before ++ more)
+unfolding slots_at
+slots_only room pc before [] bytes one few users roomy lines = cc (append-nil before)
+slots_only room pc before (info ∷ more) bytes one few users roomy lines =
+    let line : line_at (slot_form (length before)) bytes ≡ Ok (said_of info.marks, lines.1) =
+    ap (line_at (slot_form (length before))) lines.2 ∙ line_only (slot_form (length before)) (said_of info.marks) lines.0 lines.1
     (slot_key-no_feed (length before) (omega arith)) lines.3 in
-    let same : marks_of pc (said_of marks) ≡ marks = ap (λ (p : ℕ). marks_of p (said_of marks)) (sym one.0) in
-    let may = follows before marks more users in
-    let next : if_follows before marks bytes ≡ Ok (before ++ marks ∷ []) = rw may refl in
-    let place : length (before ++ marks ∷ []) ≡ suc (length before) = omega (arith, length-append before (marks ∷ [])) in
-    let whole : (before ++ marks ∷ []) ++ more ≡ before ++ marks ∷ more = append_assoc before (marks ∷ []) more in
-    let later = slots_only pc (before ++ marks ∷ []) more lines.1 one.1 (omega arith)
-    (subst (λ (slots : List Marks). AreUsers (users_of slots)) (sym whole) users)
-    (subst (λ (k : ℕ). AreLines (slot_forms k more) (slot_values k more) lines.1) (sym place) lines.4) in
-    rw line
-    (ap (λ (m : Marks). if_follows before m bytes >>= λ slots. slots_at pc (length more) slots lines.1) same
-    ∙ (ap (λ (r : Result (List Marks) Unread). r >>= λ slots. slots_at pc (length more) slots lines.1) next
-    ∙ (later ∙ ap (λ (slots : List Marks). let r : Result (List Marks) Unread = Ok slots in r) whole)))
+    let may = users-follow before info more users in
+    let parted = parted_only (slot_forms (suc (length before)) more) (slot_values (suc (length before)) more) room [] info.parted lines.1 roomy.few.0 roomy.rise.0 lines.4
+    (slots_end_parted (suc (length before)) more) in
+    let whole : (before ++ info ∷ []) ++ more ≡ before ++ info ∷ more = append_assoc before (info ∷ []) more in
+    let later = slots_only room pc (before ++ info ∷ []) more parted.0 one.1 (omega (arith, place-push before info))
+    (subst (λ (infos : List SlotInfoValue). AreUsers (users_of (all_marks infos))) (sym whole) users)
+    (record { few = roomy.few.1; rise = roomy.rise.1 })
+    (subst (λ (k : ℕ). AreLines (slot_forms k more) (slot_values k more) parted.0) (sym (place-push before info)) parted.1) in
+    slots-step room pc (length more) before info bytes lines.1 parted.0 line one.0 may parted.2
+    ∙ (later ∙ ap (λ (infos : List SlotInfoValue). let r : Result (List SlotInfoValue) Unread = Ok infos in r) whole)
 
 -- ---- line by line
 
-pub slots_stop : (pc left : ℕ) (before : List Marks) (key bytes : List ℕ) (unread : Unread) → 0 < left → key ≡ (slot_form (length before)).key
-    → line_at (record { key = key; kind = Slot }) bytes ≡ Err unread → slots_at pc left before bytes ≡ Err unread
+pub slots_stop : (room pc left : ℕ) (before : List SlotInfoValue) (key bytes : List ℕ) (unread : Unread) → 0 < left → key ≡ (slot_form (length before)).key
+    → line_at (record { key = key; kind = Slot }) bytes ≡ Err unread → slots_at room pc left before bytes ≡ Err unread
 unfolding slots_at
-slots_stop pc left before key bytes unread some is line = grind arith
+slots_stop room pc left before key bytes unread some is line = grind arith
 
-pub slots_refused : (pc left : ℕ) (before : List Marks) (key bytes : List ℕ) (found : Value Slot × List ℕ) → 0 < left → key ≡ (slot_form (length before)).key
-    → line_at (record { key = key; kind = Slot }) bytes ≡ Ok found → may_follow before found.0.0 ≡ false
-    → slots_at pc left before bytes ≡ Err (record { 0 = length bytes })
+pub slots_refused : (room pc left : ℕ) (before : List SlotInfoValue) (key bytes : List ℕ) (found : Value Slot × List ℕ) → 0 < left
+    → key ≡ (slot_form (length before)).key → line_at (record { key = key; kind = Slot }) bytes ≡ Ok found → may_follow (all_marks before) found.0.0 ≡ false
+    → slots_at room pc left before bytes ≡ Err (record { 0 = length bytes })
 unfolding slots_at
-slots_refused pc left before key bytes found some is line may = grind arith
+slots_refused room pc left before key bytes found some is line may = grind arith
 
-pub slots_more : (pc left : ℕ) (before : List Marks) (key bytes : List ℕ) (found : Value Slot × List ℕ) → key ≡ (slot_form (length before)).key
-    → line_at (record { key = key; kind = Slot }) bytes ≡ Ok found → may_follow before found.0.0 ≡ true
-    → slots_at pc (suc left) before bytes ≡ slots_at pc left (before ++ marks_of pc found.0 ∷ []) found.1
+pub slots_stop_parted : (room pc left : ℕ) (before : List SlotInfoValue) (key bytes : List ℕ) (found : Value Slot × List ℕ) → 0 < left
+    → key ≡ (slot_form (length before)).key → line_at (record { key = key; kind = Slot }) bytes ≡ Ok found → may_follow (all_marks before) found.0.0 ≡ true
+    → (unread : Unread) → parted_at room [] found.1 ≡ Err unread → slots_at room pc left before bytes ≡ Err unread
 unfolding slots_at
-slots_more pc left before key bytes found is line may = cc
+slots_stop_parted room pc left before key bytes found some is line may unread parted = grind arith
 
-pub slots_end : (pc left : ℕ) (before : List Marks) (bytes : List ℕ) (end : Result (Unit {0}) Unread) → left ≡ 0 → end ≡ lines_at [] bytes
-    → slots_at pc left before bytes ≡ (end >>= λ _. Ok before)
+-- a fault of the lines of databases is one of those of slots
+pub stop_unless : {A B C D : Type 0} (view : A → B) (other : C → D) (fault : LineFault) (said : Result B Unread) (all : Result D Unread)
+    → ((unread : Unread) → said ≡ Err unread → all ≡ Err unread) → FindsUnless view (Err fault) said → FindsUnless other (Err fault) all
+stop_unless view other (Left unread) said all stop is = stop unread is
+stop_unless view other OutOfMemory said all stop is = tt
+
+pub slots_more : (room pc left : ℕ) (before : List SlotInfoValue) (key bytes : List ℕ) (found : Value Slot × List ℕ) (parted : List Parted) (rest : List ℕ)
+    → key ≡ (slot_form (length before)).key → line_at (record { key = key; kind = Slot }) bytes ≡ Ok found → may_follow (all_marks before) found.0.0 ≡ true
+    → parted_at room [] found.1 ≡ Ok (parted, rest)
+    → slots_at room pc (suc left) before bytes ≡ slots_at room pc left (before ++ record { marks = marks_of pc found.0; parted = parted } ∷ []) rest
 unfolding slots_at
-slots_end pc left before bytes end none is = grind arith
+slots_more room pc left before key bytes found parted rest is line may read = cc
+
+pub slots_end : (room pc left : ℕ) (before : List SlotInfoValue) (bytes : List ℕ) (end : Result (Unit {0}) Unread) → left ≡ 0 → end ≡ lines_at [] bytes
+    → slots_at room pc left before bytes ≡ (end >>= λ _. Ok before)
+unfolding slots_at
+slots_end room pc left before bytes end none is = grind arith
 
 -- ---- what is written
 
 -- the lines of slots with one more behind them
-pub lines-push : (number : ℕ) (slots : List Marks) (marks : Marks)
-    → lines_text (slot_forms number (slots ++ marks ∷ [])) (slot_values number (slots ++ marks ∷ [])) ≡ lines_text (slot_forms number slots)
-    (slot_values number slots) ++ slot_line (number + length slots) marks
-lines-push number [] marks = grind (arith, nat_tests, common_steps)
-lines-push number (first ∷ slots) marks = grind (arith, nat_tests, common_steps, lines-push (suc number) slots marks)
+pub lines-push : (number : ℕ) (infos : List SlotInfoValue) (info : SlotInfoValue)
+    → lines_text (slot_forms number (infos ++ info ∷ [])) (slot_values number (infos ++ info ∷ [])) ≡ lines_text (slot_forms number infos)
+    (slot_values number infos) ++ slot_lines (number + length infos) info
+lines-push number [] info = grind (arith, nat_tests, common_steps, parted-text, append_assoc)
+lines-push number (first ∷ infos) info = grind (arith, nat_tests, common_steps, parted-text, append_assoc, lines-push (suc number) infos info)
 
-abbrev pub slot_lines : List Marks → List ℕ
-slot_lines slots = lines_text (slot_forms 0 slots) (slot_values 0 slots)
+abbrev pub lines_of : List SlotInfoValue → List ℕ
+lines_of infos = lines_text (slot_forms 0 infos) (slot_values 0 infos)
 
-one_more : (slots : List Marks) (place : ℕ) (marks : Marks) → place < length slots → marks ≡ get_or slots place marks
-    → take (place + 1) slots ≡ take place slots ++ marks ∷ []
-one_more slots place marks less is = grind (arith, nat_tests, common_steps)
+one_more : (infos : List SlotInfoValue) (place : ℕ) (info : SlotInfoValue) → place < length infos → info ≡ get_or infos place info
+    → take (place + 1) infos ≡ take place infos ++ info ∷ []
+one_more infos place info less is = grind (arith, nat_tests, common_steps)
 
-pub text_more : (front : List ℕ) (slots : List Marks) (place : ℕ) (marks : Marks) → place < length slots → marks ≡ get_or slots place marks
-    → (front ++ slot_lines (take place slots)) ++ slot_line place marks ≡ front ++ slot_lines (take (place + 1) slots)
-text_more front slots place marks less is = grind (arith, nat_tests, common_steps, length-take, append_assoc, slot_lines, lines-push, one_more)
+pub text_more : (front : List ℕ) (infos : List SlotInfoValue) (place : ℕ) (info : SlotInfoValue) → place < length infos → info ≡ get_or infos place info
+    → (front ++ lines_of (take place infos)) ++ slot_lines place info ≡ front ++ lines_of (take (place + 1) infos)
+text_more front infos place info less is = grind (arith, nat_tests, common_steps, length-take, append_assoc, lines_of, lines-push, one_more)
 
-pub said_more : (slots : List Marks) (place : ℕ) (marks : Marks) → place < length slots → marks ≡ get_or slots place marks
-    → AllByRecursion IsSlotSaid (take place slots) → IsSlotSaid marks → AllByRecursion IsSlotSaid (take (place + 1) slots)
-said_more slots place marks less is said here = grind (arith, nat_tests, common_steps)
+pub said_more : (infos : List SlotInfoValue) (place : ℕ) (info : SlotInfoValue) → place < length infos → info ≡ get_or infos place info
+    → AllByRecursion IsSlotSaid (take place infos) → IsSlotSaid info → AllByRecursion IsSlotSaid (take (place + 1) infos)
+said_more infos place info less is said here = grind (arith, nat_tests, common_steps)
 
-pub said_all : (slots : List Marks) (place : ℕ) (d : Marks) → length slots ≤ place → 0 < length slots
-    → SaysNumber (get_or slots 0 d).pc (text_of Number (get_or slots 0 d).pc) → AllByRecursion IsSlotSaid (take place slots) → AreSaid slots
-said_all slots place d past some number said = grind (arith, nat_tests, common_steps)
+-- the number of the desktop is that of its first slot
+pub first-pc : (infos : List SlotInfoValue) (marks : Marks) (d : SlotInfoValue) → 1 ≤ length (all_marks infos) → marks ≡ (get_or infos 0 d).marks
+    → marks.pc ≡ pc_of (all_marks infos)
+first-pc [] marks d some is = absurd (omega arith)
+first-pc (info ∷ infos) marks d some is = ap (λ (m : Marks). m.pc) is
+
+pub said_all : (infos : List SlotInfoValue) (place : ℕ) (d : SlotInfoValue) → length infos ≤ place → 0 < length infos
+    → SaysNumber (get_or infos 0 d).marks.pc (text_of Number (get_or infos 0 d).marks.pc) → AllByRecursion IsSlotSaid (take place infos) → AreSaid infos
+said_all infos place d past some number said = grind (arith, nat_tests, common_steps)

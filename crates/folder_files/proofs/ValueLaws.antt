@@ -1,7 +1,7 @@
 -- Texts behind keys: what is read is what they say, what they say is read, and they stand on one line.
 use Rattle.std.proofs.lemmas.Bool.Decides.{nat_tests}
 use Rattle.std.proofs.lemmas.Grind.{common_steps}
-use Rattle.std.proofs.Common.{◌≡◌, ℕ, ◌+◌, ◌-◌, ◌^◌, ◌<◌, ◌≤◌, Bool, true, false, cond, eqb, leb, List, [], ◌∷◌, ◌++◌, length, take, drop, Some, None, refl}
+use Rattle.std.proofs.Common.{◌≡◌, ℕ, ◌+◌, ◌-◌, ◌/◌, ◌%◌, ◌^◌, ◌<◌, ◌≤◌, Bool, true, false, cond, eqb, leb, List, [], ◌∷◌, ◌++◌, length, take, drop, Some, None, refl}
 use Rattle.std.proofs.Common.{sym, ap, subst, ◌∙◌, arith}
 use Rattle.std.specs.Prelude.{◌||◌, codes, option_and_then, slice_index}
 use Rattle.std.specs.Fmt.{decimal}
@@ -14,12 +14,14 @@ use Rattle.std.proofs.lemmas.Nat.{be_bytes_4, from_be_bytes-to_be_bytes_4}
 use Rattle.hex.specs.Hex.{IsBytes, encode_lower, lower_digits}
 use Rattle.hex.proofs.HexLemmas.{length-encode_with}
 use Rattle.pdb_values.specs.PalmDates.{read_wire}
+use Rattle.pdb_values.specs.Stems.{hex_digit, is_plain, stem_byte, stem_of}
 use Rattle.pdb_values.specs.Users.{password_of, user_name_of}
 use Rattle.pdb_values.proofs.NamedLaws.{bytes_eq-own, bytes_eq-is}
 use Rattle.folder_files.specs.Hexadecimal.{IsWireDate, bytes_in, bytes_text, date_in, few_bytes_in}
-use Rattle.folder_files.specs.Lines.{ValueKind, Title, Number, Positive, Date, Name, Password, Count, Slot, Value, Says, slot_text}
+use Rattle.folder_files.specs.Lines.{ValueKind, Title, Number, Positive, Date, Name, Password, Count, Slot, Stem, Value, Says, slot_text}
 use Rattle.folder_files.specs.Reading.{behind, count_in, field_at, if_positive, number_in, slot_in, value_in}
 use Rattle.folder_files.proofs.HexLaws.{HasNoFeed, bind_some, bytes_in-found, bytes_in-only, bytes_text-no_feed, encode_lower-no_feed}
+use Rattle.folder_files.proofs.StemTextLaws.{stem_in-found, stem_in-only}
 use Rattle.folder_files.proofs.HexLaws.{feed_past, few_bytes_in-found, few_bytes_in-only, guard_some, map_some, some_is, test_some}
 
 -- ---- line feeds and keys
@@ -192,6 +194,7 @@ value_found Name value text e = name_found text value e
 value_found Password value text e = password_found text value e
 value_found Count value text e = count_found text value e
 value_found Slot value text e = slot_found text value e
+value_found Stem value text e = stem_in-found text value e
 
 pub value_only : (kind : ValueKind) (value : Value kind) (text : List ℕ) → Says kind value text → value_in kind text ≡ Some value
 value_only Title value text is = ap (value_in Title) is
@@ -202,6 +205,7 @@ value_only Name value text is = ap (value_in Name) is.0 ∙ name_only value is.1
 value_only Password value text is = ap (value_in Password) is.0 ∙ password_only value is.1 is.2
 value_only Count value text is = ap (value_in Count) is.0 ∙ count_only value is.1 is.2
 value_only Slot value text is = slot_only value text is
+value_only Stem value text is = ap (value_in Stem) is.0 ∙ stem_in-only value is.1 is.2
 
 -- ---- what is written of a name
 
@@ -238,6 +242,31 @@ slot-no_feed value text is =
     (no_feed_append (codes "user ") _ refl (no_feed_append is.0 _ user
     (no_feed_append (codes " last ") _ refl (no_feed_append is.1 _ last (no_feed_append (codes " name ") is.2 refl name)))))
 
+digit-no_feed : (number : ℕ) → eqb (hex_digit number) 10 ≡ false
+digit-no_feed number = grind (arith, nat_tests, common_steps)
+
+stem_byte-no_feed : (byte : ℕ) → HasNoFeed (stem_byte byte)
+unfolding stem_byte
+stem_byte-no_feed byte = by (is_plain byte) refl
+  where
+    by : (plain : Bool) → is_plain byte ≡ plain → HasNoFeed (cond plain (byte ∷ []) (37 ∷ hex_digit (byte / 16) ∷ hex_digit (byte % 16) ∷ []))
+    by true is =
+        let other : eqb byte 10 ≡ false = ne_eqb _ _ (λ e. let bad : is_plain 10 ≡ true = ap is_plain (sym e) ∙ is in cc) in
+        feed_past byte [] other
+    by false is =
+        let high = digit-no_feed (byte / 16) in
+        let low = digit-no_feed (byte % 16) in
+        omega (
+          arith,
+          feed_past 37 (hex_digit (byte / 16) ∷ hex_digit (byte % 16) ∷ []) refl,
+          feed_past (hex_digit (byte / 16)) (hex_digit (byte % 16) ∷ []) high,
+          feed_past (hex_digit (byte % 16)) [] low,
+        )
+
+stem-no_feed : (name : List ℕ) → HasNoFeed (stem_of name)
+stem-no_feed [] = refl
+stem-no_feed (byte ∷ name) = no_feed_append (stem_byte byte) (stem_of name) (stem_byte-no_feed byte) (stem-no_feed name)
+
 pub on_one_line : (kind : ValueKind) (value : Value kind) (text : List ℕ) → Says kind value text → HasNoFeed text
 on_one_line Title value text is = subst HasNoFeed (sym is) refl
 on_one_line Date value text is = subst HasNoFeed (sym is.1) (encode_lower-no_feed is.0 is.2.in_range)
@@ -245,4 +274,5 @@ on_one_line Name value text is = subst HasNoFeed (sym is.0) (bytes_text-no_feed 
 on_one_line Password value text is = subst HasNoFeed (sym is.0) (bytes_text-no_feed value is.1)
 on_one_line Count value text is = grind (arith, nat_tests, common_steps, decimal-no_feed)
 on_one_line Slot value text is = slot-no_feed value text is
+on_one_line Stem value text is = subst HasNoFeed (sym is.0) (stem-no_feed value)
 on_one_line other value text is = subst HasNoFeed (sym is.0) (encode_lower-no_feed _ (number_bytes value))

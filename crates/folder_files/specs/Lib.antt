@@ -2,6 +2,8 @@ pub mod FileNames
 pub mod Hexadecimal
 pub mod InfoFiles
 pub mod Lines
+pub mod Partings
 pub mod Reading
 pub mod Slots
+pub mod StemTexts
 pub mod Views

@@ -4,12 +4,14 @@ use Rattle.std.specs.Fmt.{decimal}
 use Rattle.std.specs.Int.{w32, to_be_bytes}
 use Rattle.hex.specs.Hex.{IsBytes, encode_lower}
 use Rattle.pdb_values.specs.PalmDates.{wire_date}
+use Rattle.pdb_values.specs.Names.{IsName}
+use Rattle.pdb_values.specs.Stems.{stem_of}
 use Rattle.pdb_values.specs.Users.{password_of, user_name_of}
 use Rattle.folder_files.specs.Hexadecimal.{IsWireDate, bytes_text}
 
 -- What stands behind a key: nothing; a number of 32 bits; one above 0; a date; the name of a user;
--- a password; how many slots a desktop has; what it
--- knows of the user of one.
+-- a password; how many slots a desktop has; what it knows of the user of one; the name of a database
+-- as its stem.
 pub data ValueKind : Type 0 where
   Title : ValueKind
   Number : ValueKind
@@ -19,6 +21,7 @@ pub data ValueKind : Type 0 where
   Password : ValueKind
   Count : ValueKind
   Slot : ValueKind
+  Stem : ValueKind
 
 -- the form of a line
 pub record LineForm : Type 0 where
@@ -35,8 +38,9 @@ Value Name = List ℕ
 Value Password = List ℕ
 Value Count = ℕ
 Value Slot = ℕ × ℕ × List ℕ
+Value Stem = List ℕ
 
--- the text says this number, this date, this name
+-- the text says this number, this date, this name of a user, this name of a database
 abbrev pub SaysNumber : ℕ → List ℕ → Type 0
 SaysNumber number text = (text ≡ encode_lower (to_be_bytes w32 number)) × (number < 2 ^ 32)
 
@@ -45,6 +49,9 @@ SaysDate seconds text = (bytes : List ℕ) × (text ≡ encode_lower bytes) × I
 
 abbrev pub SaysName : List ℕ → List ℕ → Type 0
 SaysName name text = (text ≡ bytes_text name) × IsBytes name × (user_name_of name ≡ Some name)
+
+abbrev pub SaysStem : List ℕ → List ℕ → Type 0
+SaysStem name text = (text ≡ stem_of name) × IsBytes name × IsName name
 
 -- what a desktop knows of the user of a slot, by the texts of a number, a date and a name
 abbrev pub slot_text : List ℕ → List ℕ → List ℕ → List ℕ
@@ -65,6 +72,7 @@ Says Count number text = (text ≡ decimal number) × (1 ≤ number) × (number 
 Says Slot value text =
     (user last name : List ℕ) × (text ≡ slot_text user last name) × SaysNumber value.0 user
     × SaysDate value.1 last × SaysName value.2 name
+Says Stem name text = SaysStem name text
 
 -- the text that is written; of the two texts of a date of 0 seconds it is that of zeros
 abbrev pub text_of : (kind : ValueKind) → Value kind → List ℕ
@@ -78,6 +86,7 @@ text_of Count number = decimal number
 text_of Slot value =
     slot_text (encode_lower (to_be_bytes w32 value.0)) (encode_lower (wire_date value.1))
     (bytes_text value.2)
+text_of Stem name = stem_of name
 
 -- what lines of these forms say
 abbrev pub Values : List LineForm → Type 0

@@ -7,7 +7,8 @@ use Rattle.std.specs.Option.{option_map}
 use Rattle.pdb_values.specs.Users.{password_of, user_name_of}
 use Rattle.folder_files.specs.declared.unread.Unread.{Unread}
 use Rattle.folder_files.specs.Hexadecimal.{bytes_in, date_in, few_bytes_in}
-use Rattle.folder_files.specs.Lines.{ValueKind, Title, Number, Positive, Date, Name, Password, Count, Slot, LineForm, Value, Values}
+use Rattle.folder_files.specs.StemTexts.{stem_in}
+use Rattle.folder_files.specs.Lines.{ValueKind, Title, Number, Positive, Date, Name, Password, Count, Slot, Stem, LineForm, Value, Values}
 
 -- a step and then the next one, where both find something
 infixl 10 ◌>>=◌
@@ -62,6 +63,7 @@ value_in Name text = option_and_then user_name_of (few_bytes_in text)
 value_in Password text = option_and_then password_of (few_bytes_in text)
 value_in Count text = count_in text
 value_in Slot text = slot_in text
+value_in Stem text = stem_in text
 
 -- what stands behind the key in the line at the front, and what stands behind the line feed
 unfoldable pub split_at_key : List ℕ → List ℕ → Option (List ℕ × List ℕ)

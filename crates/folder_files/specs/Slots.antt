@@ -2,6 +2,22 @@
 use Rattle.std.specs.Prelude.{◌≡◌, ◌≢◌, ◌<◌, ◌≤◌, ◌==◌, ◌&&◌, ◌||◌, ℕ, Bool, not, List, [], ◌∷◌, length, map, slice_index}
 use Rattle.std.specs.List.{AllByRecursion, list_any}
 use Rattle.pdb_values.specs.declared.user.Marks.{Marks}
+use Rattle.folder_files.specs.Partings.{PartedRise}
+use Rattle.folder_files.specs.declared.parted.Parted.{Parted}
+
+-- what an information file says of a slot: what is known of its user, and its databases that took
+-- no part in its last session
+pub record SlotInfoValue : Type 0 where
+  pub marks : Marks
+  pub parted : List Parted
+
+-- what is known of the user of each
+abbrev pub all_marks : List SlotInfoValue → List Marks
+all_marks infos = map (λ info. info.marks) infos
+
+-- in each slot the stems rise
+abbrev pub AllRise : List SlotInfoValue → Type 0
+AllRise infos = AllByRecursion (λ info. PartedRise info.parted) infos
 
 -- the desktop's own number, which each slot bears
 abbrev pub pc_of : List Marks → ℕ

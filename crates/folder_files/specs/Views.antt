@@ -1,7 +1,7 @@
 -- What a reading returned.
 use Rattle.std.specs.Prelude.{◌≡◌, ⊤, List, Result, Ok, Err}
 use Rattle.std.specs.Global.{Vec}
-use Rattle.pdb_values.specs.declared.user.Marks.{Marks}
+use Rattle.folder_files.specs.Slots.{SlotInfoValue}
 use Rattle.folder_files.specs.declared.bad_line.BadLine.{BadLine}
 use Rattle.folder_files.specs.declared.fault.InfoFault.{InfoFault}
 use Rattle.folder_files.specs.declared.fault.InfoFault.TheVariants.{Bad, NoMemory}
@@ -14,15 +14,16 @@ abbrev pub Finds : {A B E : Type 0} → (A → B) → Result A E → Result B E 
 Finds view (Ok found) said = said ≡ Ok (view found)
 Finds view (Err fault) said = said ≡ Err fault
 
+-- the same of lines, unless memory ran out
+abbrev pub FindsUnless : {A B : Type 0} → (A → B) → Result A LineFault → Result B Unread → Type 0
+FindsUnless view (Ok found) said = said ≡ Ok (view found)
+FindsUnless view (Err (Left unread)) said = said ≡ Err unread
+FindsUnless view (Err OutOfMemory) said = ⊤
+
 -- the slots of a desktop, or where the first bad line begins, are those that a definition says,
 -- unless memory ran out
-abbrev pub Reads : Result (Vec Marks) InfoFault → Result (List Marks) BadLine → Type 0
-Reads (Ok slots) said = said ≡ Ok slots.items
+abbrev pub Reads : Result (Vec SlotInfoValue) InfoFault → Result (List SlotInfoValue) BadLine
+    → Type 0
+Reads (Ok infos) said = said ≡ Ok infos.items
 Reads (Err (Bad bad)) said = said ≡ Err bad
 Reads (Err NoMemory) said = ⊤
-
--- the same of lines
-abbrev pub ReadsLines : Result (Vec Marks) LineFault → Result (List Marks) Unread → Type 0
-ReadsLines (Ok slots) said = said ≡ Ok slots.items
-ReadsLines (Err (Left unread)) said = said ≡ Err unread
-ReadsLines (Err OutOfMemory) said = ⊤

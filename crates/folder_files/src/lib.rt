@@ -25,6 +25,20 @@
 //! password -
 //! ```
 //!
+//! Where databases took no part in the last session of their slot, a desktop's file is of version 3. It begins with
+//! `hotsync-desktop 3`, and behind the line of a slot has a line for each of its databases that took no part, in byte order of
+//! their stems: `apart STEM` for one that the session left apart, `unmet STEM` for one that it met on one side only.
+//!
+//! ```text
+//! hotsync-desktop 3
+//! pc 00000001
+//! slots 2
+//! slot 0 user 0000002a last 07d10909012e2800 name 4a616e65
+//! apart DatebookDB
+//! unmet Memo%20DB
+//! slot 1 user 0000002b last 0000000000000000 name -
+//! ```
+//!
 //! A desktop's file of version 1 is read as one slot: behind `hotsync-desktop 1` it has the lines `pc`, `user`, `last` and
 //! `name`.
 #![tactic(auto)]
@@ -32,17 +46,26 @@
 mod bad_line;
 mod database;
 mod desktop;
+mod desktop_text;
 mod device;
 mod fault;
 mod folder;
 mod line;
+mod parted;
+mod parted_list;
+mod slot_info;
+mod stem;
 mod unread;
 mod value;
 mod word;
 
 pub use bad_line::BadLine;
 pub use database::{archive_file, base_file, database_file, rows_file, slot_prefix};
-pub use desktop::{read_desktop_info, write_desktop_info};
+pub use desktop::read_desktop_info;
+pub use desktop_text::write_desktop_info;
 pub use device::{read_device_info, write_device_info};
 pub use fault::InfoFault;
 pub use folder::{DESKTOP_INFO, DEVICE_INFO, JOURNAL, is_handheld_file, is_kept_file};
+pub use parted::{Parted, Parting};
+pub use parted_list::{parting_of, put_parted, same_parted};
+pub use slot_info::SlotInfo;

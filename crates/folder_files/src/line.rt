@@ -1,13 +1,18 @@
 // A cursor over the lines of an information file.
-ghost use Rattle.std.specs.Prelude.{◌≡◌, ◌==◌, ◌<◌, [], length, position, IfSome};
+ghost use Rattle.std.specs.Prelude.{◌≡◌, ◌==◌, ◌<◌, [], Some, None, if◌then◌else◌, length, position, IfSome};
 ghost use Rattle.std.specs.Option.{option_map};
-ghost use Rattle.folder_files.specs.Lines.{Title, Number, Positive, Date, Name as UserText, Password as SecretText, Count, Slot};
+ghost use Rattle.folder_files.specs.Lines.{Title, Number, Positive, Date, Name as UserText, Password as SecretText, Count, Slot, Stem};
+ghost use Rattle.folder_files.specs.InfoFiles.{is_parted_line, parting_at};
 ghost use Rattle.folder_files.specs.Reading.{line_at, lines_at, split_at_key as split_key};
-ghost use Rattle.folder_files.specs.Views.{Finds};
+ghost use Rattle.folder_files.specs.Views.{Finds, FindsUnless};
 
+use crate::fault::LineFault;
+use crate::parted::Parting;
+use crate::stem::name_of_stem;
 use crate::unread::Unread;
 use crate::value::{behind, count_of, date_of, name_of, number_of, positive_of, slot_of, word_of};
-use pdb_values::{PalmDate, Password, UserName};
+use pdb_values::{DbName, PalmDate, Password, UserName};
+use std::alloc::Global;
 
 // Where the line at the front ends.
 fn line_end(bytes: &[u8]) -> Option<usize>
@@ -131,6 +136,33 @@ impl Lines<'_> {
         let found = slot_of(text).ok_or(unread)?;
         self.rest = rest;
         Ok(found)
+    }
+
+    // The name of a database as its stem.
+    pub(crate) fn stem(&mut self, alloc: Global, key: &[u8]) -> Result<DbName, LineFault>
+        ensures { FindsUnless (λ found. (found, self.new.rest.now)) result
+            (line_at (record { key = key.now; kind = Stem }) self.old.rest.now) }
+    {
+        let unread = Unread(self.rest.len());
+        let (text, rest) = split_at_key(key, self.rest).ok_or(unread)?;
+        let name = name_of_stem(alloc, text)?;
+        let found = name.ok_or(unread)?;
+        self.rest = rest;
+        Ok(found)
+    }
+
+    // The word of the line at the front, where it has that of a database that took no part.
+    pub(crate) fn parting(&self) -> Option<Parting>
+        ensures { result ≡ (if is_parted_line self.now.rest.now then Some
+            (parting_at self.now.rest.now) else None) }
+    {
+        if self.rest.starts_with(b"apart ") {
+            Some(Parting::Apart)
+        } else if self.rest.starts_with(b"unmet ") {
+            Some(Parting::Unmet)
+        } else {
+            None
+        }
     }
 
     // Nothing stands behind the last line.

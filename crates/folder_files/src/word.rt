@@ -2,10 +2,10 @@
 ghost use Rattle.std.specs.Prelude.{◌≡◌, ◌<◌, ◌^◌, IfOk, string_bytes};
 ghost use Rattle.hex.specs.Hex.{IsBytes};
 ghost use Rattle.folder_files.specs.Hexadecimal.{bytes_text};
-ghost use Rattle.folder_files.specs.InfoFiles.{IsSlotSaid, said_of};
-ghost use Rattle.folder_files.specs.Lines.{Date, Name as UserText, Number, Password as SecretText, Says, Slot, text_of};
+ghost use Rattle.folder_files.specs.InfoFiles.{IsUserSaid, said_of};
+ghost use Rattle.folder_files.specs.Lines.{Date, Name as UserText, Number, Password as SecretText, Says, SaysStem, Slot, Stem, text_of};
 
-use pdb_values::{Marks, PalmDate, Password, UserName};
+use pdb_values::{DbName, Marks, PalmDate, Password, UserName};
 use std::alloc::{AllocError, Global};
 
 // A number in eight digits.
@@ -43,12 +43,26 @@ pub(crate) fn password_word(alloc: Global, password: &Password) -> Result<String
 // What a desktop knows of the user of a slot.
 pub(crate) fn slot_word(alloc: Global, marks: &Marks) -> Result<String, AllocError>
     ensures word { IfOk result (λ word. string_bytes word ≡ text_of Slot (said_of marks.now)) }
-    ensures says { IfOk result (λ _. IsSlotSaid marks.now) }
+    ensures says { IfOk result (λ _. IsUserSaid marks.now) }
 {
     let user = number_word(alloc, marks.user)?;
     let last = date_word(alloc, marks.last)?;
     let name = name_word(alloc, &marks.name)?;
     format!(in alloc; "user {user} last {last} name {name}")
+}
+
+// Each byte is one.
+fn see_bytes(bytes: &[u8])
+    ensures { IsBytes bytes.now }
+{}
+
+// The name of a database as its stem.
+pub(crate) fn stem_word(alloc: Global, name: &DbName) -> Result<String, AllocError>
+    ensures word { IfOk result (λ word. string_bytes word ≡ text_of Stem name.now) }
+    ensures says { SaysStem name.now (text_of Stem name.now) }
+{
+    see_bytes(name.as_bytes());
+    name.file_stem(alloc)
 }
 
 // Bytes in two digits each, or `-` for none.

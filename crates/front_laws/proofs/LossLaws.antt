@@ -16,7 +16,9 @@ use Rattle.run_words.specs.Actions.{action_for}
 use Rattle.session_plan.specs.Archives.{entries_of}
 use Rattle.session_plan.specs.Choosing.{action_or_sync, agrees, is_sync, view}
 use Rattle.session_plan.specs.Limits.{first_over}
-use Rattle.session_plan.specs.Losses.{first_loss, is_loss, is_lost, is_stranger, is_stranger_to, is_there, may_lose}
+use Rattle.folder_files.specs.Partings.{parting_of}
+use Rattle.session_plan.specs.Losses.{first_loss, is_loss, is_lost, is_strange, is_stranger, is_stranger_to, is_there, may_lose}
+use Rattle.session_plan.specs.Partings.{is_unmet}
 use Rattle.session_plan.proofs.LossLaws.{stranger_stopped, there-view}
 use Rattle.session_plan.specs.Merges.{merged_slot}
 use Rattle.session_plan.specs.Skips.{active, head_of, reason_by, skip_of}
@@ -48,26 +50,26 @@ is_cost a stranger x =
     && ((stranger || has_lost x)
     && list_any (is_lost (kept_rows (chosen a x).keep) (chosen a x).adds (x.archive ++ (chosen a x).archive)) x.rows)
 
-lost-found : (m : Meeting) (name : List ℕ) → is_loss m (task_of m name) ≡ is_cost (action_at m name) (is_stranger m) (found_of m name)
+lost-found : (m : Meeting) (name : List ℕ) → is_loss m (task_of m name) ≡ is_cost (action_at m name) (is_strange m name) (found_of m name)
 lost-found m name =
     let task = task_of m name in
     ap (λ (ch : Choice). is_sync (action_at m name) && (may_lose m task
     && list_any (is_lost (kept_rows ch.keep) ch.adds (entries_of (records_of task.archive) ++ ch.archive)) (records_of task.rows)))
     (chosen-is m task)
 
-none-lost : (m : Meeting) (name : List ℕ) → (action_at m name ≡ Sync → costs_rows (is_stranger m) (found_of m name) ≡ false)
+none-lost : (m : Meeting) (name : List ℕ) → (action_at m name ≡ Sync → costs_rows (is_strange m name) (found_of m name) ≡ false)
     → is_loss m (task_of m name) ≡ false
 none-lost m name keeps = lost-found m name ∙ by (action_at m name) keeps
   where
-    by : (a : Action) → (a ≡ Sync → costs_rows (is_stranger m) (found_of m name) ≡ false) → is_cost a (is_stranger m) (found_of m name) ≡ false
+    by : (a : Action) → (a ≡ Sync → costs_rows (is_strange m name) (found_of m name) ≡ false) → is_cost a (is_strange m name) (found_of m name) ≡ false
     by Sync keeps = keeps refl
     by Handheld keeps = refl
     by Desktop keeps = refl
     by Both keeps = refl
 
 pub lost-sync : (m : Meeting) (name : List ℕ) → is_loss m (task_of m name) ≡ false → action_at m name ≡ Sync
-    → costs_rows (is_stranger m) (found_of m name) ≡ false
-lost-sync m name is sync = sym (ap (λ a. is_cost a (is_stranger m) (found_of m name)) sync) ∙ sym (lost-found m name) ∙ is
+    → costs_rows (is_strange m name) (found_of m name) ≡ false
+lost-sync m name is sync = sym (ap (λ a. is_cost a (is_strange m name) (found_of m name)) sync) ∙ sym (lost-found m name) ∙ is
 
 -- ---- the first of them
 
@@ -149,6 +151,15 @@ stranger-back m next given stands slot is = elim stands.begun [
   | inr (user, databases) ↦ sym (λ k. is_stranger_to (user k) (slot k).marks) ∙ is
 ]
 
+or_back : (a b c d : Bool) → (a ≡ true → c ≡ true) → b ≡ d → (a || b) ≡ true → (c || d) ≡ true
+or_back a b c d back same is = grind arith
+
+strange-back : (m next : Meeting) (given : List ℕ) (name : List ℕ) → StandsAmongNews m given next.device → slot_of next ≡ slot_of m
+    → is_strange next name ≡ true → is_strange m name ≡ true
+strange-back m next given name stands slot is =
+    or_back (is_stranger next) (is_unmet (parting_of name (slot_of next).parted)) (is_stranger m) (is_unmet (parting_of name (slot_of m).parted))
+    (stranger-back m next given stands slot) (λ k. is_unmet (parting_of name (slot k).parted)) is
+
 -- a stranger or a lost database was one, and what stayed stays
 cost_by : (s t h g l k : Bool) → (t ≡ true → s ≡ true) → (g ≡ true → h ≡ true) → (l ≡ false → k ≡ false) → ((s || h) && l) ≡ false
     → ((t || g) && k) ≡ false
@@ -201,9 +212,9 @@ module _ (meeting next : Meeting) (writes : ℕ) (given later : List ℕ) (sound
           (none-front _ (ids_at meeting given name) (ids_at next later name) (fresh name is).fresh) (fresh name is).gone in
           none-lost next name (λ sync.
           let first : action_at meeting name ≡ Sync = sym step.follows.action ∙ sync in
-          ap (costs_rows (is_stranger next)) step.follows.finds ∙ ap (λ a. costs_rows (is_stranger next) (left a x step.place)) first
-          ∙ place-costs x step.place (is_stranger meeting) (is_stranger next) read (there-view meeting (task_of meeting name))
-          (subst (λ a. MayStop a x step.place) first step.may) (stranger-back meeting next given stands slot)
+          ap (costs_rows (is_strange next name)) step.follows.finds ∙ ap (λ a. costs_rows (is_strange next name) (left a x step.place)) first
+          ∙ place-costs x step.place (is_strange meeting name) (is_strange next name) read (there-view meeting (task_of meeting name))
+          (subst (λ a. MayStop a x step.place) first step.may) (strange-back meeting next given name stands slot)
           (lost-sync meeting name (none-of meeting name costs is) first))
 
   behind-loses : slot_of next ≡ merged_slot meeting given → (stands : StandsBehindCommit meeting given next.device) (name : List ℕ)
@@ -224,7 +235,7 @@ module _ (meeting next : Meeting) (writes : ℕ) (given later : List ℕ) (sound
             let merged : LeftMerged meeting next given = record { asks = runs.asks; databases = databases; slot = slot } in
             let found = whole-found meeting next given name merged is in
             let seen = view next (task_of next name) in
-            let counts = not (agrees next) in
+            let counts = not (agrees next name) in
             let follows = at-the_end meeting next (ids_at meeting given) name found in
             let then_read = subst IsRead follows.finds (honest-then next given name read free.got found) in
             ap loses_rows follows.finds ∙ ap (λ a. loses_rows (left_at_end a x ids seen counts)) sync
@@ -239,7 +250,7 @@ module _ (meeting next : Meeting) (writes : ℕ) (given later : List ℕ) (sound
       record { handheld = stands.others name none; rows = same.rows; base = same.base }) runs.asks is_next in
       let action : action_at next name ≡ action_at meeting name = λ k. action_or_sync (action_of_word (action_for name (runs.asks.actions k))) in
       none-lost next name (λ sync.
-      none_cost (is_stranger next || has_lost (found_of next name)) (loses_rows (found_of next name)) (behind-loses slot stands name is (sym action ∙ sync))))
+      none_cost (is_strange next name || has_lost (found_of next name)) (loses_rows (found_of next name)) (behind-loses slot stands name is (sym action ∙ sync))))
 
 pub runs-costless : (meeting next : Meeting) (writes : ℕ) (given later : List ℕ) → IsSoundMeeting meeting → first_over meeting ≡ None
     → first_loss meeting ≡ None → RunsAgain meeting next writes given

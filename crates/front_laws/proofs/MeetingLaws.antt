@@ -2,6 +2,7 @@
 use Rattle.std.proofs.Common.{◌≡◌, ◌<◌, ◌==◌, ◌&&◌, ℕ, Bool, true, false, not, List, [], ◌∷◌, refl, ap, ◌∙◌, sym, subst, arith, if◌then◌else◌, is_some}
 use Rattle.std.proofs.lemmas.Bool.Decides.{nat_tests}
 use Rattle.pdb_values.specs.NamedDatabases.{database_of}
+use Rattle.folder_files.specs.Partings.{is_parted}
 use Rattle.conduit_rules.specs.declared.action.Action.{Action}
 use Rattle.palm_device.specs.Soundness.{ids_of, AreIds}
 use Rattle.conduit_rules.specs.States.{held}
@@ -24,12 +25,14 @@ no_number : {pc : ℕ} (n : ℕ) (b : Bool) → pc ≡ 0 → 0 < n → ((pc == n
 no_number n b is l = grind (arith, nat_tests, is, l)
 
 -- while a session was under way the sides don't agree
-pub under_way : {next : Meeting} → IsUnderWay next → agrees next ≡ false
+pub under_way : {next : Meeting} → IsUnderWay next → (name : List ℕ) → agrees next name ≡ false
 unfolding agrees
-under_way {next} is = no_number (slot_of next).marks.pc (next.device.user.good == (slot_of next).marks.last) is.handheld is.desktop
+under_way {next} is name =
+    ap (λ b. b && not (is_parted name (slot_of next).parted))
+    (no_number (slot_of next).marks.pc (next.device.user.good == (slot_of next).marks.last) is.handheld is.desktop)
 
 -- so that all is read
-pub under_way-slow : (next : Meeting) (task : Task) → agrees next ≡ false → view next task ≡ slow_view (records_of task.handheld)
+pub under_way-slow : (next : Meeting) (task : Task) → agrees next task.name ≡ false → view next task ≡ slow_view (records_of task.handheld)
 unfolding view is_fast
 under_way-slow next task is = grind arith
 
@@ -41,7 +44,7 @@ same_action name asks = ap (λ items. action_or_sync (action_of_word (action_for
 pub among-news : (meeting next : Meeting) (given : List ℕ → List ℕ) (count : List ℕ → ℕ) (name : List ℕ) → LeftAmongNews meeting next given count
     → Follows meeting next name (among_news (given name) (count name))
 among-news meeting next given count name is =
-    let apart = under_way is.marks in
+    let apart = under_way is.marks name in
     let slow = under_way-slow next (task_of next name) apart ∙ ap slow_view (is.records name) in
     record {
       action = same_action name is.asks;
@@ -61,10 +64,10 @@ base_there task is = ap (λ b. if b then records_of task.base else []) is
 pub behind-the_commit : (meeting next : Meeting) (given : List ℕ → List ℕ) (count : List ℕ → ℕ) (name : List ℕ)
     → LeftBehindCommit meeting next given count name → Follows meeting next name (behind_commit (given name) (count name))
 behind-the_commit meeting next given count name is =
-    grind (arith, under_way is.marks, under_way-slow next (task_of next name) (under_way is.marks))
+    grind (arith, under_way is.marks name, under_way-slow next (task_of next name) (under_way is.marks name))
 
 pub at-the_end : (meeting next : Meeting) (given : List ℕ → List ℕ) (name : List ℕ) → LeftAtEnd meeting next given name
-    → Follows meeting next name (at_end (given name) (view next (task_of next name)) (not (agrees next)))
+    → Follows meeting next name (at_end (given name) (view next (task_of next name)) (not (agrees next name)))
 at-the_end meeting next given name is = grind arith
 
 -- ---- any number of meetings

@@ -169,11 +169,11 @@ show-all m sound = show_all (active m) sound (are-kept m)
 -- ---- all of it
 
 abbrev sides_seen : Meeting → Task → Sides
-sides_seen m t = sides_of (view m t) (records_of t.rows) (base_rows t) (not (agrees m))
+sides_seen m t = sides_of (view m t) (records_of t.rows) (base_rows t) (not (agrees m t.name))
 
 are_sorted : (m : Meeting) → IsSoundMeeting m → (t : Task) → t ≡ task_of m t.name → AreSorted (sides_seen m t)
 are_sorted m sound t is =
-    sides-sorted (view m t) (records_of t.rows) (base_rows t) (not (agrees m)) (view_sorted m sound t is) (rows_sorted m sound t is) (base_sorted m sound t is)
+    sides-sorted (view m t) (records_of t.rows) (base_rows t) (not (agrees m t.name)) (view_sorted m sound t is) (rows_sorted m sound t is) (base_sorted m sound t is)
 
 no_zero : (m : Meeting) → IsSoundMeeting m → (t : Task) → t ≡ task_of m t.name → HasNoZero (sides_seen m t)
 unfolding sides

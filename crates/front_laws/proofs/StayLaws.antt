@@ -18,7 +18,7 @@ use Rattle.record_merge.specs.Merging.{is_archived, merged_entries, one_copy_beh
 use Rattle.record_merge.specs.Writes.{numbered}
 use Rattle.record_merge.proofs.ArchiveLaws.{copies-stand, is_equal, same_entry}
 use Rattle.record_merge.proofs.CountLaws.{new-free, sum-rows}
-use Rattle.session_plan.specs.Losses.{is_among, is_lost, is_stranger, stays}
+use Rattle.session_plan.specs.Losses.{is_among, is_lost, is_strange, stays}
 use Rattle.session_plan.specs.Tasks.{Meeting, task_of}
 use Rattle.front_laws.specs.Again.{LosesNone}
 use Rattle.front_laws.specs.Equal.{IsShownWhole}
@@ -185,7 +185,7 @@ leaves-each meeting given name sound is whole got none might =
     let own = handheld-sound sound (task_of meeting name) refl in
     let read = reading-shows meeting (task_of meeting name) own.ids own.bounded whole in
     let all_got : GotAllIds Sync x ids = subst (λ a. GotAllIds a x ids) might.sync got in
-    let keeps : loses_rows x ≡ false = none_lost (is_stranger meeting || has_lost x) (loses_rows x)
+    let keeps : loses_rows x ≡ false = none_lost (is_strange meeting name || has_lost x) (loses_rows x)
     (lost-sync meeting name (none-of meeting name none is) might.sync) might.may in
     let end : holding_after meeting given name ≡ ended Sync x ids = holds-end meeting given name is ∙ ap (λ a. ended a x ids) might.sync in
     subst (λ (e : Ending). AllByRecursion (λ (row : Record). is_live row ≡ true → has_left e row.content ≡ true) x.rows) (sym end)

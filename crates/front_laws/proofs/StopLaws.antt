@@ -31,6 +31,7 @@ use Rattle.session_plan.specs.Merges.{merged_device, merged_slot}
 use Rattle.session_plan.specs.Skips.{active, head_of, reason_by, skip_of}
 use Rattle.session_plan.specs.Tasks.{Meeting, Task, action_of_word, records_of, slot_of, task_of}
 use Rattle.session_plan.specs.Users.{begun_user}
+use Rattle.session_plan.specs.Partings.{agrees_with}
 use Rattle.front_laws.specs.Meetings.{AsksTheSame, Follows, IsActive, IsLikeFirst, LeftAmongNews, LeftAtEnd, LeftBehindCommit, LeftMerged, StandsLike}
 use Rattle.front_laws.specs.Meetings.{action_at, found_of, holding_after, ids_at}
 use Rattle.front_laws.specs.Renaming.{AreUnknown, SameEnds}
@@ -193,7 +194,7 @@ found_from user databases slot slow items name =
     let handheld = database_of name databases in
     let rows = database_of name slot.shelves.rows in
     let base = database_of name slot.shelves.bases in
-    let fast = is_fast_by (agreed user slot.marks) slow (action_or_sync (action_of_word (action_for name items))) (is_some handheld) (is_some rows)
+    let fast = is_fast_by (agrees_with (agreed user slot.marks) slot.parted name) slow (action_or_sync (action_of_word (action_for name items))) (is_some handheld) (is_some rows)
     (is_some base) in
     record {
       view = if fast then fast_view (base_rows_by rows base) (records_of handheld) else slow_view (records_of handheld);
@@ -201,7 +202,7 @@ found_from user databases slot slow items name =
       rows = records_of rows;
       base = base_rows_by rows base;
       archive = entries_of (records_of (database_of name slot.shelves.archives));
-      gone_counts = not (agreed user slot.marks);
+      gone_counts = not (agrees_with (agreed user slot.marks) slot.parted name);
     }
 
 found-is : (m : Meeting) (name : List ℕ)
@@ -319,14 +320,14 @@ step-behind {meeting} {next} {given} {name} stands is asks slot number read =
           let follows = at-the_end meeting next (ids_at meeting given) name left in
           let then_read = subst IsRead follows.finds (honest-then next given name read free.got left) in
           record {
-            place = at_end ids seen (not (agrees next));
+            place = at_end ids seen (not (agrees next name));
             follows = follows;
             may = (free, then_read);
             own = all-new free;
             back = λ later got. none-later x.records
-                (ap (λ (y : Finding). (chosen a y).adds) follows.finds ∙ end-adds a x ids seen (not (agrees next)) read free.got then_read) got;
+                (ap (λ (y : Finding). (chosen a y).adds) follows.finds ∙ end-adds a x ids seen (not (agrees next name)) read free.got then_read) got;
             gives = refl;
-            stay = λ z later un. ids-end z ids later un a seen (not (agrees next));
+            stay = λ z later un. ids-end z ids later un a seen (not (agrees next name));
             active = active-again meeting next given name merged is;
           }
     ]

@@ -28,7 +28,7 @@ found meeting task = record {
   rows = records_of task.rows;
   base = base_rows task;
   archive = entries_of (records_of task.archive);
-  gone_counts = not (agrees meeting);
+  gone_counts = not (agrees meeting task.name);
 }
 
 abbrev pub found_of : Meeting → List ℕ → Finding
@@ -121,7 +121,7 @@ places_of es = map (λ (e : Meeting × Place). e.1) es
 
 -- behind a whole session, as the next meeting reads it
 abbrev pub place_ended : Meeting → List ℕ → List ℕ → Place
-place_ended next name given = at_end given (view next (task_of next name)) (not (agrees next))
+place_ended next name given = at_end given (view next (task_of next name)) (not (agrees next name))
 
 -- Meetings find a database, each where the one before it stopped, and in the last each new record
 -- gets one of these ids; nothing had any id that stands in the end.

@@ -17,6 +17,7 @@ use Rattle.session_plan.specs.Choosing.{action_or_sync, agrees, is_fast, is_sync
 use Rattle.session_plan.specs.Tasks.{Meeting, Task, slot_of}
 use Rattle.install_backup.specs.declared.mark.Mark.{Mark}
 use Rattle.install_backup.specs.declared.mark.Mark.TheVariants.{Unchanged}
+use Rattle.folder_files.specs.Partings.{is_parted}
 use Rattle.install_backup.specs.InstallFronts.{IsAsItWas, IsMarkedFirst}
 use Rattle.install_backup.specs.Marks.{marked_user}
 use Rattle.install_backup.proofs.MarkLaws.{marked_apart}
@@ -30,7 +31,7 @@ has_number : (told : Option FileMap) (slots : List SlotValue) (place : ℕ) → 
 has_number told slots place is = let same = picked_number told slots place is in let some = is.formed.number in omega (arith, same, some)
 
 -- where both sides don't agree nothing is read fast
-slow_by : (meeting : Meeting) (task : Task) → agrees meeting ≡ false → is_fast meeting task ≡ false
+slow_by : (meeting : Meeting) (task : Task) → agrees meeting task.name ≡ false → is_fast meeting task ≡ false
 unfolding is_fast
 slow_by meeting task apart =
     ap (λ b. b && (not meeting.wishes.slow && (is_sync (action_or_sync task.action) && (is_some task.handheld && (is_some task.rows && is_some task.base)))))
@@ -46,24 +47,25 @@ module _ {call : Call} (next : RunCall) (meeting : Meeting) (runs : RunsNext cal
       (subst (λ (told : Option FileMap). Stands told databases user) (sym runs.same) stands) runs.meets.handheld
 
   -- which has the mark
-  met_apart : (mark : Mark) (user : UserInfo) → ¬ (mark ≡ Unchanged) → meeting.device.user ≡ marked_user mark user → agrees meeting ≡ false
+  met_apart : (mark : Mark) (user : UserInfo) → ¬ (mark ≡ Unchanged) → meeting.device.user ≡ marked_user mark user → (name : List ℕ) → agrees meeting name ≡ false
   unfolding agrees
-  met_apart mark user says is =
+  met_apart mark user says is name =
       let slot : SlotValue = slot_of meeting in
-      ap (λ (u : UserInfo). agreed u slot.marks) is
+      ap (λ agree. agree && not (is_parted name slot.parted))
+      (ap (λ (u : UserInfo). agreed u slot.marks) is
       ∙ marked_apart mark user slot.marks says
-      (has_number (option_map finished next.before.desk.contents) meeting.slots meeting.picked runs.meets.desktop)
+      (has_number (option_map finished next.before.desk.contents) meeting.slots meeting.picked runs.meets.desktop))
 
 pub read_whole : {call : Call} (databases : List DatabaseValue) (mark : Mark) (user : UserInfo)
     → Stands call.after.palm.contents databases (marked_user mark user) → IsReadWhole mark call
 read_whole {call} databases mark user stands = λ says next meeting runs task.
-    slow_by meeting task (met_apart next meeting runs mark user says (met next meeting runs databases (marked_user mark user) stands).user_is)
+    slow_by meeting task (met_apart next meeting runs mark user says (met next meeting runs databases (marked_user mark user) stands).user_is task.name)
 
 pub read_whole_or_same : {call : Call} (mark : Mark) (device reached : Device) → Stands call.after.palm.contents reached.databases reached.user
     → IsMarkedFirst mark device reached → IsReadWholeOrSame mark device call
 read_whole_or_same {call} mark device reached stands (inl marked) = λ says next meeting runs.
     inl (λ task. slow_by meeting task
-    (met_apart next meeting runs mark device.user says ((met next meeting runs reached.databases reached.user stands).user_is ∙ marked)))
+    (met_apart next meeting runs mark device.user says ((met next meeting runs reached.databases reached.user stands).user_is ∙ marked) task.name))
 read_whole_or_same {call} mark device reached stands (inr same) = λ says next meeting runs.
     let one = met next meeting runs reached.databases reached.user stands in
     inr (record { user = one.user_is ∙ same.user; databases = one.databases ∙ same.databases })

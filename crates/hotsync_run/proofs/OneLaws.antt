@@ -2,19 +2,20 @@
 use Rattle.std.proofs.Common.{◌≡◌, ◌∙◌, ◌<◌, ap, refl, sym, subst, arith, ℕ, zero, suc, List, [], ◌∷◌, length, get_or}
 use Rattle.std.specs.Prelude.{Option, Some, None, IfSome, IsSome}
 use Rattle.std.specs.Option.{option_map}
+use Rattle.std.proofs.lemmas.List.{length-map}
 use Rattle.hs_folders.specs.FileMaps.{FileMap}
-use Rattle.pdb_values.specs.declared.user.Marks.{Marks}
+use Rattle.folder_files.specs.Slots.{SlotInfoValue}
 use Rattle.pdb_values.proofs.NamedLaws.{database_of-same}
 use Rattle.palm_device.specs.Devices.{Device}
 use Rattle.handheld_files.specs.Openings.{HoldsAll, Stands}
 pub use Rattle.handheld_files.proofs.OneLaws.{IsOne, one-handheld}
 use Rattle.desk_journal.specs.Overlays.{FinishesAs, finished}
 use Rattle.desk_store.specs.Desks.{IsDesk, IsDeskOf}
-use Rattle.desk_store.specs.Shelves.{AreInOrder, SlotValue, database_at, marks_of, new_slot, number_of, shelf_at, slot_at}
+use Rattle.desk_store.specs.Shelves.{AreInOrder, SlotValue, database_at, info_of, infos_of, new_slot, number_of, shelf_at, slot_at}
 use Rattle.desk_store.specs.declared.role.Role.{Role}
 use Rattle.desk_store.specs.declared.role.Role.TheVariants.{Rows, Base, Archive}
 use Rattle.desk_store.proofs.OrderLaws.{rising}
-use Rattle.desk_store.proofs.SlotListLaws.{marks-length, ordered_at, slot_at-any}
+use Rattle.desk_store.proofs.SlotListLaws.{ordered_at, slot_at-any}
 use Rattle.run_words.specs.Runs.{Run}
 use Rattle.session_plan.specs.Tasks.{Meeting}
 use Rattle.hotsync_run.specs.Again.{AreOfOneKind, AreTold}
@@ -24,9 +25,13 @@ use Rattle.call_parts.proofs.EndLaws.{same_some}
 
 -- ---- a desktop
 
-same_slot : (one other : SlotValue) → one.marks ≡ other.marks → one.shelves.rows ≡ other.shelves.rows → one.shelves.bases ≡ other.shelves.bases
+infos-length : (slots : List SlotValue) → length (infos_of slots) ≡ length slots
+infos-length slots = length-map slots info_of
+
+same_slot : (one other : SlotValue) → info_of one ≡ info_of other → one.shelves.rows ≡ other.shelves.rows → one.shelves.bases ≡ other.shelves.bases
     → one.shelves.archives ≡ other.shelves.archives → one ≡ other
-same_slot one other marks rows bases archives k = record { marks = marks k; shelves = record { rows = rows k; bases = bases k; archives = archives k } }
+same_slot one other info rows bases archives k =
+    record { marks = (info k).marks; parted = (info k).parted; shelves = record { rows = rows k; bases = bases k; archives = archives k } }
 
 -- lists that agree at each place are one
 same_at : (one other : List SlotValue) (d : SlotValue) → length one ≡ length other → ((k : ℕ) → k < length one → get_or one k d ≡ get_or other k d)
@@ -39,20 +44,20 @@ same_at (x ∷ one) (y ∷ other) d count each =
     let rest = same_at one other d (omega (arith, count)) (λ k less. each (suc k) (omega (arith, less))) in
     λ i. first i ∷ rest i
 
-marks_at : (slots : List SlotValue) (k : ℕ) (d : SlotValue) → get_or (marks_of slots) k d.marks ≡ (get_or slots k d).marks
-marks_at [] k d = refl
-marks_at (slot ∷ slots) zero d = refl
-marks_at (slot ∷ slots) (suc k) d = marks_at slots k d
+info_at : (slots : List SlotValue) (k : ℕ) (d : SlotValue) → get_or (infos_of slots) k (info_of d) ≡ info_of (get_or slots k d)
+info_at [] k d = refl
+info_at (slot ∷ slots) zero d = refl
+info_at (slot ∷ slots) (suc k) d = info_at slots k d
 
 pub one-desktop : (held : FileMap) (one other : List SlotValue) → AreInOrder one → AreInOrder other → IsDeskOf held one → IsDeskOf held other
     → one ≡ other
 one-desktop held one other order order' first second = same_at one other behind count each
   where
-    marked : marks_of one ≡ marks_of other
+    marked : infos_of one ≡ infos_of other
     marked = first.marked ∙ sym second.marked
 
     count : length one ≡ length other
-    count = sym (marks-length one) ∙ ap length marked ∙ marks-length other
+    count = sym (infos-length one) ∙ ap length marked ∙ infos-length other
 
     behind : SlotValue
     behind = new_slot (number_of one)
@@ -70,8 +75,8 @@ one-desktop held one other order order' first second = same_at one other behind 
     each : (k : ℕ) → k < length one → get_or one k behind ≡ get_or other k behind
     each k less =
         same_slot (slot_at one k) (slot_at other k)
-        (sym (marks_at one k behind) ∙ ap (λ (ms : List Marks). get_or ms k behind.marks) marked ∙ marks_at other k behind ∙ ap (λ (s : SlotValue). s.marks)
-        (sym (there k less))) (shelf k less Rows) (shelf k less Base) (shelf k less Archive)
+        (sym (info_at one k behind) ∙ ap (λ (is : List SlotInfoValue). get_or is k (info_of behind)) marked ∙ info_at other k behind
+        ∙ ap info_of (sym (there k less))) (shelf k less Rows) (shelf k less Base) (shelf k less Archive)
         ∙ there k less
 
 -- ---- what folders tell

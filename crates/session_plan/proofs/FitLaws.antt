@@ -26,7 +26,7 @@ use Rattle.palm_device.proofs.TellingLaws.{none_where}
 
 -- ---- names
 
-names-jobs : (heads : List DbHead) (shelves : ShelvesValue) (agree : Bool) (wishes : Wishes) (names : List (List ℕ))
+names-jobs : (heads : List DbHead) (shelves : ShelvesValue) (agree : List ℕ → Bool) (wishes : Wishes) (names : List (List ℕ))
     → map (λ (job : Job). job.name) (map (job_of heads shelves agree wishes) names) ≡ names
 names-jobs heads shelves agree wishes [] = refl
 names-jobs heads shelves agree wishes (name ∷ names) = ap (λ more. name ∷ more) (names-jobs heads shelves agree wishes names)

@@ -5,6 +5,6 @@ pub use Rattle.pdb_values.specs.declared.head.DbHead.{DbHead}
 pub use Rattle.conduit_rules.specs.Plans.{IsPlan, kept_rows}
 pub use Rattle.conduit_rules.specs.declared.planned.Plan.{Plan}
 pub use Rattle.desk_store.specs.Shelves.{ShelvesValue}
-pub use Rattle.desk_store.specs.Views.{DeskValue, marks_in, shelves_in}
+pub use Rattle.desk_store.specs.Views.{DeskValue, marks_in, parted_in, shelves_in}
 pub use Rattle.session_plan.specs.declared.planned.Planned.{Planned}
 pub use Rattle.session_plan.specs.Tasks.{names_of, with_name, with_names}

@@ -9,11 +9,13 @@ use Rattle.conduit_rules.specs.declared.action.Action.{Action}
 use Rattle.conduit_rules.specs.declared.action.Action.TheVariants.{Sync, Handheld, Desktop, Both}
 use Rattle.conduit_rules.specs.declared.view.Seen.{Seen}
 use Rattle.mirrors.specs.Agreements.{agreed}
+use Rattle.session_plan.specs.Partings.{agrees_with}
 use Rattle.session_plan.specs.Tasks.{Meeting, Task, records_of, slot_of}
 
--- both sides agree
-unfoldable pub agrees : Meeting → Bool
-agrees meeting = agreed meeting.device.user (slot_of meeting).marks
+-- both sides agree on the database of a name
+unfoldable pub agrees : Meeting → List ℕ → Bool
+agrees meeting name =
+    agrees_with (agreed meeting.device.user (slot_of meeting).marks) (slot_of meeting).parted name
 
 -- the action of a database that is not skipped
 abbrev pub action_or_sync : Option Action → Action
@@ -35,7 +37,7 @@ is_fast_by agree slow action handheld rows base =
 
 unfoldable pub is_fast : Meeting → Task → Bool
 is_fast meeting task =
-    is_fast_by (agrees meeting) meeting.wishes.slow (action_or_sync task.action)
+    is_fast_by (agrees meeting task.name) meeting.wishes.slow (action_or_sync task.action)
     (is_some task.handheld) (is_some task.rows) (is_some task.base)
 
 -- the base rows: none where the rows or the base rows are missing
@@ -57,7 +59,8 @@ abbrev pub sides_by : List Seen → Option DatabaseValue → Option DatabaseValu
 sides_by view rows base agree = sides_of view (records_of rows) (base_rows_by rows base) (not agree)
 
 unfoldable pub sides : Meeting → Task → Sides
-sides meeting task = sides_by (view meeting task) task.rows task.base (agrees meeting)
+sides meeting task =
+    sides_by (view meeting task) task.rows task.base (agrees meeting task.name)
 
 -- what is chosen
 unfoldable pub choice : Meeting → Task → Choice

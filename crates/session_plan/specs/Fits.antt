@@ -56,7 +56,7 @@ AreTakeable date shelves planned ids = ⊥
 -- slot
 pub record AreOfSession (shelves : ShelvesValue) (planned : List Planned) : Type 0 where
   pub heads : List DbHead
-  pub agree : Bool
+  pub agree : List ℕ → Bool
   pub wishes : Wishes
   pub are : map (λ (one : Planned). one.job) planned ≡ jobs_of heads shelves agree wishes
 

@@ -18,7 +18,7 @@ abbrev pub head_named : List ℕ → List DbHead → Option DbHead
 head_named name heads = find (λ (head : DbHead). bytes_eq head.name name) heads
 
 -- the database of a name, by both heads, whether it has base rows, its action, whether both sides
--- agree, and whether all is read whole
+-- agree on it, and whether all is read whole
 abbrev pub job_by : List ℕ → Option DbHead → Option DbHead → Bool → Option Action → Bool
     → Bool → Job
 job_by name handheld rows base action agree slow = record {
@@ -30,11 +30,11 @@ job_by name handheld rows base action agree slow = record {
   fast = is_fast_by agree slow (action_or_sync action) (is_some handheld) (is_some rows) base;
 }
 
-abbrev pub job_of : List DbHead → ShelvesValue → Bool → Wishes → List ℕ → Job
+abbrev pub job_of : List DbHead → ShelvesValue → (List ℕ → Bool) → Wishes → List ℕ → Job
 job_of heads shelves agree wishes name =
     job_by name (head_named name heads) (head_of (database_of name shelves.rows))
     (is_some (database_of name shelves.bases))
-    (action_of_word (action_for name wishes.actions.items)) agree wishes.slow
+    (action_of_word (action_for name wishes.actions.items)) (agree name) wishes.slow
 
 -- the names of both sides, in byte order
 abbrev pub names_with : List DbHead → ShelvesValue → List (List ℕ)
@@ -42,6 +42,6 @@ names_with heads shelves =
     with_names (names_of shelves.rows) (with_names (map (λ (head : DbHead). head.name) heads) [])
 
 -- all of them
-unfoldable pub jobs_of : List DbHead → ShelvesValue → Bool → Wishes → List Job
+unfoldable pub jobs_of : List DbHead → ShelvesValue → (List ℕ → Bool) → Wishes → List Job
 jobs_of heads shelves agree wishes =
     map (job_of heads shelves agree wishes) (names_with heads shelves)

@@ -7,6 +7,7 @@ pub mod Jobs
 pub mod Limits
 pub mod Losses
 pub mod Merges
+pub mod Partings
 pub mod PlannedLimits
 pub mod PlannedLosses
 pub mod PlannedReports

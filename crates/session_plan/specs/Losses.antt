@@ -11,9 +11,11 @@ use Rattle.pdb_values.specs.declared.user.UserInfo.{UserInfo}
 use Rattle.conduit_rules.specs.Contents.{same_content}
 use Rattle.conduit_rules.specs.Plans.{kept_rows}
 use Rattle.conduit_rules.specs.declared.view.Seen.{Seen}
+use Rattle.folder_files.specs.Partings.{parting_of}
 use Rattle.mirrors.specs.Agreements.{agreed}
 use Rattle.session_plan.specs.Archives.{entries_of}
 use Rattle.session_plan.specs.Choosing.{action_or_sync, base_rows, choice, is_sync, view}
+use Rattle.session_plan.specs.Partings.{is_unmet}
 use Rattle.session_plan.specs.Skips.{active}
 use Rattle.session_plan.specs.Tasks.{Meeting, Task, records_of, slot_of}
 
@@ -49,6 +51,12 @@ is_stranger_to handheld slot =
 abbrev pub is_stranger : Meeting → Bool
 is_stranger meeting = is_stranger_to meeting.device.user (slot_of meeting).marks
 
+-- it is one, or the slot keeps of a database that it was missing, or its handheld a stranger, when
+-- it took no part
+abbrev pub is_strange : Meeting → List ℕ → Bool
+is_strange meeting name =
+    is_stranger meeting || is_unmet (parting_of name (slot_of meeting).parted)
+
 -- ---- databases that were lost
 
 -- both sides agreed on this record of the base: it isn't kept as one that is gone, and has an id
@@ -72,7 +80,8 @@ has_lost_all base view = list_any is_agreed_on base && not (list_any (is_met vie
 -- what a database doesn't have counts for less than what the desktop has: the handheld is a
 -- stranger, or it lost the database
 abbrev pub may_lose : Meeting → Task → Bool
-may_lose meeting task = is_stranger meeting || has_lost_all (base_rows task) (view meeting task)
+may_lose meeting task =
+    is_strange meeting task.name || has_lost_all (base_rows task) (view meeting task)
 
 -- some entry has this content
 abbrev pub is_among : List (ℕ × ContentValue) → ContentValue → Bool

@@ -1,6 +1,6 @@
 -- What both sides hold after a session: the merge of each database that isn't skipped, and the
 -- marks.
-use Rattle.std.specs.Prelude.{ℕ, List, [], ◌∷◌, take, drop, slice_set, Option, Some, None}
+use Rattle.std.specs.Prelude.{ℕ, List, [], ◌∷◌, is_some, take, drop, slice_set, Option, Some, None}
 use Rattle.pdb_values.specs.Databases.{DatabaseValue}
 use Rattle.pdb_values.specs.NamedDatabases.{with_put}
 use Rattle.pdb_values.specs.declared.head.DbHead.{DbHead}
@@ -11,9 +11,13 @@ use Rattle.palm_device.specs.Handles.{no_handles}
 use Rattle.palm_device.specs.Heads.{new_head}
 use Rattle.palm_device.specs.Records.{with_records}
 use Rattle.record_merge.specs.Merging.{merged_archive, merged_base, merged_records, merged_rows}
+use Rattle.folder_files.specs.Partings.{parting_of}
+use Rattle.folder_files.specs.declared.parted.Parted.{Parted}
 use Rattle.desk_store.specs.Shelves.{ShelvesValue, SlotValue, with_place}
-use Rattle.session_plan.specs.Tasks.{Meeting, Task, records_of, slot_of}
-use Rattle.session_plan.specs.Skips.{active}
+use Rattle.session_plan.specs.Losses.{is_stranger}
+use Rattle.session_plan.specs.Partings.{parting_by, with_parting}
+use Rattle.session_plan.specs.Tasks.{Meeting, Task, records_of, slot_of, tasks}
+use Rattle.session_plan.specs.Skips.{active, skip_of}
 use Rattle.session_plan.specs.Choosing.{choice, seen_held, add_count}
 use Rattle.session_plan.specs.Users.{done_marks, done_user}
 use Rattle.session_plan.specs.Heads.{made_head, rows_head}
@@ -112,9 +116,19 @@ merged_shelves meeting (task ∷ later) given shelves =
     (shelve meeting task (take (add_count meeting task) given)
     (rows_before meeting.wishes.date task.rows task.handheld) shelves)
 
+-- what the slot keeps of those that took no part
+abbrev pub parted_met : Meeting → List Task → List Parted
+parted_met meeting [] = []
+parted_met meeting (task ∷ later) =
+    with_parting task.name
+    (parting_by (is_stranger meeting) (is_some task.base)
+    (parting_of task.name (slot_of meeting).parted) (skip_of task))
+    (parted_met meeting later)
+
 unfoldable pub merged_slot : Meeting → List ℕ → SlotValue
 merged_slot meeting given = record {
   marks = done_marks meeting.wishes.date meeting.device.user (slot_of meeting).marks;
+  parted = parted_met meeting (tasks meeting);
   shelves = merged_shelves meeting (active meeting) given (slot_of meeting).shelves;
 }
 

@@ -11,13 +11,16 @@ use Rattle.palm_device.specs.Blocks.{empty_database}
 use Rattle.palm_device.specs.Records.{with_records}
 use Rattle.record_merge.specs.Merging.{one_copy_behind}
 use Rattle.conduit_rules.specs.declared.planned.Plan.{Plan}
+use Rattle.folder_files.specs.declared.parted.Parted.{Parted}
 use Rattle.desk_journal.specs.Entries.{EntryValue}
 use Rattle.desk_store.specs.Changes.{slot_entries, with_changes}
-use Rattle.desk_store.specs.Shelves.{ShelvesValue, SlotValue, marks_of, slot_at, with_place}
+use Rattle.desk_store.specs.Shelves.{ShelvesValue, SlotValue, infos_of, slot_at, with_place}
 use Rattle.desk_store.specs.declared.change.DbChange.{DbChange}
 use Rattle.session_plan.specs.Archives.{archive_records, entries_of}
 use Rattle.session_plan.specs.Heads.{rows_head}
+use Rattle.session_plan.specs.Losses.{is_stranger_to}
 use Rattle.session_plan.specs.Merges.{archive_of, beside}
+use Rattle.session_plan.specs.Partings.{parted_planned}
 use Rattle.session_plan.specs.Rows.{planned_base, planned_rows}
 use Rattle.session_plan.specs.Tasks.{records_of}
 use Rattle.session_plan.specs.Users.{done_marks}
@@ -76,12 +79,21 @@ changes_of date shelves (one ∷ later) [] = []
 changes_of date shelves (one ∷ later) (given ∷ more) =
     change_of date shelves one given ++ changes_of date shelves later more
 
--- the slots of a desktop whose slot at this place gets these marks and these databases; behind the
--- last one it is new
-abbrev pub slots_with : Marks → List DbChange → ℕ → List SlotValue → List SlotValue
-slots_with marks changes place slots =
+-- the slots of a desktop whose slot at this place gets these marks, these words of databases that
+-- took no part, and these databases; behind the last one it is new
+abbrev pub slots_with : Marks → List Parted → List DbChange → ℕ → List SlotValue → List SlotValue
+slots_with marks parted changes place slots =
     slice_set (with_place slots place) place
-    (record { marks = marks; shelves = with_changes changes (slot_at slots place).shelves })
+    (record {
+      marks = marks;
+      parted = parted;
+      shelves = with_changes changes (slot_at slots place).shelves;
+    })
+
+-- what a slot keeps of the databases that took no part in a session with this user
+abbrev pub parted_after : UserInfo → SlotValue → List Planned → List Parted
+parted_after user slot planned =
+    parted_planned (is_stranger_to user slot.marks) slot.shelves slot.parted planned
 
 -- the slots once the one at this place took what was planned, and the marks that end a session with
 -- this user
@@ -89,6 +101,7 @@ unfoldable pub taken_slots : ℕ → UserInfo → List Planned → List (List �
     → List SlotValue
 taken_slots date user planned ids place slots =
     slots_with (done_marks date user (slot_at slots place).marks)
+    (parted_after user (slot_at slots place) planned)
     (changes_of date (slot_at slots place).shelves planned ids) place slots
 
 -- the files that this writes
@@ -96,4 +109,4 @@ unfoldable pub taken_entries : ℕ → UserInfo → List Planned → List (List 
     → List EntryValue
 taken_entries date user planned ids place slots =
     slot_entries place (changes_of date (slot_at slots place).shelves planned ids)
-    (marks_of (taken_slots date user planned ids place slots))
+    (infos_of (taken_slots date user planned ids place slots))

@@ -2,12 +2,13 @@
 ghost use Rattle.std.specs.Prelude.{◌≡◌, ◌++◌, IfOk, OnOk, option_to_list};
 ghost use Rattle.std.specs.List.{AllByRecursion};
 ghost use Rattle.desk_store.specs.Changes.{IsDbChange, IsDeskChange, MayBear};
-ghost use Rattle.desk_store.specs.Views.{marks_in, shelves_in};
+ghost use Rattle.desk_store.specs.Views.{marks_in, picked_slot, shelves_in};
 ghost use Rattle.session_plan.specs.Commits.{CommitsPlanned};
 ghost use Rattle.session_plan.specs.Fits.{AreTakeable, CanTake};
 ghost use Rattle.session_plan.specs.Takes as takes;
 ghost use Rattle.session_plan.specs.Users as users;
 
+use crate::partings::parted_after;
 use crate::planned::Planned;
 use crate::taking::take_one;
 use crate::users::done_marks;
@@ -63,6 +64,8 @@ fn change_all<D: Folder>(
         CanTake date user.now planned.now each desk.now.picked desk.now.slots }
     ensures marks { IfOk result (λ change. change.marks
         ≡ users.done_marks date user.now (marks_in desk.now)) }
+    ensures parted { IfOk result (λ change. change.parted.items
+        ≡ takes.parted_after user.now (picked_slot desk.now) planned.now) }
     ensures changes { IfOk result (λ change. change.databases.items
         ≡ takes.changes_of date (shelves_in desk.now) planned.now (takes.each_of ids.now)) }
     ensures fit { IfOk result IsDeskChange }
@@ -70,7 +73,12 @@ fn change_all<D: Folder>(
 {
     let databases = take_all(alloc, desk, date, planned, ids)?;
     let marks = done_marks(date, user, desk.marks());
-    Ok(DeskChange { marks, databases })
+    let parted = parted_after(alloc, desk, user, planned)?;
+    Ok(DeskChange {
+        marks,
+        parted,
+        databases,
+    })
 }
 
 /// Commits what was planned for databases, whose new records got these ids, one list for each: in the desktop's picked slot each of them

@@ -3,15 +3,17 @@ ghost use Rattle.std.specs.Prelude.{◌≡◌, ◌++◌, ◌∷◌, [], IfOk, On
 ghost use Rattle.std.specs.Option.{option_copied};
 ghost use Rattle.std.specs.Str.{bytes_eq};
 ghost use Rattle.pdb_values.specs.declared.head.DbHead.{DbHead as Head};
-ghost use Rattle.desk_store.specs.Views.{shelves_in};
+ghost use Rattle.desk_store.specs.Views.{parted_in, shelves_in};
 ghost use Rattle.session_plan.specs.Choosing.{action_or_sync, is_fast_by};
 ghost use Rattle.session_plan.specs.Jobs as jobs;
+ghost use Rattle.session_plan.specs.Partings.{agrees_with};
 ghost use Rattle.session_plan.specs.Skips.{head_of as head_in};
 ghost use Rattle.session_plan.specs.Tasks.{action_of_word, names_of, with_names};
 
 use crate::job::Job;
 use crate::judge::{action_of, skip_of};
 use crate::names::put_name;
+use crate::partings::agrees_with;
 use crate::wishes::Wishes;
 use conduit_rules::Action;
 use desk_store::Desk;
@@ -131,8 +133,10 @@ fn job_of<D: Folder>(
     wishes: &Wishes,
     name: &DbName,
 ) -> Job
-    ensures { result ≡ jobs.job_of heads.now (shelves_in desk.now) agree wishes.now name.now }
+    ensures { result ≡ jobs.job_of heads.now (shelves_in desk.now)
+        (agrees_with agree (parted_in desk.now)) wishes.now name.now }
 {
+    let agree = agrees_with(desk, agree, name);
     let handheld = head_named(heads, name);
     let rows = head_of(desk.rows(name));
     let base = has_database(desk.base(name));
@@ -166,8 +170,8 @@ fn put_rows<D: Folder>(names: &mut Vec<DbName>, desk: &Desk<D>) -> Result<(), Al
 }
 
 /// The databases of a session, in byte order of their names: those whose heads the handheld listed, and those that have rows in
-/// the picked slot. Of two heads of one name the first counts, and their database is there once. `agree` says whether both sides
-/// agree.
+/// the picked slot. Of two heads of one name the first counts, and their database is there once. `agree` says whether the marks
+/// of both sides agree.
 #[tactic(auto, unfolding(crate::specs::Jobs::jobs_of))]
 pub fn jobs_of<D: Folder>(
     alloc: Global,
@@ -177,7 +181,8 @@ pub fn jobs_of<D: Folder>(
     wishes: &Wishes,
 ) -> Result<Vec<Job>, AllocError>
     ensures { IfOk result (λ made. made.items
-        ≡ jobs.jobs_of heads.now (shelves_in desk.now) agree wishes.now) }
+        ≡ jobs.jobs_of heads.now (shelves_in desk.now)
+        (agrees_with agree (parted_in desk.now)) wishes.now) }
 {
     let mut names = Vec::new(alloc);
     put_heads(&mut names, heads)?;

@@ -13,6 +13,7 @@ mod judge;
 mod limits;
 mod losses;
 mod names;
+mod partings;
 mod planned;
 mod planning;
 mod reporting;

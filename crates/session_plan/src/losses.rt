@@ -2,7 +2,7 @@
 ghost use Rattle.std.specs.Prelude.{◌≡◌, ◌++◌, find, option_copied};
 ghost use Rattle.std.specs.List.{list_any};
 ghost use Rattle.conduit_rules.specs.Contents.{same_content};
-ghost use Rattle.desk_store.specs.Views.{marks_in, shelves_in};
+ghost use Rattle.desk_store.specs.Views.{marks_in, parted_in, shelves_in};
 ghost use Rattle.pdb_values.specs.declared.record.Record.{Record as Entry};
 ghost use Rattle.session_plan.specs.Archives.{entries_of};
 ghost use Rattle.session_plan.specs.Choosing.{action_or_sync, is_sync};
@@ -11,6 +11,7 @@ ghost use Rattle.session_plan.specs.PlannedLosses as planned_losses;
 
 use crate::archive::is_same;
 use crate::limits::archived;
+use crate::partings::is_unmet;
 use crate::planned::Planned;
 use crate::planning::{base_records, records_in};
 use crate::strangers::{has_lost_all, is_stranger_to};
@@ -95,18 +96,21 @@ fn goes_by_both(action: Option<Action>) -> bool
     }
 }
 
-// Whether the handheld is a stranger to the slot, or lost a planned database.
+// Whether the handheld is a stranger to the slot or to a planned database, or lost it.
 fn may_lose<D: Folder>(desk: &Desk<D>, handheld: &UserInfo, one: &Planned) -> bool
-    ensures { result ≡ planned_losses.may_lose_planned handheld.now (marks_in desk.now) (shelves_in desk.now) one.now }
+    ensures { result ≡ planned_losses.may_lose_planned handheld.now (marks_in desk.now)
+        (parted_in desk.now) (shelves_in desk.now) one.now }
 {
     let name = &one.job.name;
     let base = base_records(desk.rows(name), desk.base(name));
-    is_stranger_to(handheld, desk.marks()) || has_lost_all(base, &one.view.seen)
+    (is_stranger_to(handheld, desk.marks()) || is_unmet(desk.parting(name)))
+        || has_lost_all(base, &one.view.seen)
 }
 
 // Whether a planned database is not skipped, goes by both sides and their base, and costs the desktop live rows.
 fn is_loss<D: Folder>(desk: &Desk<D>, handheld: &UserInfo, one: &Planned) -> bool
-    ensures { result ≡ planned_losses.is_loss_planned handheld.now (marks_in desk.now) (shelves_in desk.now) one.now }
+    ensures { result ≡ planned_losses.is_loss_planned handheld.now (marks_in desk.now)
+        (parted_in desk.now) (shelves_in desk.now) one.now }
 {
     let name = &one.job.name;
     one.job.skip.is_none()
@@ -122,13 +126,13 @@ fn first_in<'p, D: Folder>(
     planned: &'p [Planned],
 ) -> Option<&'p Planned>
     ensures { option_copied result ≡ find (planned_losses.is_loss_planned handheld.now (marks_in desk.now)
-        (shelves_in desk.now)) planned.entry.now }
+        (parted_in desk.now) (shelves_in desk.now)) planned.entry.now }
 {
     planned.iter().find(|one| is_loss(desk, handheld, one))
 }
 
 /// The name of the first planned database by which the session would cost the desktop live rows: it is not skipped and goes by both sides
-/// and their base, the handheld is a stranger to the desktop's slot or has none of the records that both sides agreed on, and its plan
+/// and their base, the handheld is a stranger to the desktop's slot or to the database, or has none of the records that both sides agreed on, and its plan
 /// leaves the content of some live row neither live nor archived.
 #[tactic(auto, unfolding(crate::specs::PlannedLosses::loss_planned))]
 pub fn first_loss<D: Folder>(
@@ -137,7 +141,7 @@ pub fn first_loss<D: Folder>(
     planned: &[Planned],
 ) -> Option<DbName>
     ensures { result ≡ planned_losses.loss_planned handheld.now (marks_in desk.now)
-        (shelves_in desk.now) planned.now }
+        (parted_in desk.now) (shelves_in desk.now) planned.now }
 {
     match first_in(desk, handheld, planned) {
         Some(one) => Some(one.job.name.copy()),

@@ -1,12 +1,14 @@
 // What is planned for the databases of a session.
 ghost use Rattle.std.specs.Prelude.{◌≡◌, IfOk, is_some, length};
 ghost use Rattle.std.specs.Option.{option_copied};
-ghost use Rattle.desk_store.specs.Views.{shelves_in};
+ghost use Rattle.desk_store.specs.Views.{parted_in, shelves_in};
 ghost use Rattle.session_plan.specs.Choosing.{action_or_sync, base_rows_by};
+ghost use Rattle.session_plan.specs.Partings.{agrees_with};
 ghost use Rattle.session_plan.specs.Planning.{ArePlanned, IsPlanUnder};
 ghost use Rattle.session_plan.specs.Tasks.{records_of};
 
 use crate::job::Job;
+use crate::partings::agrees_with;
 use crate::planned::Planned;
 use conduit_rules::{Action, Plan, View, plan};
 use desk_store::Desk;
@@ -55,7 +57,8 @@ fn plan_job<D: Folder>(
     job: &Job,
     view: &View,
 ) -> Result<Plan, AllocError>
-    ensures { IfOk result (λ plan. IsPlanUnder (shelves_in desk.now) agree job.now view.now plan) }
+    ensures { IfOk result (λ plan. IsPlanUnder (shelves_in desk.now)
+        (agrees_with agree (parted_in desk.now)) job.now view.now plan) }
 {
     let rows = desk.rows(&job.name);
     let base = base_records(rows, desk.base(&job.name));
@@ -64,13 +67,14 @@ fn plan_job<D: Folder>(
         view,
         records_in(rows),
         base,
-        !agree,
+        !agrees_with(desk, agree, &job.name),
         action_of(job.action),
     )
 }
 
 /// Plans what is done with each of these databases, from what was seen of it and from what the desktop's picked slot has. `agree`
-/// says whether both sides agree; where they don't, gone base rows count.
+/// says whether the marks of both sides agree; where they don't, or a database took no part in the slot's last session, its gone base
+/// rows count.
 pub fn plan_all<D: Folder>(
     alloc: Global,
     desk: &Desk<D>,
@@ -80,7 +84,8 @@ pub fn plan_all<D: Folder>(
 ) -> Result<Vec<Planned>, AllocError>
     requires { length views.items ≡ length jobs.items }
     ensures { IfOk result (λ planned.
-        ArePlanned (shelves_in desk.now) agree jobs.items views.items planned.items) }
+        ArePlanned (shelves_in desk.now) (agrees_with agree (parted_in desk.now))
+        jobs.items views.items planned.items) }
 {
     let mut planned = Vec::new(alloc);
     for (job, view) in jobs.into_iter().zip(views) {

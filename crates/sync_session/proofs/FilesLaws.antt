@@ -7,7 +7,7 @@ use Rattle.desk_journal.specs.Entries.{EntryValue}
 use Rattle.desk_journal.proofs.StepLaws.{all-append}
 use Rattle.desk_store.specs.Changes.{archive_entries, db_entries, slots_entry}
 use Rattle.desk_store.specs.DeskFiles.{slot_file}
-use Rattle.desk_store.specs.Shelves.{marks_of}
+use Rattle.desk_store.specs.Shelves.{marks_of, infos_of}
 use Rattle.desk_store.specs.declared.change.DbChange.{DbChange}
 use Rattle.desk_store.specs.declared.role.Role.{Role}
 use Rattle.desk_store.specs.declared.role.Role.TheVariants.{Archive, Base, Rows}
@@ -20,6 +20,7 @@ use Rattle.sync_session.proofs.SwapLaws.{HasName}
 use Rattle.sync_session.proofs.TakenLaws.{change-task, old_at, planned_name, rows_at, rows_name}
 use Rattle.std.proofs.lemmas.Bool.{or_left, or_right}
 use Rattle.pdb_values.proofs.NamedLaws.{bytes_eq-own}
+use Rattle.folder_files.specs.Slots.{SlotInfoValue}
 
 -- ---- the changes
 
@@ -97,7 +98,7 @@ module _ (meeting : Meeting) where
   unfolding taken_entries tasks
   taken-files planned ids are =
       let changes : List DbChange = changes_of meeting.wishes.date (slot_of meeting).shelves planned ids in
-      let marks : List Marks = marks_of (taken_slots meeting.wishes.date meeting.device.user planned ids meeting.picked meeting.slots) in
-      all-append (λ (entry : EntryValue). IsCommitFile meeting entry.name) (flat_map (db_entries meeting.picked) changes) (slots_entry marks ∷ [])
+      let infos : List SlotInfoValue = infos_of (taken_slots meeting.wishes.date meeting.device.user planned ids meeting.picked meeting.slots) in
+      all-append (λ (entry : EntryValue). IsCommitFile meeting entry.name) (flat_map (db_entries meeting.picked) changes) (slots_entry infos ∷ [])
       (all_flat (λ (entry : EntryValue). IsCommitFile meeting entry.name) (IsTaskChange meeting) (db_entries meeting.picked) changes change_files
       (changes-of_tasks meeting (names meeting) planned ids (named_in (names meeting) (names meeting) (λ name is. is)) are)) (inl refl, tt)

@@ -23,7 +23,7 @@ use Rattle.mirrors.specs.Agreements.{agreed}
 use Rattle.conduit_rules.specs.declared.action.Action.{Action}
 use Rattle.conduit_rules.specs.declared.planned.Plan.{Plan}
 use Rattle.desk_store.specs.Shelves.{ShelvesValue}
-use Rattle.desk_store.specs.Views.{DeskValue, marks_in, shelves_in}
+use Rattle.desk_store.specs.Views.{DeskValue, marks_in, parted_in, shelves_in}
 use Rattle.desk_store.specs.Desks.{all_rows}
 use Rattle.mirrors.specs.News.{AreIdsOf, as_new, news_of}
 use Rattle.sync_session.specs.Courses.{AfterReading, Prepares, ReadsAll}
@@ -41,6 +41,7 @@ use Rattle.session_plan.specs.declared.planned.Planned.{Planned}
 use Rattle.sync_session.specs.declared.preparing.Prepared.{Prepared}
 use Rattle.session_parts.specs.declared.skip.Skip.{Skip}
 use Rattle.session_plan.specs.declared.wishes.Wishes.{Wishes}
+use Rattle.session_plan.specs.Partings.{agrees_with}
 
 -- ---- rows
 
@@ -101,7 +102,7 @@ counted-by None None None name plan told handle given ids got none (inr there) =
 
 -- ---- a database of a session can be taken
 
-module _ (date : ℕ) (heads : List DbHead) (shelves : ShelvesValue) (agree : Bool) (wishes : Wishes) where
+module _ (date : ℕ) (heads : List DbHead) (shelves : ShelvesValue) (agree : List ℕ → Bool) (wishes : Wishes) where
   rows-take : (name : List ℕ) (plan : Plan) (given : List ℕ) (rows : Option DatabaseValue) (handheld : Option DbHead)
       → database_of name shelves.rows ≡ rows → head_named name heads ≡ handheld
       → (passes holds_resources handheld ≡ false) × (passes holds_resources (head_of rows) ≡ false)
@@ -195,7 +196,7 @@ module _ {L F : Type 0} {talk : L → Option Talk} {since : L → L → Type 0} 
           → AfterReading heads desk new.user reading (Ok prepared) → AreOfSession (shelves_in desk) prepared.planned.items
       by (Ok planned) reads goes =
           subst (λ (p : Vec Planned). AreOfSession (shelves_in desk) p.items) (sym goes.1)
-          (record { heads = heads; agree = agreed old.user (marks_in desk); wishes = wishes; are = reads.plans.jobs_are })
+          (record { heads = heads; agree = agrees_with (agreed old.user (marks_in desk)) (parted_in desk); wishes = wishes; are = reads.plans.jobs_are })
       by (Err cause) reads goes = absurd cc
 
   pub prepared-few : length (unskipped prepared.planned.items) ≤ 200

@@ -11,7 +11,7 @@ use Rattle.session_parts.proofs.LinkWords.{LinkFault, Talk, SessionValue, Act, t
 use Rattle.desk_journal.specs.Entries.{EntryValue}
 use Rattle.desk_journal.specs.Overlays.{FinishesAs, finished, put_all}
 use Rattle.desk_journal.proofs.StepLaws.{all-append}
-use Rattle.folder_files.specs.Slots.{users_of}
+use Rattle.folder_files.specs.Slots.{users_of, SlotInfoValue}
 use Rattle.sync_session.proofs.MeetingWords.{DbHead, DatabaseValue, SlotValue, marks_of, slot_at, DeskValue, marks_in, shelves_in, gained, news_under}
 use Rattle.sync_session.proofs.MeetingWords.{SpansBehind, each_acts, Planned}
 use Rattle.desk_store.specs.Changes.{archive_entries, db_entries, slots_entry}
@@ -45,6 +45,8 @@ use Rattle.session_parts.specs.declared.stop.Stop.TheVariants as stop
 use Rattle.session_plan.specs.declared.wishes.Wishes.{Wishes}
 use Rattle.session_parts.proofs.RestLaws.{all-flat_map}
 use Rattle.session_parts.proofs.SpanLaws.{on_ok}
+use Rattle.desk_store.specs.Shelves.{infos_of}
+use Rattle.desk_store.specs.Views.{parted_in}
 
 -- ---- causes
 
@@ -68,7 +70,7 @@ nor_reading : {F : Type 0} (heads : List DbHead) (desk : DeskValue F) (user : Us
     → AfterReading heads desk user reading (Err cause) → cause ≡ stop.DeskFault → ⊥
 nor_reading heads desk user (Ok planned) cause goes is =
     not_desk (limit_planned (shelves_in desk) (length heads) (all_rows desk.slots) planned.items)
-    (loss_planned user (marks_in desk) (shelves_in desk) planned.items) (reports_planned (shelves_in desk) planned.items) cause goes.0 is
+    (loss_planned user (marks_in desk) (parted_in desk) (shelves_in desk) planned.items) (reports_planned (shelves_in desk) planned.items) cause goes.0 is
 nor_reading heads desk user (Err fault) cause goes is = cc
 
 -- ---- the files of a commit
@@ -92,8 +94,8 @@ taken_files : (date : ℕ) (user : UserInfo) (planned : List Planned) (ids : Lis
 unfolding taken_entries
 taken_files date user planned ids place slots =
     let changes : List DbChange = changes_of date (slot_at slots place).shelves planned ids in
-    let marks : List Marks = marks_of (taken_slots date user planned ids place slots) in
-    all-append (λ (entry : EntryValue). IsSlotsFile place entry.name) (flat_map (db_entries place) changes) (slots_entry marks ∷ [])
+    let infos : List SlotInfoValue = infos_of (taken_slots date user planned ids place slots) in
+    all-append (λ (entry : EntryValue). IsSlotsFile place entry.name) (flat_map (db_entries place) changes) (slots_entry infos ∷ [])
     (all-flat_map (λ (entry : EntryValue). IsSlotsFile place entry.name) (db_entries place) changes (change_files place)) (inl refl, tt)
 
 -- ---- call by call

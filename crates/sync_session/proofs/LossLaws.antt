@@ -4,12 +4,14 @@ use Rattle.std.specs.Prelude.{◌&&◌, filter, find, if◌then◌else◌, is_no
 use Rattle.std.specs.List.{list_any}
 use Rattle.std.specs.Option.{option_map}
 use Rattle.pdb_values.specs.NamedDatabases.{database_of}
+use Rattle.folder_files.specs.Partings.{parting_of}
 use Rattle.sync_session.proofs.MeetingWords.{AreEachPlannedFor, ArePlannedFor, IsPlannedFor, Job, Meeting, Planned, ShelvesValue, Skip, Task}
 use Rattle.sync_session.proofs.MeetingWords.{action_or_sync, active, base_rows_by, choice}
 use Rattle.sync_session.proofs.MeetingWords.{is_sync, names, records_of, skip_of, slot_of, task_of, tasks}
 use Rattle.sync_session.proofs.ReadJoins.{job-skip}
 use Rattle.session_plan.specs.Archives.{entries_of}
 use Rattle.session_plan.specs.Losses.{first_loss, has_lost_all, is_loss, is_lost, is_stranger}
+use Rattle.session_plan.specs.Partings.{is_unmet}
 use Rattle.session_plan.specs.PlannedLosses.{is_loss_planned, loss_planned}
 
 -- ---- one database
@@ -20,7 +22,7 @@ loss_by s (Some skip) b c same on = rw same
 
 -- a planned database is a loss
 abbrev is_loss_of : Meeting → Planned → Bool
-is_loss_of meeting one = is_loss_planned meeting.device.user (slot_of meeting).marks (slot_of meeting).shelves one
+is_loss_of meeting one = is_loss_planned meeting.device.user (slot_of meeting).marks (slot_of meeting).parted (slot_of meeting).shelves one
 
 loss-is : (meeting : Meeting) (name : List ℕ) (one : Planned) → IsPlannedFor meeting (task_of meeting name) one
     → is_loss_of meeting one ≡ (is_none (skip_of (task_of meeting name)) && is_loss meeting (task_of meeting name))
@@ -30,7 +32,7 @@ loss-is meeting name one for =
     let shelves : ShelvesValue = (slot_of meeting).shelves in
     loss_by one.job.skip (skip_of task) _ _ (ap (λ (j : Job). j.skip) for.job ∙ job-skip meeting task)
     (λ none. λ k. is_sync (action_or_sync (for.job k).action)
-    && ((is_stranger meeting
+    && (((is_stranger meeting || is_unmet (parting_of (for.job k).name (slot_of meeting).parted))
     || has_lost_all (base_rows_by (database_of (for.job k).name shelves.rows) (database_of (for.job k).name shelves.bases)) (for.seen none k))
     && list_any (is_lost ((for.plan none).kept k) ((for.plan none).adds k)
     (entries_of (records_of (database_of (for.job k).name shelves.archives)) ++ (for.plan none).archive k))
@@ -66,6 +68,6 @@ losses_each meeting all planned each = absurd each
 
 -- the first planned database by which the session would cost live rows is the first one of the meeting
 pub loss_is_first_loss : (meeting : Meeting) (planned : List Planned) → ArePlannedFor meeting planned
-    → loss_planned meeting.device.user (slot_of meeting).marks (slot_of meeting).shelves planned ≡ first_loss meeting
+    → loss_planned meeting.device.user (slot_of meeting).marks (slot_of meeting).parted (slot_of meeting).shelves planned ≡ first_loss meeting
 unfolding loss_planned first_loss active tasks
 loss_is_first_loss meeting planned each = losses_each meeting (names meeting) planned each

@@ -85,7 +85,7 @@ listed-named : (name : List ℕ) (databases : List DatabaseValue)
 listed-named name databases = find-map (λ (head : DbHead). bytes_eq head.name name) listed_of databases
 
 -- the jobs that are made of the listed heads are those of the meeting
-pub jobs_meet : (meeting : Meeting) (heads : List DbHead) (shelves : ShelvesValue) (agree : Bool) (wishes : Wishes)
+pub jobs_meet : (meeting : Meeting) (heads : List DbHead) (shelves : ShelvesValue) (agree : List ℕ → Bool) (wishes : Wishes)
     → heads ≡ map (λ (database : DatabaseValue). listed database.head) meeting.device.databases → shelves ≡ (slot_of meeting).shelves
     → agree ≡ agrees meeting → wishes ≡ meeting.wishes → jobs_of heads shelves agree wishes ≡ jobs_for meeting
 unfolding jobs_of tasks
@@ -97,7 +97,7 @@ jobs_meet meeting heads shelves agree wishes heads_are shelves_are same asked =
     let each : map (job_of listed_heads own (agrees meeting) meeting.wishes) (names meeting)
     ≡ map (λ name. job_for meeting (task_of meeting name)) (names meeting)
     = λ k. map (λ name. let task = task_of meeting name in
-    job_by name (listed-named name meeting.device.databases k) (head_of task.rows) (is_some task.base) task.action (agrees meeting) meeting.wishes.slow)
+    job_by name (listed-named name meeting.device.databases k) (head_of task.rows) (is_some task.base) task.action (agrees meeting name) meeting.wishes.slow)
     (names meeting) in
     rw (heads_are, shelves_are, same, asked) (ap (map (job_of listed_heads own (agrees meeting) meeting.wishes)) names_are ∙ each
     ∙ sym (map-map (job_for meeting) (task_of meeting) (names meeting)))

@@ -5,7 +5,7 @@ pub use Rattle.pdb_values.specs.declared.head.DbHead.{DbHead}
 pub use Rattle.conduit_rules.specs.Plans.{IsPlan, kept_rows, lost, purged_at, purged_ids, replaced_rows, replacement}
 pub use Rattle.conduit_rules.specs.declared.planned.Plan.{Plan}
 pub use Rattle.desk_store.specs.Shelves.{AreInOrder, AreOrdered, ShelvesValue, SlotValue, marks_of, new_slot, number_of, slot_at, with_place}
-pub use Rattle.desk_store.specs.Views.{DeskValue, marks_in, shelves_in}
+pub use Rattle.desk_store.specs.Views.{DeskValue, marks_in, parted_in, shelves_in}
 pub use Rattle.session_plan.specs.declared.job.Job.{Job}
 pub use Rattle.session_plan.specs.declared.planned.Planned.{Planned}
 pub use Rattle.session_parts.specs.declared.skip.Skip.{Skip}

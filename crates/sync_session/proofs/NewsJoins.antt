@@ -142,8 +142,8 @@ module _ (meeting : Meeting) (task : Task) where
   unfolding choice sides
   rowless_adds none =
       let a : Action = action_or_sync task.action in
-      let s : Sides = sides_by (view meeting task) None task.base (agrees meeting) in
-      ap (λ rows. (choice_for a (sides_by (view meeting task) rows task.base (agrees meeting))).adds) none
+      let s : Sides = sides_by (view meeting task) None task.base (agrees meeting task.name) in
+      ap (λ rows. (choice_for a (sides_by (view meeting task) rows task.base (agrees meeting task.name))).adds) none
       ∙ none_added a s refl refl (λ i. ap (λ b. (fate_under a b (s.handheld i) (s.desktop i)).news) (never_based (i == 0))
       ∙ unbased_news a (s.handheld i) (s.desktop i))
 

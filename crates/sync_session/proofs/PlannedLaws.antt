@@ -54,7 +54,7 @@ rest_same : {A : Type 0} (x y : A) (xs ys : List A) → x ∷ xs ≡ y ∷ ys �
 rest_same x y xs ys is = let same : xs ≡ ys = cc in same
 
 -- one of them
-plan_for : (meeting : Meeting) (agree : Bool) (name : List ℕ) (one : Planned) (seen : View) → agree ≡ agrees meeting
+plan_for : (meeting : Meeting) (agree : List ℕ → Bool) (name : List ℕ) (one : Planned) (seen : View) → agree ≡ agrees meeting
     → one.job ≡ job_for meeting (task_of meeting name) → one.view ≡ seen → IsSeen meeting (task_of meeting name) seen
     → IsPlanUnder (slot_of meeting).shelves agree one.job one.view one.plan → IsPlannedFor meeting (task_of meeting name) one
 unfolding sides
@@ -68,7 +68,7 @@ plan_for meeting agree name one seen same is shown seen_is planned =
       plan = λ none. rw (is, same, viewed none) at planned;
     }
 
-plans_for : (meeting : Meeting) (agree : Bool) (ns : List (List ℕ)) (planned : List Planned) (seen : List View) → agree ≡ agrees meeting
+plans_for : (meeting : Meeting) (agree : List ℕ → Bool) (ns : List (List ℕ)) (planned : List Planned) (seen : List View) → agree ≡ agrees meeting
     → map (λ (one : Planned). one.job) planned ≡ map (job_for meeting) (map (task_of meeting) ns) → map (λ (one : Planned). one.view) planned ≡ seen
     → Pairs (IsSeen meeting) (map (task_of meeting) ns) seen
     → AllByRecursion (λ (one : Planned). IsPlanUnder (slot_of meeting).shelves agree one.job one.view one.plan) planned
@@ -83,7 +83,7 @@ plans_for meeting agree (name ∷ ns) (one ∷ planned) (v ∷ seen) same jobs v
 )
 
 -- from the desktop's picked slot, and what was seen of each database that isn't skipped
-pub plans_join : (meeting : Meeting) (shelves : ShelvesValue) (agree : Bool) (jobs : List Job) (seen : List View) (planned : List Planned)
+pub plans_join : (meeting : Meeting) (shelves : ShelvesValue) (agree : List ℕ → Bool) (jobs : List Job) (seen : List View) (planned : List Planned)
     → shelves ≡ (slot_of meeting).shelves → agree ≡ agrees meeting → jobs ≡ jobs_for meeting → Pairs (IsSeen meeting) (tasks meeting) seen
     → ArePlanned shelves agree jobs seen planned → ArePlannedFor meeting planned
 unfolding tasks

@@ -124,7 +124,7 @@ fast_rows agree slow sync handheld None base is =
 fast-base : (meeting : Meeting) (task : Task) → is_fast meeting task ≡ true → base_rows task ≡ records_of task.base
 unfolding is_fast
 fast-base meeting task is =
-    fast_rows (agrees meeting) meeting.wishes.slow (is_sync (action_or_sync task.action)) (is_some task.handheld) task.rows task.base is
+    fast_rows (agrees meeting task.name) meeting.wishes.slow (is_sync (action_or_sync task.action)) (is_some task.handheld) task.rows task.base is
 
 -- ---- what a reading leaves
 
@@ -153,10 +153,10 @@ view_by b rows records = if b then fast_view rows records else slow_view records
 missing-view : (meeting : Meeting) (task : Task) → task.handheld ≡ None → view meeting task ≡ []
 unfolding view is_fast
 missing-view meeting task none =
-    ap (λ h. view_by (is_fast_by (agrees meeting) meeting.wishes.slow (action_or_sync task.action) (is_some h) (is_some task.rows) (is_some task.base))
+    ap (λ h. view_by (is_fast_by (agrees meeting task.name) meeting.wishes.slow (action_or_sync task.action) (is_some h) (is_some task.rows) (is_some task.base))
     (base_rows task) (records_of h)) none
     ∙ ap (λ b. view_by b (base_rows task) [])
-    (never_fast (agrees meeting) meeting.wishes.slow (is_sync (action_or_sync task.action)) (is_some task.rows) (is_some task.base))
+    (never_fast (agrees meeting task.name) meeting.wishes.slow (is_sync (action_or_sync task.action)) (is_some task.rows) (is_some task.base))
     ∙ none_seen
 
 -- ---- one database

@@ -4,7 +4,7 @@ use Rattle.std.specs.Prelude.{◌⊎◌, Option, None, Some, IfErr, IsOk, Ok, Er
 use Rattle.std.specs.Global.{Vec}
 use Rattle.hs_folders.specs.FileMaps.{FileMap}
 use Rattle.hs_folders.specs.Moments.{Moments}
-use Rattle.sync_session.proofs.MeetingWords.{DbHead, AreInOrder, marks_of, DeskValue, marks_in, shelves_in, DatabaseValue, Planned, ArePlannedFor, IsAtRest}
+use Rattle.sync_session.proofs.MeetingWords.{DbHead, AreInOrder, marks_of, DeskValue, marks_in, parted_in, shelves_in, DatabaseValue, Planned, ArePlannedFor, IsAtRest}
 use Rattle.sync_session.proofs.MeetingWords.{before_writes, greeting, listing_all, Meeting, meeting_of, slot_of, agrees}
 use Rattle.pdb_values.specs.declared.user.UserInfo.{UserInfo}
 use Rattle.folder_files.specs.Slots.{users_of}
@@ -51,6 +51,7 @@ use Rattle.sync_session.proofs.ReadJoins.{jobs_for}
 use Rattle.session_plan.specs.PlannedLimits.{limit_planned}
 use Rattle.session_plan.specs.PlannedLosses.{loss_planned}
 use Rattle.session_plan.specs.PlannedReports.{reports_planned}
+use Rattle.session_plan.specs.Partings.{agrees_with}
 use Rattle.sync_session.proofs.OutcomeLaws.{EndsSo, SaysRefusal, cause_says, ends_unwritten, later_stop, news_ends, seated_says}
 
 -- ---- what is found of the limits, and of what the session would cost
@@ -152,12 +153,12 @@ module _ {L F : Type 0} (talk : L → Option Talk) (since : L → L → Type 0) 
     own_shelves : shelves_in desk ≡ (slot_of meeting).shelves
     own_shelves = rw (so.slots, so.picked)
 
-    own_agree : agreed now.user (marks_in desk) ≡ agrees meeting
+    own_agree : agrees_with (agreed now.user (marks_in desk)) (parted_in desk) ≡ agrees meeting
     unfolding agrees
     own_agree = rw (so.user, so.slots, so.picked)
 
     own_jobs : jobs_met heads wishes desk now.user ≡ jobs_for meeting
-    own_jobs = jobs_meet meeting heads (shelves_in desk) (agreed now.user (marks_in desk)) wishes so.heads_are own_shelves own_agree so.asked
+    own_jobs = jobs_meet meeting heads (shelves_in desk) (agrees_with (agreed now.user (marks_in desk)) (parted_in desk)) wishes so.heads_are own_shelves own_agree so.asked
 
     -- what is found of the limits is what the meeting finds
     own_over : (planned : List Planned) → ArePlannedFor meeting planned
@@ -168,7 +169,7 @@ module _ {L F : Type 0} (talk : L → Option Talk) (since : L → L → Type 0) 
 
     -- and so is what is found of its cost
     own_loss : (user : UserInfo) (planned : List Planned) → user ≡ meeting.device.user → ArePlannedFor meeting planned
-        → loss_planned user (marks_in desk) (shelves_in desk) planned ≡ first_loss meeting
+        → loss_planned user (marks_in desk) (parted_in desk) (shelves_in desk) planned ≡ first_loss meeting
     own_loss user planned same are = rw (same, so.slots, so.picked) (loss_is_first_loss meeting planned are)
 
     -- all was read, and then judged
@@ -178,13 +179,13 @@ module _ {L F : Type 0} (talk : L → Option Talk) (since : L → L → Type 0) 
     judged_ends {then} {planned} answer {left} reads judged goes =
         let reach = reads_reach since_more meeting so.rests so.starts own_shelves own_jobs so.met reads.reads in
         let are : ArePlannedFor meeting planned.items
-        = plans_join meeting (shelves_in desk) (agreed now.user (marks_in desk)) (jobs_met heads wishes desk now.user)
+        = plans_join meeting (shelves_in desk) (agrees_with (agreed now.user (marks_in desk)) (parted_in desk)) (jobs_met heads wishes desk now.user)
         (map (λ (one : Planned). one.view) planned.items) planned.items own_shelves own_agree own_jobs reach.seen reads.plans in
         step answer are (own_over planned.items are) (own_loss then.user planned.items (reads.reads.user ∙ so.user) are) reach judged goes
       where
         step : (answer : Result Prepared Stop) → ArePlannedFor meeting planned.items
             → limit_planned (shelves_in desk) (length heads) (all_rows desk.slots) planned.items ≡ first_over meeting
-            → loss_planned then.user (marks_in desk) (shelves_in desk) planned.items ≡ first_loss meeting
+            → loss_planned then.user (marks_in desk) (parted_in desk) (shelves_in desk) planned.items ≡ first_loss meeting
             → ReadsReach talk since fault downs meeting (map (λ (one : Planned). one.view) planned.items) old then.link
             → AfterReading heads desk then.user (Ok planned) answer
             → AfterPreparing talk since fault downs contents moments paths faults wishes.date then desk answer left → Ends desk.folder left

@@ -1,13 +1,13 @@
 -- What the desktop takes at a meeting is the merge of its databases.
 use Rattle.std.proofs.Common.{◌≡◌, ◌∙◌, ap, refl, sym, subst, ℕ, zero, suc, false, List, [], ◌∷◌, ◌++◌, map, filter, length}
-use Rattle.std.specs.Prelude.{IfSome, Option, Some, None, if◌then◌else◌, is_none, slice_index_or, slice_set}
+use Rattle.std.specs.Prelude.{IfSome, Option, Some, None, if◌then◌else◌, is_none, slice_index_or, slice_set, is_some}
 use Rattle.std.specs.List.{AllByRecursion, flat_map, list_any}
 use Rattle.std.specs.Str.{bytes_eq}
 use Rattle.std.proofs.Math.Seq.{drop-append_seam, take-append_seam}
 use Rattle.std.proofs.lemmas.Bool.{or_parts}
 use Rattle.sync_session.proofs.MeetingWords.{DatabaseValue, IsPlan, Plan, AreInOrder, AreOrdered, ShelvesValue, SlotValue, new_slot, number_of, with_place}
 use Rattle.sync_session.proofs.MeetingWords.{action_or_sync, choice, sides, AreEachPlannedFor, ArePlannedFor, IsPlannedFor, listed_head, active, skip_of}
-use Rattle.sync_session.proofs.MeetingWords.{Meeting, Task, names, records_of, slot_of, task_of, tasks, Planned, Skip}
+use Rattle.sync_session.proofs.MeetingWords.{Meeting, Task, names, records_of, slot_of, task_of, tasks, Planned, Skip, Job}
 use Rattle.pdb_values.specs.declared.record.Record.{Record}
 use Rattle.pdb_values.proofs.NamedLaws.{database_of-name}
 use Rattle.palm_device.specs.Blocks.{empty_database}
@@ -19,7 +19,7 @@ use Rattle.desk_store.proofs.ChangedLaws.{ordered_changes}
 use Rattle.session_plan.specs.Archives.{archive_records, entries_of}
 use Rattle.sync_session.specs.Given.{AreDealtTo}
 use Rattle.session_plan.specs.Heads.{rows_head}
-use Rattle.session_plan.specs.Merges.{DesktopMerge, archive_of, beside, merged_of, merged_shelves, merged_slot, merged_slots, rows_before, shelve, shelved}
+use Rattle.session_plan.specs.Merges.{DesktopMerge, archive_of, beside, merged_of, merged_shelves, merged_slot, merged_slots, rows_before, shelve, shelved, parted_met}
 use Rattle.session_plan.specs.Choosing.{add_count}
 use Rattle.session_plan.specs.Takes.{change_from, change_of, change_unless, changes_of, planned_archive, planned_change, rows_begun, taken_slots}
 use Rattle.session_plan.specs.Users.{done_marks}
@@ -29,6 +29,10 @@ use Rattle.sync_session.proofs.ReadJoins.{job-skip}
 use Rattle.session_plan.proofs.RowLaws.{base-merged, rows-merged}
 use Rattle.sync_session.proofs.SwapLaws.{HasName, HasOther, with_changes-first}
 use Rattle.desk_journal.proofs.StepLaws.{all-append}
+use Rattle.session_plan.specs.Partings.{parted_planned, parting_by, with_parting}
+use Rattle.folder_files.specs.Partings.{parting_of}
+use Rattle.session_plan.specs.Losses.{is_stranger}
+use Rattle.pdb_values.specs.NamedDatabases.{database_of}
 
 -- ---- one database
 
@@ -203,6 +207,21 @@ ordered_at [] place other ordered behind = behind
 ordered_at (slot ∷ slots) zero other ordered behind = ordered.0
 ordered_at (slot ∷ slots) (suc place) other ordered behind = ordered_at slots place other ordered.1 behind
 
+-- what it keeps of the databases that took no part is what the meeting keeps
+parted-taken : (meeting : Meeting) (ns : List (List ℕ)) (planned : List Planned) → AreEachPlannedFor meeting (map (task_of meeting) ns) planned
+    → parted_planned (is_stranger meeting) (slot_of meeting).shelves (slot_of meeting).parted planned
+    ≡ parted_met meeting (map (task_of meeting) ns)
+parted-taken meeting [] [] are = refl
+parted-taken meeting (n ∷ ns) (one ∷ planned) are =
+    let task : Task = task_of meeting n in
+    let slot : SlotValue = slot_of meeting in
+    let skip : one.job.skip ≡ skip_of task = ap (λ (job : Job). job.skip) are.0.job ∙ job-skip meeting task in
+    λ k. with_parting (are.0.job k).name
+    (parting_by (is_stranger meeting) (is_some (database_of (are.0.job k).name slot.shelves.bases)) (parting_of (are.0.job k).name slot.parted)
+    (skip k)) (parted-taken meeting ns planned are.1 k)
+parted-taken meeting [] (one ∷ planned) are = absurd are
+parted-taken meeting (n ∷ ns) [] are = absurd are
+
 -- what the picked slot takes, with its ids dealt out to its databases, is the merge
 pub taken-merged : (meeting : Meeting) (planned : List Planned) (ids : List (List ℕ)) → AreInOrder meeting.slots → ArePlannedFor meeting planned
     → AreDealtTo meeting (tasks meeting) ids
@@ -212,6 +231,10 @@ unfolding taken_slots merged_slots merged_slot tasks active
 taken-merged meeting planned ids ordered are deals =
     let first : AreOrdered (slot_of meeting).shelves
     = ordered_at meeting.slots meeting.picked (new_slot (number_of meeting.slots)) ordered (record { rows = tt; bases = tt; archives = tt }) in
-    ap (λ (shelves : ShelvesValue). slice_set (with_place meeting.slots meeting.picked) meeting.picked
-    (record { marks = done_marks meeting.wishes.date meeting.device.user (slot_of meeting).marks; shelves = shelves }))
-    (shelves-taken meeting (names meeting) planned ids (names-once meeting) are deals (slot_of meeting).shelves first)
+    let parted = parted-taken meeting (names meeting) planned are in
+    let shelves = shelves-taken meeting (names meeting) planned ids (names-once meeting) are deals (slot_of meeting).shelves first in
+    λ k. slice_set (with_place meeting.slots meeting.picked) meeting.picked (record {
+      marks = done_marks meeting.wishes.date meeting.device.user (slot_of meeting).marks;
+      parted = parted k;
+      shelves = shelves k;
+    })

@@ -1,6 +1,6 @@
 -- What a session writes goes by the jobs and the plans of its databases, not by their views.
 use Rattle.std.proofs.lemmas.Result.{IfOk-weaker}
-use Rattle.std.proofs.Common.{◌≡◌, ◌∙◌, ap, refl, sym, subst, ℕ, suc, List, [], ◌∷◌, ◌++◌, length, map, Option, None, Some, Ok, Err, Result}
+use Rattle.std.proofs.Common.{◌≡◌, ◌∙◌, ap, refl, sym, subst, ℕ, Bool, suc, List, [], ◌∷◌, ◌++◌, length, map, Option, None, Some, Ok, Err, Result}
 use Rattle.std.proofs.Common.{◌+◌, ◌<◌, add-one, get_or, take, take-suc-set}
 use Rattle.std.proofs.lemmas.List.Elements.{All-push}
 use Rattle.std.proofs.lemmas.List.{map-set, set-get_or}
@@ -27,6 +27,8 @@ use Rattle.sync_session.specs.Endings.{Ends}
 use Rattle.sync_session.specs.Phases.{GainsEach}
 use Rattle.sync_session.specs.Unseen.{HasNoView, SameButViews}
 use Rattle.sync_session.specs.declared.preparing.Prepared.{Prepared}
+use Rattle.session_plan.specs.Partings.{parted_planned, parting_planned, with_parting}
+use Rattle.folder_files.specs.declared.parted.Parted.{Parted}
 
 -- ---- what goes by jobs and plans
 
@@ -125,10 +127,16 @@ module _ (view : View) where
   changes_of-seen date shelves (one ∷ planned) (given ∷ ids) =
       ap (λ changes. change_of date shelves one given ++ changes) (changes_of-seen date shelves planned ids)
 
+  parted-seen : (stranger : Bool) (shelves : ShelvesValue) (before : List Parted) (planned : List Planned)
+      → parted_planned stranger shelves before (map (seen_as view) planned) ≡ parted_planned stranger shelves before planned
+  parted-seen stranger shelves before [] = refl
+  parted-seen stranger shelves before (one ∷ planned) =
+      ap (with_parting one.job.name (parting_planned stranger shelves before one)) (parted-seen stranger shelves before planned)
+
   taken_slots-seen : (date : ℕ) (user : UserInfo) (planned : List Planned) (ids : List (List ℕ)) (place : ℕ) (slots : List SlotValue)
       → taken_slots date user (map (seen_as view) planned) ids place slots ≡ taken_slots date user planned ids place slots
   unfolding taken_slots
-  taken_slots-seen date user planned ids place slots = rw changes_of-seen refl
+  taken_slots-seen date user planned ids place slots = rw (changes_of-seen, parted-seen) refl
 
   taken_entries-seen : (date : ℕ) (user : UserInfo) (planned : List Planned) (ids : List (List ℕ)) (place : ℕ) (slots : List SlotValue)
       → taken_entries date user (map (seen_as view) planned) ids place slots ≡ taken_entries date user planned ids place slots

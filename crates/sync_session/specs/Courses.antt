@@ -14,7 +14,7 @@ use Rattle.dlp_commands.specs.Talks.{Talk}
 use Rattle.desk_store.specs.declared.fault.CommitFault.{CommitFault}
 use Rattle.desk_store.specs.Desks.{all_rows, place_of}
 use Rattle.desk_store.specs.Shelves.{marks_of}
-use Rattle.desk_store.specs.Views.{DeskValue, marks_in, shelves_in}
+use Rattle.desk_store.specs.Views.{DeskValue, marks_in, parted_in, shelves_in}
 use Rattle.desktop_session.specs.declared.ending.Ended.{Ended}
 use Rattle.desktop_session.specs.declared.ending.Halted.{Halted}
 use Rattle.desktop_session.specs.declared.fault.SessionFault.{SessionFault}
@@ -47,6 +47,7 @@ use Rattle.session_parts.specs.Stopping.{stop_of}
 use Rattle.session_parts.specs.Stretches.{SpansBehind, SpansEach}
 use Rattle.session_plan.specs.Takes.{each_of}
 use Rattle.session_plan.specs.Users.{begun_user, done_user}
+use Rattle.session_plan.specs.Partings.{agrees_with}
 
 -- ---- what is left
 
@@ -130,7 +131,7 @@ pub record Writes {L F : Type 0} (talk : L → Option Talk) (since : L → L →
 -- the databases of a session, as the handheld listed their heads and the desktop has them
 abbrev pub jobs_met : {F : Type 0} → List DbHead → Wishes → DeskValue F → UserInfo → List Job
 jobs_met heads wishes desk user =
-    jobs_of heads (shelves_in desk) (agreed user (marks_in desk)) wishes
+    jobs_of heads (shelves_in desk) (agrees_with (agreed user (marks_in desk)) (parted_in desk)) wishes
 
 -- they were to be read, and planned
 pub record ReadsAll {L F : Type 0} (talk : L → Option Talk) (since : L → L → Type 0)
@@ -141,7 +142,8 @@ pub record ReadsAll {L F : Type 0} (talk : L → Option Talk) (since : L → L �
       (ShowsEach (shelves_in desk)) (jobs_met heads wishes desk old.user)
       (λ (planned : Vec Planned). map (λ (one : Planned). one.view) planned.items) old new answer
   pub plans : IfOk answer
-      (λ planned. ArePlanned (shelves_in desk) (agreed old.user (marks_in desk))
+      (λ planned. ArePlanned (shelves_in desk)
+      (agrees_with (agreed old.user (marks_in desk)) (parted_in desk))
       (jobs_met heads wishes desk old.user)
       (map (λ (one : Planned). one.view) planned.items) planned.items)
 
@@ -156,7 +158,7 @@ abbrev pub JudgesPlanned : {F : Type 0} → DeskValue F → UserInfo → ℕ →
     → Result (Vec DbReport) Stop → Type 0
 JudgesPlanned desk user listed planned answer =
     Judges (limit_planned (shelves_in desk) listed (all_rows desk.slots) planned)
-    (loss_planned user (marks_in desk) (shelves_in desk) planned)
+    (loss_planned user (marks_in desk) (parted_in desk) (shelves_in desk) planned)
     (reports_planned (shelves_in desk) planned) answer
 
 -- so they were, or not all was read

@@ -24,7 +24,7 @@ listed_head database = option_map (λ (database : DatabaseValue). listed databas
 abbrev pub job_for : Meeting → Task → Job
 job_for meeting task =
     job_by task.name (listed_head task.handheld) (head_of task.rows)
-    (is_some task.base) task.action (agrees meeting) meeting.wishes.slow
+    (is_some task.base) task.action (agrees meeting task.name) meeting.wishes.slow
 
 -- it is that of the meeting, and where it isn't skipped it was seen as it is, and what is planned
 -- is the plan of its action

@@ -61,7 +61,8 @@ pub fn the_first_over_is_the_meetings()
 /// The first planned database by which the session would cost the desktop live rows is the first one of the meeting.
 pub fn the_first_loss_is_the_meetings()
     ensures { (meeting : Meeting) (planned : List Planned) → ArePlannedFor meeting planned
-        → loss_planned meeting.device.user (slot_of meeting).marks (slot_of meeting).shelves planned
+        → loss_planned meeting.device.user (slot_of meeting).marks (slot_of meeting).parted
+        (slot_of meeting).shelves planned
         ≡ first_loss meeting }
 {}
 

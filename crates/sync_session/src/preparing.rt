@@ -1,6 +1,6 @@
 // What a session does before it writes.
 ghost use Rattle.std.specs.Prelude.{◌≡◌, All, OnOk, false};
-ghost use Rattle.desk_store.specs.Views.{marks_in, shelves_in};
+ghost use Rattle.desk_store.specs.Views.{marks_in, parted_in, shelves_in};
 ghost use Rattle.sync_session.specs.Courses.{JudgesPlanned, Prepares, ReadsAll};
 ghost use Rattle.sync_session.specs.Unseen.{HasNoView, SameButViews};
 ghost use Rattle.session_plan.specs.PlannedLosses.{loss_planned};
@@ -64,7 +64,8 @@ fn refusal_of<D: Folder>(
     planned: &[Planned],
 ) -> Option<Stop>
     ensures { result ≡ refusal_by limit
-        (loss_planned handheld.now (marks_in desk.now) (shelves_in desk.now) planned.now) }
+        (loss_planned handheld.now (marks_in desk.now) (parted_in desk.now)
+        (shelves_in desk.now) planned.now) }
 {
     match limit {
         Some(name) => Some(Stop::Limit(name)),

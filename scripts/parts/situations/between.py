@@ -123,3 +123,32 @@ def what_a_user_deletes_is_let_go():
     put("h/MemoDB.pdb", pdb("MemoDB", [(0x80 | DIRTY, number, text) for _, number, text in records_of("h/MemoDB.pdb")]))
     want_run("h", "d", LATER)
     want_both()
+
+
+def stopped_behind_the_commit(*words):
+    """The session is pulled at the first frame behind which the desktop has its new base, and the handheld its old memos."""
+    before, old = texts("h/MemoDB.pdb"), all_files("d")["d/MemoDB.base"]
+    for side in "hd":
+        shutil.copytree(side, f"{side}-before")
+    for frame in range(1, 500):
+        put("line.txt", f"{frame} unplug\n")
+        call("run", "h", "d", *words, "--script=line.txt")
+        if all_files("d")["d/MemoDB.base"] != old:
+            want(texts("h/MemoDB.pdb"), before, "the handheld's memos behind the commit")
+            return
+        for side in "hd":
+            shutil.rmtree(side)
+            shutil.copytree(f"{side}-before", side)
+    raise AssertionError("no frame stops behind the commit")
+
+
+@situation
+def a_purge_that_was_missed_is_done_behind_a_session_of_another_database():
+    """A memo that was deleted on the desktop doesn't come back, though a session of the tasks alone ended in between."""
+    put("h/ToDoDB.pdb", pdb("ToDoDB", memos("task")))
+    two_sides()
+    put("d/MemoDB.pdb", pdb("MemoDB", [one for one in records_of("d/MemoDB.pdb") if one[2] != b"two\0"]))
+    stopped_behind_the_commit(LATER)
+    want_run("h", "d", LATEST, "--only=ToDoDB")
+    want_run("h", "d", "--date=2001-09-12T01:46:40")
+    want_both(b"one\0", b"three\0")

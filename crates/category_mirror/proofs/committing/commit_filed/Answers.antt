@@ -6,8 +6,8 @@ use Rattle.category_mirror.proofs.committing.commit_filed.Goals as goal
 pub returns : goal.returns
 returns g c =
     let made = c.commit.ensures in
-    filed_change g.D.Folder.contents g.D.Folder.moments g.D.Folder.paths g.D.Folder.faults (record { marks = c.same_marks-marks.result; databases = c.args.changes }) (c.same_marks-marks.ensures ∙ c.marks.ensures.marks)
-    (search rules)
+    filed_change g.D.Folder.contents g.D.Folder.moments g.D.Folder.paths g.D.Folder.faults (record { marks = c.same_marks-marks.result; parted = c.args.parted; databases = c.args.changes }) (c.same_marks-marks.ensures ∙ c.marks.ensures.marks)
+    c.requires.kept.same (search rules)
     (record {
       slots = made.slots;
       picked = made.picked;

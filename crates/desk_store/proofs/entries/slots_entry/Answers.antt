@@ -4,4 +4,4 @@ use Rattle.folder_files.specs.InfoFiles.{IsDesktopFile}
 use Rattle.desk_store.proofs.entries.slots_entry.Goals as goal
 
 pub returns-clause-written : goal.returns-clause-written
-returns-clause-written c = subst (IsDesktopFile c.args.slots.now) c.in_ok-text.ensures.text c.in_ok-text.ensures.file
+returns-clause-written c = subst (IsDesktopFile c.args.infos.now) c.in_ok-text.ensures.text c.in_ok-text.ensures.file

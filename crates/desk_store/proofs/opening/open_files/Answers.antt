@@ -2,9 +2,10 @@
 use Rattle.std.proofs.Common.{◌≡◌, ◌∙◌, Ok, Option, sym, ap, rules, subst}
 use Rattle.std.specs.Prelude.{IfSome}
 use Rattle.hs_folders.specs.FileMaps.{FileMap}
-use Rattle.folder_files.specs.Slots.{AreSlots}
+use Rattle.folder_files.specs.Slots.{AllRise, AreSlots}
 use Rattle.desk_journal.specs.Overlays.{HasNoJournal}
 use Rattle.desk_store.proofs.OpenLaws.{HoldsAll, told_clear, told_desk, told_good}
+use Rattle.desk_store.proofs.SlotListLaws.{marks_of-as}
 use Rattle.desk_store.proofs.opening.open_files.Goals as goal
 
 pub returns-clause-desk : goal.returns-clause-desk
@@ -19,5 +20,6 @@ returns-clause-desk g c =
     told_clear told c.in_ok-finish_journal.field-0 (here ∙ c.in_ok-finish_journal.ensures.done) c.in_ok-finish_journal.ensures.bad
     (λ none. subst (λ (o : Option FileMap). IfSome o HasNoJournal) (sym here) (c.in_ok-finish_journal.ensures.no_journal (ap Ok none)))
     (told_good now slots holds) in
-    told_desk now (subst AreSlots (sym c.in_ok-found.ensures.form.marked) c.in_ok-slots.ensures.formed)
+    let marked = c.in_ok-found.ensures.form.marked in
+    told_desk now (subst AreSlots (sym (marks_of-as c.in_ok-slots.slots.items slots marked)) c.in_ok-slots.ensures.formed) (subst AllRise (sym marked) c.in_ok-slots.ensures.parted)
     (c.in_ok-found.ensures.form.ordered c.in_ok-slots.ensures.ordered) holds none

@@ -15,9 +15,9 @@ pub returns-in_err-count : goal.returns-in_err-count
 unfolding many_slots_at
 returns-in_err-count c = search rules
 
-pub returns-in_err-slots : goal.returns-in_err-slots
+pub returns-in_err-infos : goal.returns-in_err-infos
 unfolding many_slots_at
-returns-in_err-slots c = search rules
+returns-in_err-infos c = search rules
 
 pub returns : goal.returns
 unfolding many_slots_at

@@ -21,6 +21,7 @@ returns-clause-fit g c = record {
   rise = subst (λ changes. NamesRise (map (λ (change : DbChange). change.rows) changes)) (sym c.in_ok-databases.ensures.changes)
       (changes-rise c.args.date (shelves_in c.args.desk.now) c.args.planned.now (each_of c.args.ids.now) c.requires.each c.requires.rise);
   each = c.in_ok-databases.ensures.fit;
+  parted = c.in_ok-parted.ensures.rise;
 }
 
 pub returns-clause-bears : goal.returns-clause-bears

@@ -1,11 +1,12 @@
 -- Plans, one database after another.
 use Rattle.std.proofs.Common.{◌≡◌, ◌+◌, ◌∷◌, ap, arith, length, refl, rules, ◌∙◌, sym, List, [], ◌++◌, map, append_assoc}
-use Rattle.session_plan.proofs.PlanWords.{shelves_in, Planned}
+use Rattle.session_plan.proofs.PlanWords.{shelves_in, Planned, parted_in}
 use Rattle.session_plan.specs.Planning.{IsPlanUnder}
 use Rattle.std.proofs.lemmas.List.{map-append}
 use Rattle.std.specs.List.{AllByRecursion}
 use Rattle.session_plan.proofs.planning.plan_all.Goals as goal
 use Rattle.desk_journal.proofs.StepLaws.{all-append}
+use Rattle.session_plan.specs.Partings.{agrees_with}
 
 -- what was planned so far, with what is left, is all
 planned_on : {P A : Type 0} (f : P → A) (planned more : List P) (one : P) (x : A) (rest left all : List A) → more ≡ planned ++ one ∷ [] → f one ≡ x
@@ -33,6 +34,6 @@ loop-job-preserved g c =
           let all = ap length second in let whole = before.view_count in omega arith;
       views = planned_on (λ (p : Planned). p.view) c.loop-job.planned.items c.push.new.self.items one c.in-Some.view c.next.new.self.b.rest.items
           c.loop-job.job-iterator.b.rest.items c.args.views.items c.in_ok-push.ensures.items refl second before.views;
-      plans = plans_on (λ (p : Planned). IsPlanUnder (shelves_in c.args.desk.now) c.args.agree p.job p.view p.plan) c.loop-job.planned.items
+      plans = plans_on (λ (p : Planned). IsPlanUnder (shelves_in c.args.desk.now) (agrees_with c.args.agree (parted_in c.args.desk.now)) p.job p.view p.plan) c.loop-job.planned.items
           c.push.new.self.items one c.in_ok-push.ensures.items before.plans c.in_ok-plan.ensures;
     }

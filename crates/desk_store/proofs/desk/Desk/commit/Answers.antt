@@ -1,19 +1,34 @@
 -- What holds of the slots inside holds of the desktop.
-use Rattle.std.proofs.Common.{◌≡◌, ◌⊎◌, ◌≤◌, ℕ, List}
+use Rattle.std.proofs.Common.{◌≡◌, ◌⊎◌, ◌≤◌, ℕ, List, ap}
 use Rattle.std.specs.Prelude.{IfSome, Some}
 use Rattle.std.specs.Option.{option_map, option_or}
 use Rattle.hs_folders.specs.Moments.{EachMomentSince}
 use Rattle.pdb_values.specs.NamedDatabases.{database_of}
 use Rattle.desk_journal.specs.Overlays.{FinishesAs, StandsAs, put_all}
 use Rattle.desk_journal.specs.Steps.{GoesThrough, GoesThroughAll}
-use Rattle.desk_store.specs.Changes.{change_entries, changed, steps_of, with_commit}
+use Rattle.desk_store.specs.Changes.{change_entries, changed, files_with, steps_of, with_commit}
 use Rattle.desk_store.specs.Desks.{IsDesk, StaysOpenable, all_rows}
-use Rattle.desk_store.specs.Shelves.{shelf_at, shelf_of}
+use Rattle.desk_store.specs.Shelves.{SlotValue, shelf_at, shelf_of}
 use Rattle.desk_store.specs.Views.{shelves_in}
 use Rattle.desk_store.specs.declared.role.Role.{Role}
-use Rattle.desk_store.proofs.CommitLaws.{databases_after, seen}
+use Rattle.desk_store.proofs.CommitLaws.{databases_after, picked_as, seen}
 use Rattle.desk_store.proofs.OpenableLaws.{commit_openable}
 use Rattle.desk_store.proofs.desk.Desk.commit.Goals as goal
+
+pub returns-in-Ok-clause-written : goal.returns-in-Ok-clause-written
+returns-in-Ok-clause-written g c =
+    seen (λ d. g.F.Folder.contents c.write_change.new.folder ≡ files_with c.args.change d.picked d.slots (g.F.Folder.contents d.folder)) c.self.view_is
+    c.in-Ok.ensures.written
+
+pub returns-in-Ok-clause-marks : goal.returns-in-Ok-clause-marks
+returns-in-Ok-clause-marks g c =
+    ap (λ (slot : SlotValue). slot.marks)
+    (picked_as c.args.change c.in-Ok.slots.items c.self.invariant.0.formed c.self.invariant.1 c.in-Ok.ensures.slots)
+
+pub returns-in-Ok-clause-parted : goal.returns-in-Ok-clause-parted
+returns-in-Ok-clause-parted g c =
+    ap (λ (slot : SlotValue). slot.parted)
+    (picked_as c.args.change c.in-Ok.slots.items c.self.invariant.0.formed c.self.invariant.1 c.in-Ok.ensures.slots)
 
 pub returns-in-Ok-clause-databases : goal.returns-in-Ok-clause-databases
 returns-in-Ok-clause-databases g c =

@@ -5,7 +5,7 @@ use Rattle.hs_folders.specs.declared.faults.FolderFault.{FolderFault}
 use Rattle.folder_files.specs.InfoFiles.{desktop_in}
 use Rattle.desk_store.specs.Shelves.{slots_or_first}
 use Rattle.desk_store.proofs.OpenLaws.{told_info, told_missing}
-use Rattle.desk_store.proofs.opening.read_marks.Goals as goal
+use Rattle.desk_store.proofs.opening.read_infos.Goals as goal
 
 pub returns-in_ok-slots-in-Ok-clause-slots : goal.returns-in_ok-slots-in-Ok-clause-slots
 returns-in_ok-slots-in-Ok-clause-slots g c =
