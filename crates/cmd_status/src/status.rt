@@ -106,7 +106,7 @@ pub enum Status {
     TooManyUsers,
     /// The session would make more of this database than a side can hold.
     Limit(DbName),
-    /// The handheld never ended a session and the desktop did, and the session would cost the desktop live rows of this database.
+    /// By a handheld that is a stranger to the desktop's slot, or lost this database, the session would cost the desktop live rows of it.
     NewHandheld(DbName),
     /// The folder of this end has the information file of the other one.
     WrongSide(End),

@@ -145,7 +145,7 @@ module _ (ch : Choice) (given : List ℕ) (old : List (ℕ × ContentValue)) (c 
   pub kept-live_in : (i : ℕ) → i < id_bound → ch.keep i ≡ Some c → is_live_in c (merged_rows ch given) ≡ true
   kept-live_in i below is = row-live_in i (kept_under ch.keep (at i (numbered given ch.adds)) i c below is)
 
-  added-live_in : AreNew ch.keep (numbered given ch.adds) id_bound → length given ≡ length ch.adds → stands c ch.adds ≡ true
+  pub added-live_in : AreNew ch.keep (numbered given ch.adds) id_bound → length given ≡ length ch.adds → stands c ch.adds ≡ true
       → is_live_in c (merged_rows ch given) ≡ true
   added-live_in new each is =
       let found = add-id ch.keep (numbered given ch.adds) c id_bound new (numbered-any c given ch.adds each ∙ is) in

@@ -100,7 +100,7 @@ records-unmarked a {x} given read got =
 
 -- ---- both sides
 
-ended-equal : (a : Action) {x : Finding} (given : List ℕ) → IsRead x → GotIds a x given → HasEqualSides (ended a x given)
+pub ended-equal : (a : Action) {x : Finding} (given : List ℕ) → IsRead x → GotIds a x given → HasEqualSides (ended a x given)
 ended-equal a {x} given read got =
     let differ = differ-ids x.records read.ids in
     record {

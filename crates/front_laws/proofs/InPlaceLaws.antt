@@ -273,7 +273,7 @@ module _ (a : Action) (x : Finding) (given : List ℕ) (n : ℕ) (c : ContentVal
   pub live-news : (i : ℕ) → KeepsNoOther c ((chosen a x).keep i) → held x.records i ≡ live c → held (left_among_news a x given n).records i ≡ live c
   live-news i alone is = live-after (chosen a x).keep (news_done a x given n) x.records c i news-given alone is
 
-  news-place : IsInPlace c (standing x) → IsInPlace c (standing (left_among_news a x given n))
+  pub news-place : IsInPlace c (standing x) → IsInPlace c (standing (left_among_news a x given n))
   news-place place = record {
     rows = λ i is. (live-news i (keeps-it ((chosen a x).keep i) c (row-kept a x c found place i is)) (place.rows i is).0, (place.rows i is).1);
     gone_rows = place.gone_rows;

@@ -11,6 +11,7 @@ pub mod CutActs
 pub mod DesktopLaws
 pub mod EachLaws
 pub mod EqualLaws
+pub mod EventLaws
 pub mod FirstLaws
 pub mod FitLaws
 pub mod FrontLaws
@@ -33,6 +34,7 @@ pub mod OrderActs
 pub mod OrderRuns
 pub mod OrderWrites
 pub mod PartActs
+pub mod PartLaws
 pub mod PhaseActs
 pub mod PickLaws
 pub mod PutActs
@@ -47,6 +49,7 @@ pub mod ResumeLaws
 pub mod RowCountLaws
 pub mod RunLaws
 pub mod ShelfLaws
+pub mod ShownLaws
 pub mod SkipLaws
 pub mod SkippedLaws
 pub mod SlotLaws

@@ -136,7 +136,7 @@ rows-there c e rows stays is =
 
 -- ---- one event
 
-session-there : (a : Action) (x : Finding) (stop : Place) (c : ContentValue) → IsFound x → GotIdsUpTo a x stop → SessionLetsBe c a x stop
+pub session-there : (a : Action) (x : Finding) (stop : Place) (c : ContentValue) → IsFound x → GotIdsUpTo a x stop → SessionLetsBe c a x stop
     → IsInPlace c (standing x) → is_there c (standing x) ≡ true → is_there c (standing (left a x stop)) ≡ true
 session-there a x before_mark c found got spares place is = is
 session-there a x (among_news given n) c found got spares place is =
@@ -146,13 +146,13 @@ session-there a x (behind_commit given n) c found got spares place is =
 session-there a x (at_end given view g) c found got spares place is =
     at-end_there c (ended a x given) (there-ends a x given c found got place (spares-end a x given view g c spares) is)
 
-event-there : (v : Event) (e : Ending) (c : ContentValue) → CanHappen v e → EventLetsBe c v e → IsInPlace c e → is_there c e ≡ true
+pub event-there : (v : Event) (e : Ending) (c : ContentValue) → CanHappen v e → EventLetsBe c v e → IsInPlace c e → is_there c e ≡ true
     → is_there c (after_event v e) ≡ true
 event-there (handheld_edit records) e c can spares place is = records-there c e records spares.lives is
 event-there (desktop_edit rows) e c can spares place is = rows-there c e rows spares.lives is
 event-there (session a view g stop) e c can spares place is = session-there a (finding e view g) stop c can.0 can.1 spares place is
 
-event-place : (v : Event) (e : Ending) (c : ContentValue) → CanHappen v e → EventLetsBe c v e → IsInPlace c e → IsInPlace c (after_event v e)
+pub event-place : (v : Event) (e : Ending) (c : ContentValue) → CanHappen v e → EventLetsBe c v e → IsInPlace c e → IsInPlace c (after_event v e)
 event-place (handheld_edit records) e c can spares place = record {
   rows = λ i is. (spares.under_ids i (place.rows i is).0, (place.rows i is).1);
   gone_rows = place.gone_rows;

@@ -21,7 +21,7 @@ use Rattle.front_laws.proofs.RepeatLaws.{repeat_anew}
 
 -- ---- the marks
 
-no_number : {pc : ℕ} (n : ℕ) (b : Bool) → pc ≡ 0 → 0 < n → ((pc == n) && b) ≡ false
+pub no_number : {pc : ℕ} (n : ℕ) (b : Bool) → pc ≡ 0 → 0 < n → ((pc == n) && b) ≡ false
 no_number n b is l = grind (arith, nat_tests, is, l)
 
 -- while a session was under way the sides don't agree

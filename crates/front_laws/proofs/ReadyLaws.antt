@@ -103,7 +103,7 @@ pub record AreSound (records : List Record) : Type 0 where
   pub kept : AllByRecursion IsBoundedRecord records
   pub few : length records ≤ 65535
 
-bounded_ids : (records : List Record) → AllByRecursion IsBoundedRecord records → AreBounded records
+pub bounded_ids : (records : List Record) → AllByRecursion IsBoundedRecord records → AreBounded records
 bounded_ids [] all = tt
 bounded_ids (r ∷ records) all = grind (arith, id_bound-is, bounded_ids records all.1)
 

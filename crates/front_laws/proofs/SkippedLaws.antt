@@ -79,7 +79,7 @@ same_slot {name} is same = record {
 }
 
 -- a session that stopped left it so
-left-stopped : (m : Meeting) {e : Later} {name : List ℕ} → AllRunAgain m (e ∷ []) → (IsActive m name → ⊥)
+pub left-stopped : (m : Meeting) {e : Later} {name : List ℕ} → AllRunAgain m (e ∷ []) → (IsActive m name → ⊥)
     → HoldsTheSame m e.next.device (slot_of e.next) name
 left-stopped m {e} {name} runs idle = elim runs.2.slot [
   | inl (slot, few) ↦

@@ -63,7 +63,7 @@ pub left-among : {meeting next : Meeting} {given : List ℕ} (stands : StandsAmo
     → LeftAmongNews meeting next (ids_at meeting given) stands.count
 left-among stands asks begun slot number = grind arith
 
-slot_pc : (meeting : Meeting) (given : List ℕ) → (merged_slot meeting given).marks.pc ≡ (slot_of meeting).marks.pc
+pub slot_pc : (meeting : Meeting) (given : List ℕ) → (merged_slot meeting given).marks.pc ≡ (slot_of meeting).marks.pc
 unfolding merged_slot
 slot_pc meeting given = refl
 
@@ -211,7 +211,7 @@ unfolding view is_fast agrees
 found-is m name = refl
 
 -- nothing was written
-found-before : {meeting : Meeting} (next : Meeting) (name : List ℕ) → AsksTheSame meeting next → next.device.user ≡ meeting.device.user
+pub found-before : {meeting : Meeting} (next : Meeting) (name : List ℕ) → AsksTheSame meeting next → next.device.user ≡ meeting.device.user
     → next.device.databases ≡ meeting.device.databases → slot_of next ≡ slot_of meeting → found_of next name ≡ found_of meeting name
 found-before {meeting} next name asks user databases slot = grind (arith, found-is next name, found-is meeting name)
 

@@ -3,9 +3,11 @@ pub mod Again
 pub mod Answered
 pub mod Equal
 pub mod Given
+pub mod Keeping
 pub mod Lives
 pub mod Losses
 pub mod Meetings
+pub mod Parts
 pub mod Renaming
 pub mod Repeats
 pub mod Sound

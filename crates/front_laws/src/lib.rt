@@ -6,4 +6,5 @@
 pub mod laws;
 pub mod life_laws;
 pub mod meetings;
+pub mod part_laws;
 pub mod repeat_laws;

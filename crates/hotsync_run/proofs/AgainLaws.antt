@@ -65,7 +65,7 @@ pub record Ran : Type 0 where
 abbrev pub given_in : Ran → List ℕ
 given_in ran = ran.report.given.items
 
-some_writes : (m : Meeting) → 1 ≤ writes_before_commit m
+pub some_writes : (m : Meeting) → 1 ≤ writes_before_commit m
 unfolding writes_before_commit before_commit text
 some_writes m =
     grind (
@@ -98,12 +98,12 @@ all-written ran ended =
 -- ---- a limit
 
 -- nothing was written
-record WroteNone (ran : Ran) : Type 0 where
-  kept : IsKept ran.meeting.device ran.line.last
-  none : ran.report.writes ≡ 0
+pub record WroteNone (ran : Ran) : Type 0 where
+  pub kept : IsKept ran.meeting.device ran.line.last
+  pub none : ran.report.writes ≡ 0
 
 -- which is so where a limit would be passed
-wrote_none : (ran : Ran) → IsSome (first_over ran.meeting) → WroteNone ran
+pub wrote_none : (ran : Ran) → IsSome (first_over ran.meeting) → WroteNone ran
 unfolding write_count
 wrote_none ran over =
     let m = ran.meeting in
@@ -192,13 +192,13 @@ first-none ran next is none_next = by (first_over ran.meeting) refl
 
 -- ---- it runs again
 
-number-of : {told : Option FileMap} (m : Meeting) → IsDesk told m.slots → 0 < (slot_of m).marks.pc
+pub number-of : {told : Option FileMap} (m : Meeting) → IsDesk told m.slots → 0 < (slot_of m).marks.pc
 number-of {told} m is = subst (λ n. 0 < n) (sym (picked_number told m.slots m.picked is)) is.formed.number
 
-user-begun : {m : Meeting} (next : Meeting) {given : List ℕ} → StandsAmongNews m given next.device → next.device.user.user ≡ m.device.user.user
+pub user-begun : {m : Meeting} (next : Meeting) {given : List ℕ} → StandsAmongNews m given next.device → next.device.user.user ≡ m.device.user.user
 user-begun next stands = grind arith
 
-user-done : {m : Meeting} (next : Meeting) {given : List ℕ} → StandsBehindCommit m given next.device
+pub user-done : {m : Meeting} (next : Meeting) {given : List ℕ} → StandsBehindCommit m given next.device
     → (next.device.user.user ≡ m.device.user.user) ⊎ (next.device.user.user ≡ agreed_user m.device.user (slot_of m).marks)
 unfolding merged_device
 user-done next stands = grind arith

@@ -153,7 +153,7 @@ readable-slots : (held : FileMap) (slots : List SlotValue) → IsDesk (Some (fin
 readable-slots held slots desk few =
     subst IsReadable (plain_finished (finished held) desk.stands.no_journal) (told_openable (Some (finished held)) slots desk few)
 
-rows-few : {before : Option FileMap} {slots : List SlotValue} → IsGoodDesktop before → IsDesk (option_map finished before) slots → all_rows slots ≤ 200
+pub rows-few : {before : Option FileMap} {slots : List SlotValue} → IsGoodDesktop before → IsDesk (option_map finished before) slots → all_rows slots ≤ 200
 rows-few {before} {slots} good desk =
     let here = subst (λ (t : Option FileMap). IsDesk (option_map finished t) slots) good.is desk in
     let count = told_number (Some (finished good.held)) slots here in

@@ -17,10 +17,12 @@ pub mod HeadlineLaws
 pub mod InstallPromises
 pub mod KeptLaws
 pub mod LeftGoodLaws
+pub mod LifeCalls
 pub mod MakeWords
 pub mod NextLaws
 pub mod OneLaws
 pub mod OverLaws
+pub mod PartCalls
 pub mod PathLaws
 pub mod ProperLaws
 pub mod RestorePromises

@@ -25,7 +25,7 @@ use Rattle.call_parts.proofs.EndLaws.{same_some}
 
 -- ---- a desktop
 
-infos-length : (slots : List SlotValue) → length (infos_of slots) ≡ length slots
+pub infos-length : (slots : List SlotValue) → length (infos_of slots) ≡ length slots
 infos-length slots = length-map slots info_of
 
 same_slot : (one other : SlotValue) → info_of one ≡ info_of other → one.shelves.rows ≡ other.shelves.rows → one.shelves.bases ≡ other.shelves.bases
@@ -44,7 +44,7 @@ same_at (x ∷ one) (y ∷ other) d count each =
     let rest = same_at one other d (omega (arith, count)) (λ k less. each (suc k) (omega (arith, less))) in
     λ i. first i ∷ rest i
 
-info_at : (slots : List SlotValue) (k : ℕ) (d : SlotValue) → get_or (infos_of slots) k (info_of d) ≡ info_of (get_or slots k d)
+pub info_at : (slots : List SlotValue) (k : ℕ) (d : SlotValue) → get_or (infos_of slots) k (info_of d) ≡ info_of (get_or slots k d)
 info_at [] k d = refl
 info_at (slot ∷ slots) zero d = refl
 info_at (slot ∷ slots) (suc k) d = info_at slots k d

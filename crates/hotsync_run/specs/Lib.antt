@@ -5,5 +5,6 @@ pub mod Equal
 pub mod FilingCalls
 pub mod Headline
 pub mod Kept
+pub mod Lives
 pub mod Promises
 pub mod Systems

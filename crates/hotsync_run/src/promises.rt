@@ -3,6 +3,7 @@
 ghost use Rattle.std.specs.Prelude.{◌≡◌, ◌<◌, ℕ, List, [], ◌∷◌, None, Some, true};
 ghost use Rattle.std.specs.List.{AllByRecursion};
 ghost use Rattle.line_script.specs.Rules.{RuleValue};
+ghost use Rattle.pdb_values.specs.Contents.{ContentValue};
 ghost use Rattle.trace_check.specs.Judging.{IsProperTrace};
 ghost use Rattle.run_words.specs.Commands.{Backup, DryRun, Emulate, Categories, Install, LookAt, Make, Restore};
 ghost use Rattle.run_words.specs.declared.look.Look.{Look};
@@ -10,6 +11,8 @@ ghost use Rattle.run_words.specs.Runs.{Run};
 ghost use Rattle.desk_store.specs.Desks.{StaysOpenable};
 ghost use Rattle.session_plan.specs.Tasks.{Meeting};
 ghost use Rattle.front_laws.specs.Answered.{IsAnsweredExchange};
+ghost use Rattle.front_laws.specs.Lives.{IsUnarchived};
+ghost use Rattle.front_laws.specs.Parts.{IsReadAnew, TakesNoPart};
 ghost use Rattle.hotsync_run.specs.Again.{AllRan, AreOfOneKind, AreTold, EndsAsOne, IsRepeat};
 ghost use Rattle.cmd_files.specs.Backups.{BackupLeft, backup_command};
 ghost use Rattle.install_backup.specs.InstallActs.{install_mark, restore_mark};
@@ -22,6 +25,7 @@ ghost use Rattle.hotsync_run.specs.Equal.{EndsEqual};
 ghost use Rattle.hotsync_run.specs.FilingCalls.{IsSecondCall, StandsTogether};
 ghost use Rattle.cmd_session.specs.Filings.{EndedFiling, StoppedFiling, categories_command};
 ghost use Rattle.hotsync_run.specs.Headline.{ActsOnce, FairStaysUp, Headline, IsAnsweredRun, IsWhatItSays, LeavesTheMerge, RunCall, TellsCause};
+ghost use Rattle.hotsync_run.specs.Lives.{AllLetBe, BeginsAnew, BeginsLife, LiveCall, RanBetween, RunsBehind, Sides, StandForSides, held_of, is_there_still, was_there};
 ghost use Rattle.cmd_files.specs.Installs.{EndedInstall, install_command};
 ghost use Rattle.call_parts.specs.LineRuns.{exchanges_in, frames_in};
 ghost use Rattle.hotsync_looks.specs.Looks.{IsLook};
@@ -126,6 +130,33 @@ pub fn an_ended_run_leaves_both_sides_equal()
 /// which ended, leave on both sides what one whole session would have left, up to the ids of new records.
 pub fn stopped_runs_end_as_one()
     ensures { (call : RunCall) (later : List RunCall) → AllRan call later → EndsAsOne call later }
+{}
+
+/// A database that took no part in a run that ended is read whole by the next one over both folders as it left them, whatever the words
+/// of both, and its gone rows count there.
+pub fn what_took_no_part_is_read_whole_next()
+    ensures { (call : RunCall) → IsAnsweredRun call → AreGood call.before → call.report.end ≡ Ended
+        → (first : Meeting) × Meets call.run call.before first × ((next : RunCall)
+        (second : Meeting) (name : List ℕ) → RunsBehind call next second
+        → TakesNoPart first name → IsReadAnew second name) }
+{}
+
+/// A lifetime loses nothing: over any list of runs of one pair of folders, whatever their words and whatever became of each, with edits of
+/// both sides between them that mark what they change on the handheld, a content of a database that was on a side before one of them, and
+/// that no edit and no action of one side let go, is live on a side or archived behind the last. A life begins where both sides never met,
+/// and anew behind each run that ended, for what is live there. Folders that could be opened before a run stand for both sides behind it.
+pub fn a_life_of_runs_loses_nothing()
+    ensures life { (c : ContentValue) (name : List ℕ) (one : LiveCall) (later : List LiveCall)
+        → BeginsLife c name one.before → AllLetBe c name one later
+        → was_there c name one later ≡ true → is_there_still c name one later ≡ true }
+    ensures first { (c : ContentValue) (name : List ℕ) (sides : Sides)
+        → (held_of sides name).base ≡ [] → IsUnarchived c (held_of sides name)
+        → BeginsLife c name sides }
+    ensures again { (one : LiveCall) → RanBetween one → one.call.report.end ≡ Ended
+        → (meeting : Meeting) × Meets one.call.run one.call.before meeting
+        × BeginsAnew one meeting }
+    ensures left { (call : RunCall) (before : Sides) → IsAnsweredRun call → AreGood call.before
+        → StandForSides call.before before → (after : Sides) × StandForSides call.after after }
 {}
 
 /// A dry run changes nothing: at each moment both folders hold what they held.

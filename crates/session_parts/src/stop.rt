@@ -16,7 +16,7 @@ pub enum Stop {
     Session(SessionFault),
     /// The database of this name would pass a limit of a side. Nothing was written.
     Limit(DbName),
-    /// The handheld never ended a session and the desktop did, and the database of this name would lose live rows of the desktop.
+    /// By a handheld that is a stranger to the desktop's slot, or lost this database, the session would cost the desktop live rows of it.
     /// Nothing was written.
     NewHandheld(DbName),
     /// The desktop's folder failed.
