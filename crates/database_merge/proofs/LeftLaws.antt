@@ -18,6 +18,7 @@ use Rattle.record_merge.specs.Merging.{AreBounded, merged_archive, merged_record
 use Rattle.record_merge.specs.Writes.{AreFree, GotFreeIds, adding, after, clean_up, clearing, giving, numbered, purges, replaces, reset}
 use Rattle.record_merge.proofs.ShownLaws.{after-all_slow}
 use Rattle.session_plan.specs.Archives.{archive_records, entries_of}
+use Rattle.session_plan.specs.Blocks.{blocks_of, with_blocks}
 use Rattle.session_plan.specs.Heads.{made_head, rows_head}
 use Rattle.session_plan.specs.Merges.{archive_of, beside, handheld_before, new_database, rows_before}
 use Rattle.session_plan.specs.Sizes.{is_over}
@@ -146,7 +147,8 @@ left_by_sides (Some h) None base archive wishes plan all goes carried =
     carried-left (record { handheld = Some h; rows = None; base = base; archive = archive }) wishes plan h (empty_database (rows_head wishes.date h.head)) all
     (settled_ids h.records goes.opened) goes.bounded refl goes.plan_is goes.small carried
 left_by_sides None (Some r) base archive wishes plan all goes carried =
-    carried-left (record { handheld = None; rows = Some r; base = base; archive = archive }) wishes plan (new_database (made_head r.head)) r all tt tt refl
+    carried-left (record { handheld = None; rows = Some r; base = base; archive = archive }) wishes plan
+    (with_blocks (blocks_of (Some r)) (new_database (made_head r.head))) r all tt tt refl
     goes.plan_is goes.small carried
 left_by_sides None None base archive wishes plan all goes carried = carried
 

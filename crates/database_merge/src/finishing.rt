@@ -1,7 +1,8 @@
 // What a plan makes of both sides.
-ghost use Rattle.std.specs.Prelude.{◌≡◌, ◌<◌, Err, IfOk, false};
+ghost use Rattle.std.specs.Prelude.{◌≡◌, ◌≤◌, ◌<◌, Err, IfOk, IfSome, OnOk, Some, false, length};
 ghost use Rattle.std.specs.Option.{option_copied, option_or};
 ghost use Rattle.pdb_values.specs.Heads.{holds_resources};
+ghost use Rattle.session_plan.specs.Blocks.{block_over, block_with_bytes, blocks_of, with_blocks};
 ghost use Rattle.session_plan.specs.Merges as merges;
 ghost use Rattle.session_plan.specs.Heads as heads;
 ghost use Rattle.session_plan.specs.Sizes as limits;
@@ -12,19 +13,60 @@ use crate::fault::WriteFault;
 use crate::seeing::records_in;
 use crate::writing::carry_out;
 use conduit_rules::Plan;
-use palm_device::new_head;
+use palm_device::{new_head, put_app, put_sort};
 use pdb_values::{Database, Record};
 use session_plan::{
     Sizes, beside, is_over, made_head, merged_archive, planned_base, planned_rows, refilled,
 };
 use std::alloc::{AllocError, Global};
 
-/// A database that the handheld lacks, as it makes one by the head of the desktop's rows.
-pub(crate) fn new_on_handheld(alloc: Global, rows: &Database) -> Database
-    ensures { result ≡ merges.new_database (heads.made_head rows.now.head) }
+// Writes the app block of rows, where it has bytes.
+#[tactic(auto, using(crate::proofs::BlockLaws::over_none, crate::proofs::BlockLaws::over_some))]
+fn write_app(alloc: Global, database: &mut Database, block: Option<&[u8]>) -> Result<(), AllocError>
+    requires { IfSome block (λ bytes. length bytes.now ≤ 65500) }
+    ensures { OnOk result (database.new ≡ record database.old {
+      app = block_over (block_with_bytes (option_copied block.entry)) database.old.app;
+    }) }
+{
+    let Some(bytes) = block else {
+        return Ok(());
+    };
+    if bytes.is_empty() {
+        return Ok(());
+    }
+    put_app(alloc, database, bytes)?;
+    Ok(())
+}
+
+// Writes the sort block of rows, where it has bytes.
+#[tactic(auto, using(crate::proofs::BlockLaws::over_none, crate::proofs::BlockLaws::over_some))]
+fn write_sort(
+    alloc: Global,
+    database: &mut Database,
+    block: Option<&[u8]>,
+) -> Result<(), AllocError>
+    requires { IfSome block (λ bytes. length bytes.now ≤ 65500) }
+    ensures { OnOk result (database.new ≡ record database.old {
+      sort = block_over (block_with_bytes (option_copied block.entry)) database.old.sort;
+    }) }
+{
+    let Some(bytes) = block else {
+        return Ok(());
+    };
+    if bytes.is_empty() {
+        return Ok(());
+    }
+    put_sort(alloc, database, bytes)?;
+    Ok(())
+}
+
+/// A database that the handheld lacks, as it makes one by the head of the desktop's rows, with their blocks.
+pub(crate) fn new_on_handheld(alloc: Global, rows: &Database) -> Result<Database, AllocError>
+    ensures { IfOk result (λ database. database ≡ with_blocks (blocks_of (Some rows.now))
+        (merges.new_database (heads.made_head rows.now.head))) }
 {
     let head = made_head(rows.head());
-    Database::new(
+    let mut database = Database::new(
         alloc,
         new_head(
             head.name,
@@ -33,7 +75,10 @@ pub(crate) fn new_on_handheld(alloc: Global, rows: &Database) -> Database
             head.attributes,
             head.version,
         ),
-    )
+    );
+    write_app(alloc, &mut database, rows.app())?;
+    write_sort(alloc, &mut database, rows.sort())?;
+    Ok(database)
 }
 
 /// Whether a plan would make too many rows, base rows or entries of the archive.

@@ -111,7 +111,7 @@ fn carry(
             finish(alloc, handheld, &rows, archive, plan)
         }
         (None, Some(rows)) => {
-            let handheld = new_on_handheld(alloc, &rows);
+            let handheld = new_on_handheld(alloc, &rows)?;
             finish(alloc, handheld, &rows, archive, plan)
         }
         (None, None) => Ok(BothSides {

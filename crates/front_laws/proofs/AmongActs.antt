@@ -25,7 +25,7 @@ use Rattle.front_laws.proofs.AlongLaws.{Along, along-append, along-last, along-m
 use Rattle.front_laws.proofs.EachLaws.{AreReady, put_at_task}
 use Rattle.front_laws.proofs.MergeActs.{all_ahead, before-same, begun, closed_device}
 use Rattle.front_laws.proofs.OpenActs.{all_closed}
-use Rattle.front_laws.proofs.PartActs.{HasSome, Respects, TaskPart, both_of, news_along, with_some}
+use Rattle.front_laws.proofs.PartActs.{HasSome, IsPart, Respects, TaskPart, both_of, news_along}
 use Rattle.front_laws.proofs.PhaseActs.{AreAhead, Stand, ahead_does, ahead_few, ahead_next, ahead_room}
 use Rattle.front_laws.proofs.ReadyLaws.{ready-all, stand-all}
 use Rattle.front_laws.proofs.RelabelLaws.{ids-length, news-count}
@@ -41,7 +41,7 @@ abbrev pub no_share : Share
 no_share = record { count = 0; used = [] }
 
 pub record IsShare (m : Meeting) (t : Task) (b : DatabaseValue) (s : Share) (o : Option DatabaseValue) : Type 0 where
-  pub stands : (o ≡ Some (with_some m t s.count s.used b)) ⊎ ((o ≡ t.handheld) × (s.count ≡ 0))
+  pub stands : IsPart m t b s.count s.used o
   pub has : HasSome m t b.records s.count s.used
 
 abbrev pub AreShared : (m : Meeting) (ts : List Task) → AreReady m ts → List Share → List DatabaseValue → Type 0
@@ -63,7 +63,10 @@ none_used (t ∷ ts) = none_used ts
 none_shared : (m : Meeting) (ts : List Task) (ready : AreReady m ts) (databases : List DatabaseValue) → Stand ts databases
     → AreShared m ts ready (no_shares ts) databases
 none_shared m [] ready databases stand = tt
-none_shared m (t ∷ ts) ready databases stand = grind (arith, none_shared m ts ready.1 databases stand.1)
+none_shared m (t ∷ ts) ready databases stand = (
+  record { stands = inr (inl stand.0, refl); has = record { own = refl; free = tt; few = omega arith } },
+  none_shared m ts ready.1 databases stand.1,
+)
 
 -- each database has all of its ids before a later one has any
 abbrev pub AreInTurn : Meeting → List Task → List Share → Type 0
@@ -122,7 +125,7 @@ later_part m t ts ready ids same unnamed part whole is x rest =
       shares = s ∷ rest.shares;
       shared = (
         record {
-          stands = subst (λ (o : Option DatabaseValue). (o ≡ Some (with_some m t part.count part.used ready.0.b)) ⊎ ((o ≡ t.handheld) × (part.count ≡ 0)))
+          stands = subst (IsPart m t ready.0.b part.count part.used)
               (ap (database_of t.name) same ∙ sym (rest.others t.name unnamed)) part.stands;
           has = part.has;
         },

@@ -4,6 +4,7 @@ use Rattle.std.proofs.Common.{if◌then◌else◌, arith, lit<}
 use Rattle.std.specs.Prelude.{Option, Some, None, IfSome, is_none, flat_map, replicate, max, filter}
 use Rattle.std.specs.List.{AllByRecursion}
 use Rattle.std.proofs.lemmas.Nat.{and_le_l}
+use Rattle.pdb_values.specs.Blocks.{block_length}
 use Rattle.pdb_values.specs.Contents.{ContentValue}
 use Rattle.pdb_values.specs.Databases.{DatabaseValue}
 use Rattle.pdb_values.specs.NamedDatabases.{database_of}
@@ -18,14 +19,16 @@ use Rattle.conduit_rules.specs.Plans.{is_purged, purged_at, purged_ids}
 use Rattle.conduit_rules.specs.States.{BaseState, SideState, base_at, first, gone, no_base, row}
 use Rattle.desktop_session.specs.Acts.{Act}
 use Rattle.desktop_session.specs.Lists.{id_listings, id_parts, listings}
-use Rattle.desktop_session.specs.Requests.{cleaning, closing, ending, listing, listing_ids, reading_at, reading_next, reading_of, removing, resetting}
+use Rattle.desktop_session.specs.Requests.{cleaning, closing, ending, listing, listing_ids, reading_at, reading_next, reading_of, removing, resetting, writing_app}
+use Rattle.desktop_session.specs.Requests.{writing_sort}
 use Rattle.desktop_session.proofs.RequestFits.{at_fits, begin_fits, clean_fits, close_fits, count_fits, end_fits, ids_fit, list_fits, make_fits, mark_fits}
-use Rattle.desktop_session.proofs.RequestFits.{next_fits, of_fits, open_fits, putting_fits, remove_fits, reset_fits, user_fits}
+use Rattle.desktop_session.proofs.RequestFits.{next_fits, of_fits, open_fits, putting_fits, remove_fits, reset_fits, user_fits, write_app_fits, write_sort_fits}
 use Rattle.mirrors.specs.News.{as_new, purge_writes, puts}
 use Rattle.mirrors.specs.Reads as slow
 use Rattle.session_plan.specs.Choosing.{base_rows, choice, is_fast, seen_held, add_count}
+use Rattle.session_plan.specs.Blocks.{block_with_bytes, blocks_for}
 use Rattle.session_plan.specs.Heads.{plain_attributes}
-use Rattle.sync_session.specs.News.{all_news, made, news_acts, news_by, opened_for, purge_acts, writes, replaced as replacements}
+use Rattle.sync_session.specs.News.{all_news, block_act, block_acts, made, news_acts, news_by, opened_for, purge_acts, task_blocks, writes, replaced as replacements}
 use Rattle.mirrors.specs.FastReads.{asks_of, fast_asks, other_reads}
 use Rattle.sync_session.specs.Reads.{opened, read_acts, reads}
 use Rattle.sync_session.specs.Sessions.{after_commit, before_commit, before_writes, listing_all, session, begin_mark, end_mark}
@@ -37,7 +40,7 @@ use Rattle.front_laws.proofs.MergeActs.{name_of_both}
 use Rattle.front_laws.proofs.PutActs.{IsReplacement}
 use Rattle.front_laws.proofs.ReadyLaws.{AreSound, IsKept, are-kept, handheld-sound, ready-of}
 use Rattle.front_laws.proofs.SortedLaws.{all-below, all-flat_map, below_bound, found}
-use Rattle.front_laws.proofs.TaskActs.{IsReady}
+use Rattle.front_laws.proofs.TaskActs.{IsReady, fills}
 use Rattle.front_laws.proofs.WriteActs.{IsSorted}
 use Rattle.desk_journal.proofs.StepLaws.{all_weaken, all-append}
 
@@ -173,14 +176,37 @@ fit-made (Some d) acts bounded fits = (
   fit-append acts (closing 1 ∷ []) fits (close_fits 1 one, tt),
 )
 
-fit-news : (m : Meeting) (t : Task) → IsReady m t → IfSome t.rows (λ (d : DatabaseValue). IsBoundedHead d.head) → (given : List ℕ)
-    → Fit (news_acts m t given)
+fit-block : (writing : ℕ → List ℕ → Act) → ((bytes : List ℕ) → length bytes ≤ 65500 → FitsOne (writing 1 bytes)) → (block : Option (List ℕ))
+    → block_length block ≤ 65500 → Fit (block_act writing 1 (block_with_bytes block))
+fit-block writing fits None short = tt
+fit-block writing fits (Some []) short = tt
+fit-block writing fits (Some (byte ∷ bytes)) short = (fits (byte ∷ bytes) short, tt)
+
+-- a block of a database can be written
+fit-blocks : (h r : Option DatabaseValue) → IfSome r IsBoundedDatabase → Fit (block_acts 1 (blocks_for h r))
+unfolding block_acts
+fit-blocks (Some d) r bounded = tt
+fit-blocks None None bounded = tt
+fit-blocks None (Some d) bounded =
+    fit-append (block_act writing_app 1 (block_with_bytes d.app)) (block_act writing_sort 1 (block_with_bytes d.sort))
+    (fit-block writing_app (λ bytes short. write_app_fits 1 bytes one short) d.app bounded.whole.short_app)
+    (fit-block writing_sort (λ bytes short. write_sort_fits 1 bytes one short) d.sort bounded.whole.short_sort)
+
+fit-fills : (m : Meeting) (t : Task) → IsReady m t → IfSome t.rows IsBoundedDatabase → (given : List ℕ) → Fit (fills m t given)
+fit-fills m t is bounded given =
+    fit-append (task_blocks t) (writes m t given) (fit-blocks t.handheld t.rows bounded) (fit-writes m t is given)
+
+head_bounded : (o : Option DatabaseValue) → IfSome o IsBoundedDatabase → IfSome o (λ (d : DatabaseValue). IsBoundedHead d.head)
+head_bounded None bounded = tt
+head_bounded (Some d) bounded = bounded.head
+
+fit-news : (m : Meeting) (t : Task) → IsReady m t → IfSome t.rows IsBoundedDatabase → (given : List ℕ) → Fit (news_acts m t given)
 unfolding news_acts
 fit-news m t is bounded given = by t.handheld
   where
-    by : (h : Option DatabaseValue) → Fit (news_by h t (writes m t given))
-    by None = fit-made t.rows (writes m t given) bounded (fit-writes m t is given)
-    by (Some d) = fit-opened_for (writes m t given) is.named (fit-writes m t is given)
+    by : (h : Option DatabaseValue) → Fit (news_by h t (fills m t given))
+    by None = fit-made t.rows (fills m t given) (head_bounded t.rows bounded) (fit-fills m t is bounded given)
+    by (Some d) = fit-opened_for (fills m t given) is.named (fit-fills m t is bounded given)
 
 fit-removes : (ids : List ℕ) → AllByRecursion (λ (i : ℕ). i ≤ 16777215) ids → Fit (map (removing 1) ids)
 fit-removes [] all = tt
@@ -208,16 +234,16 @@ fit-purges m t named =
 record IsFit (m : Meeting) (t : Task) : Type 0 where
   ready : IsReady m t
   own : AreSound (records_of t.handheld)
-  rows : IfSome t.rows (λ (d : DatabaseValue). IsBoundedHead d.head)
+  rows : IfSome t.rows IsBoundedDatabase
 
 is_fit : (m : Meeting) → IsSoundMeeting m → (t : Task) → IsKept m t → IsFit m t
 is_fit m sound t is =
     record { ready = ready-of m sound t is; own = handheld-sound sound t is.is; rows = by t.rows (ap (λ (x : Task). x.rows) is.is) }
   where
-    by : (r : Option DatabaseValue) → r ≡ database_of t.name (slot_of m).shelves.rows → IfSome r (λ (d : DatabaseValue). IsBoundedHead d.head)
+    by : (r : Option DatabaseValue) → r ≡ database_of t.name (slot_of m).shelves.rows → IfSome r IsBoundedDatabase
     by None there = tt
     by (Some d) there =
-        let bounded = AllByRecursion-database_of IsBoundedDatabase t.name (slot_of m).shelves.rows d sound.slot.rows (sym there) in bounded.head
+        AllByRecursion-database_of IsBoundedDatabase t.name (slot_of m).shelves.rows d sound.slot.rows (sym there)
 
 all_fit : {m : Meeting} → IsSoundMeeting m → AllByRecursion (IsFit m) (active m)
 all_fit {m} sound = all_weaken (IsKept m) (IsFit m) (active m) (is_fit m sound) (are-kept m)

@@ -3,6 +3,7 @@ pub mod AmongActs
 pub mod AnsweredLaws
 pub mod BaselessLaws
 pub mod BehindActs
+pub mod BlockActs
 pub mod ChosenLaws
 pub mod ClearLaws
 pub mod CommitLaws
@@ -12,6 +13,7 @@ pub mod DesktopLaws
 pub mod EachLaws
 pub mod EqualLaws
 pub mod EventLaws
+pub mod FilledLaws
 pub mod FirstLaws
 pub mod FitLaws
 pub mod FrontLaws

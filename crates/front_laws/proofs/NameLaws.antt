@@ -30,7 +30,7 @@ use Rattle.front_laws.specs.Stops.{IsWritten, StandsAmongNews, StandsBehindCommi
 use Rattle.front_laws.proofs.AmongActs.{AmongPart, AreInTurn, AreShared, IsShare, Share, all_used, no_share}
 use Rattle.front_laws.proofs.BehindActs.{AreCleared, BehindPart, news_records, with_cleared}
 use Rattle.front_laws.proofs.EachLaws.{AreReady, HaveNames}
-use Rattle.front_laws.proofs.PartActs.{with_some}
+use Rattle.front_laws.proofs.PartActs.{IsPart}
 use Rattle.front_laws.proofs.PhaseActs.{AreDealt, before_records}
 use Rattle.front_laws.proofs.ReadyLaws.{IsIn, are_in, have-names, ready-all}
 use Rattle.front_laws.proofs.RelabelLaws.{drop-none, take-none}
@@ -86,10 +86,13 @@ has_share m t is s {o} share =
           (subst (λ (p : Choice × (ℕ → SideState)). GotFreeIds p.0 p.1 s.used is.b.records) (λ k. (chosen-is m t k, shown-is m t k)) share.has.free);
     }
   where
-    stands : (o ≡ Some (with_some m t s.count s.used is.b)) ⊎ ((o ≡ t.handheld) × (s.count ≡ 0))
-        → StandsWith t (take s.count (giving (choice m t) (seen_held m t) s.used)) o
-    stands (inl there) = inr (record { before = is.b; is = is.before; stands = there })
-    stands (inr (same, none)) = inl (same, ap (λ n. take n (giving (choice m t) (seen_held m t) s.used)) none)
+    none_taken : s.count ≡ 0 → take s.count (giving (choice m t) (seen_held m t) s.used) ≡ []
+    none_taken none = ap (λ n. take n (giving (choice m t) (seen_held m t) s.used)) none
+
+    stands : IsPart m t is.b s.count s.used o → StandsWith t (take s.count (giving (choice m t) (seen_held m t) s.used)) o
+    stands (inl there) = inr (inr (record { before = is.b; is = is.before; stands = there }))
+    stands (inr (inl same, none)) = inl (same, none_taken none)
+    stands (inr (inr way, none)) = inr (inl (way, none_taken none))
 
 no_news : (m : Meeting) (t : Task) {o : Option DatabaseValue} → o ≡ t.handheld → HasShare m t no_share o
 no_news m t same = record { stands = inl (same, refl); all = refl; free = tt }

@@ -40,7 +40,7 @@ use Rattle.front_laws.proofs.OpenActs.{KeepsOpen, all_closed, at_same, begin_sam
 use Rattle.front_laws.proofs.OpenActs.{lists_same, of_same, one_open, open_does, user_same}
 use Rattle.front_laws.proofs.PhaseActs.{Stand, read_one}
 use Rattle.front_laws.proofs.ReadyLaws.{ready-all, stand-all}
-use Rattle.front_laws.proofs.TaskActs.{IsReady}
+use Rattle.front_laws.proofs.TaskActs.{IsReady, bare-records, bare-writable, bare_old}
 
 -- each act is possible at its turn, as long as new records get free ids
 abbrev pub Orderly : List Act → Device → Type 0
@@ -226,12 +226,12 @@ module _ (databases : List DatabaseValue) (user : UserInfo) where
       by : (h : Option DatabaseValue) → t.handheld ≡ h → Orderly (if is_none h then [] else opened t.name (reads m t)) (all_closed databases user)
       by None none = tt
       by (Some d) old =
-          let same : d ≡ is.b = (let before = sym (ap (λ o. handheld_before o t.rows) old) ∙ is.before in cc) in
-          let records : on_records d ≡ true = ap on_records same ∙ is.records in
+          let bare = bare_old is old in
+          let records : on_records d ≡ true = bare-records is bare in
           let own : d.records ≡ records_of t.handheld = sym (ap records_of old) in
           opened_orderly (reads m t)
           (subst (λ (rs : List Record). Reads d (if is_fast m t then fast_asks (base_rows t) 1 rs else slow.slow_reads 1 (length rs))) own
-          (reads-task d records m t)) is.named (here ∙ old) (ap (λ (x : DatabaseValue). is_read_only x.head.attributes) same ∙ is.writable)
+          (reads-task d records m t)) is.named (here ∙ old) (bare-writable is bare)
 
   reading_orderly : (m : Meeting) (ts : List Task) → AreReady m ts → Stand ts databases
       → Orderly (flat_map (read_acts m) ts) (all_closed databases user)

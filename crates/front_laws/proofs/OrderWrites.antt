@@ -21,7 +21,7 @@ use Rattle.record_merge.specs.Writes.{after, giving, purges, replaces}
 use Rattle.record_merge.proofs.PutLaws.{Apart, appended}
 use Rattle.desktop_session.specs.Acts.{Act}
 use Rattle.desktop_session.specs.Orders.{AreAnswered, AreInOrder, IsPossible, TakesRecord, TakesRecords}
-use Rattle.desktop_session.specs.Requests.{cleaning, ending, making, opening, putting, removing, resetting}
+use Rattle.desktop_session.specs.Requests.{cleaning, ending, making, opening, putting, removing, resetting, writing_app, writing_sort}
 use Rattle.desktop_session.specs.Tellings.{device_after}
 use Rattle.desktop_session.proofs.ChangeRows.{mark_possible}
 use Rattle.desktop_session.proofs.OrderLaws.{order_answered}
@@ -30,7 +30,7 @@ use Rattle.session_plan.specs.Choosing.{choice, seen_held, add_count}
 use Rattle.session_plan.specs.Heads.{made_head}
 use Rattle.session_plan.specs.Limits.{first_over}
 use Rattle.session_plan.specs.Merges.{new_database}
-use Rattle.sync_session.specs.News.{all_news, made, news_acts, news_by, opened_for, purge_acts, writes, replaced as replacements}
+use Rattle.sync_session.specs.News.{all_news, block_act, block_acts, made, news_acts, news_by, opened_for, purge_acts, task_blocks, writes, replaced as replacements}
 use Rattle.sync_session.specs.Reads.{opened}
 use Rattle.sync_session.specs.Sessions.{after_commit, before_commit, before_writes, session, begin_mark, end_mark}
 use Rattle.session_plan.specs.Skips.{active}
@@ -45,7 +45,11 @@ use Rattle.front_laws.proofs.OrderActs.{Orderly, and_some, before_orderly, is_ba
 use Rattle.front_laws.proofs.PhaseActs.{AreAhead, ahead_does, ahead_few, ahead_next, ahead_room, all-keep, news-keep, purge_one, purges_all, with_all}
 use Rattle.front_laws.proofs.PutActs.{IsReplacement, add_room, free-front, is_free, own_id, puts-append, replaces_do, replaces-length, room_now, room_then}
 use Rattle.front_laws.proofs.ReadyLaws.{have-names, ready-all}
-use Rattle.front_laws.proofs.TaskActs.{Before, HasRoom, IsReady, before_is, made_opens, may_new, may_old, with_news, writes_do}
+use Rattle.front_laws.proofs.TaskActs.{Before, HasRoom, IsBare, IsReady, bare-name, bare-writable, before_is, filled_do, filled_may, fills, fills_do, made_opens}
+use Rattle.front_laws.proofs.TaskActs.{may_new, may_old, with_news}
+use Rattle.front_laws.proofs.BlockActs.{app_step, may_filled, open_base, open_writable}
+use Rattle.front_laws.specs.Stops.{app_alone}
+use Rattle.session_plan.specs.Blocks.{GivenBlocks, blocks_for}
 use Rattle.front_laws.proofs.WriteActs.{CanPut, IsSorted, MayWrite, clean_does, holding, holding_base, holding_own, purges_do, put_does, remove_does}
 use Rattle.front_laws.proofs.WriteActs.{removes_do}
 use Rattle.dlp_commands.proofs.WriteLaws.{room_of}
@@ -134,59 +138,86 @@ writes_orderly m t is o {databases} user ids may room =
     subst (λ (acts : List Act). Orderly acts (one_open o databases user)) (sym (puts-append es (as_new cs) ids))
     (subst (Orderly (first ++ second)) (holding_own may user) order)
 
+-- ---- the blocks, and what is written behind them
+
+module _ {o : Opened} {d : DatabaseValue} {databases : List DatabaseValue} (user : UserInfo) (may : MayWrite o d databases) where
+  app_orderly : (block : Option (List ℕ)) → Orderly (block_act writing_app 1 block) (one_open o databases user)
+  unfolding IsPossible
+  app_orderly None = tt
+  app_orderly (Some bytes) = (rw (open_base user may) (open_writable user may), λ free. tt)
+
+  sort_orderly : (block : Option (List ℕ)) → Orderly (block_act writing_sort 1 block) (one_open o databases user)
+  unfolding IsPossible
+  sort_orderly None = tt
+  sort_orderly (Some bytes) = (rw (open_base user may) (open_writable user may), λ free. tt)
+
+blocks_orderly : {o : Opened} {d : DatabaseValue} {databases : List DatabaseValue} (user : UserInfo) (may : MayWrite o d databases) (blocks : GivenBlocks)
+    → Orderly (block_acts 1 blocks) (one_open o databases user)
+unfolding block_acts
+blocks_orderly {o} {d} {databases} user may blocks =
+    orderly-append (block_act writing_app 1 blocks.app) (block_act writing_sort 1 blocks.sort) (one_open o databases user)
+    (app_orderly user may blocks.app) (λ free. subst (Orderly (block_act writing_sort 1 blocks.sort)) (sym (app_step user may blocks.app))
+    (sort_orderly user (may_filled (app_alone blocks) may) blocks.sort))
+
+fills_orderly : (m : Meeting) (t : Task) (is : IsReady m t) {d : DatabaseValue} (bare : IsBare is d) (o : Opened) {databases : List DatabaseValue}
+    (user : UserInfo) (ids : List ℕ) → MayWrite o d databases → HasRoom m t is.b.records → Orderly (fills m t ids) (one_open o databases user)
+fills_orderly m t is bare o {databases} user ids may room =
+    orderly-append (task_blocks t) (writes m t ids) (one_open o databases user) (blocks_orderly user may (blocks_for t.handheld t.rows))
+    (λ free. subst (Orderly (writes m t ids)) (sym (filled_do is bare user may)) (writes_orderly m t is o user ids (filled_may is bare user may) room))
+
 -- ---- what a database gets
 
 orderly_for : (name : List ℕ) (acts : List Act) (old : Device) → Orderly (opened name acts) old → Orderly (opened_for name acts) old
 orderly_for name acts old order = grind (arith, common_steps)
 
-old_orderly : (m : Meeting) (t : Task) (is : IsReady m t) (databases : List DatabaseValue) (user : UserInfo) (ids : List ℕ)
-    → database_of t.name databases ≡ Some is.b → HasRoom m t is.b.records → Orderly (opened_for t.name (writes m t ids)) (all_closed databases user)
-old_orderly m t is databases user ids here room =
-    let b = is.b in
+old_orderly : (m : Meeting) (t : Task) (is : IsReady m t) {d : DatabaseValue} (bare : IsBare is d) (databases : List DatabaseValue) (user : UserInfo)
+    (ids : List ℕ) → database_of t.name databases ≡ Some d → HasRoom m t is.b.records
+    → Orderly (opened_for t.name (fills m t ids)) (all_closed databases user)
+old_orderly m t is bare databases user ids here room =
     let o = just_opened t.name 0xD0 in
-    let ws = writes m t ids in
-    let may = may_old is databases here in
+    let ws = fills m t ids in
+    let may = may_old is bare databases here in
     orderly_for t.name ws (all_closed databases user)
-    (orderly-around databases user (opening t.name) ws (all_closed databases user) o (open_does databases user is.named here is.writable)
-    (open_possible databases user is.named here is.writable) (writes_orderly m t is o user ids may room)
-    (λ free. (o, replaced (with_news m t ids b) databases, (writes_do is user ids may room free).does)))
+    (orderly-around databases user (opening t.name) ws (all_closed databases user) o (open_does databases user is.named here (bare-writable is bare))
+    (open_possible databases user is.named here (bare-writable is bare)) (fills_orderly m t is bare o user ids may room)
+    (λ free. (o, replaced (with_news m t ids is.b) databases, (fills_do is bare user ids may room free).does)))
 
-make_possible : (rows : DatabaseValue) {b : DatabaseValue} (databases : List DatabaseValue) (user : UserInfo) → new_database (made_head rows.head) ≡ b
-    → IsName b.head.name → database_of b.head.name databases ≡ None → length databases < most_databases
+make_possible : (rows : DatabaseValue) {d : DatabaseValue} (databases : List DatabaseValue) (user : UserInfo) → new_database (made_head rows.head) ≡ d
+    → IsName d.head.name → database_of d.head.name databases ≡ None → length databases < most_databases
     → IsPossible (making (made_head rows.head)) (all_closed databases user)
 unfolding IsPossible
 make_possible rows databases user is named none room = grind arith
 
-new_orderly : (m : Meeting) (t : Task) (is : IsReady m t) (rows : DatabaseValue) (databases : List DatabaseValue) (user : UserInfo) (ids : List ℕ)
-    → new_database (made_head rows.head) ≡ is.b → database_of is.b.head.name databases ≡ None → length databases < most_databases
-    → HasRoom m t is.b.records → Orderly (made (Some rows) (writes m t ids)) (all_closed databases user)
-new_orderly m t is rows databases user ids head none few room =
-    let b = is.b in
-    let o = just_opened b.head.name 0xC0 in
-    let named : IsName b.head.name = subst IsName (sym is.own) is.named in
-    let may = may_new is databases none in
-    orderly-around (with_new b databases) user (making (made_head rows.head)) (writes m t ids) (all_closed databases user) o
+new_orderly : (m : Meeting) (t : Task) (is : IsReady m t) (rows : DatabaseValue) {d : DatabaseValue} (bare : IsBare is d) (databases : List DatabaseValue)
+    (user : UserInfo) (ids : List ℕ) → new_database (made_head rows.head) ≡ d → database_of d.head.name databases ≡ None
+    → length databases < most_databases → HasRoom m t is.b.records → Orderly (made (Some rows) (fills m t ids)) (all_closed databases user)
+new_orderly m t is rows {d} bare databases user ids head none few room =
+    let o = just_opened d.head.name 0xC0 in
+    let named : IsName d.head.name = subst IsName (sym (bare-name is bare)) is.named in
+    let may = may_new is bare databases none in
+    orderly-around (with_new d databases) user (making (made_head rows.head)) (fills m t ids) (all_closed databases user) o
     (made_opens rows databases user head named none few) (make_possible rows databases user head named none few)
-    (writes_orderly m t is o user ids may room) (λ free. (
+    (fills_orderly m t is bare o user ids may room) (λ free. (
       o,
-      replaced (with_news m t ids b) (with_new b databases),
-      (writes_do is user ids may room free).does,
+      replaced (with_news m t ids is.b) (with_new d databases),
+      (fills_do is bare user ids may room free).does,
     ))
 
 news_orderly : (m : Meeting) (t : Task) (is : IsReady m t) (databases : List DatabaseValue) (user : UserInfo) (ids : List ℕ)
     → database_of t.name databases ≡ t.handheld → (t.handheld ≡ None → length databases < most_databases) → HasRoom m t is.b.records
     → Orderly (news_acts m t ids) (all_closed databases user)
 unfolding news_acts
-news_orderly m t is databases user ids here few room = by (before_is t is.before)
+news_orderly m t is databases user ids here few room = by (before_is is)
   where
-    by : Before t is.b → Orderly (news_by t.handheld t (writes m t ids)) (all_closed databases user)
-    by (inl old) =
-        subst (λ (h : Option DatabaseValue). Orderly (news_by h t (writes m t ids)) (all_closed databases user)) (sym old)
-        (old_orderly m t is databases user ids (here ∙ old) room)
-    by (inr (rows, no_handheld, some_rows, head)) =
+    by : Before is → Orderly (news_by t.handheld t (fills m t ids)) (all_closed databases user)
+    by (inl (d, old, bare)) =
+        subst (λ (h : Option DatabaseValue). Orderly (news_by h t (fills m t ids)) (all_closed databases user)) (sym old)
+        (old_orderly m t is bare databases user ids (here ∙ old) room)
+    by (inr (rows, no_handheld, some_rows, bare)) =
         subst (λ (p : Option DatabaseValue × Option DatabaseValue).
-        Orderly (news_by p.0 (record t { rows = p.1 }) (writes m t ids)) (all_closed databases user)) (λ k. (sym no_handheld k, sym some_rows k))
-        (new_orderly m t is rows databases user ids head (ap (λ n. database_of n databases) is.own ∙ here ∙ no_handheld) (few no_handheld) room)
+        Orderly (news_by p.0 (record t { rows = p.1 }) (fills m t ids)) (all_closed databases user)) (λ k. (sym no_handheld k, sym some_rows k))
+        (new_orderly m t is rows bare databases user ids refl (ap (λ n. database_of n databases) (bare-name is bare) ∙ here ∙ no_handheld) (few no_handheld)
+        room)
 
 all_news_orderly : {m : Meeting} (ts : List Task) (given : List ℕ) {databases : List DatabaseValue} (user : UserInfo) → AreReady m ts
     → AreAhead m ts databases → Orderly (all_news m ts given) (all_closed databases user)

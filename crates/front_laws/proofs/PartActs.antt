@@ -12,7 +12,7 @@ use Rattle.pdb_values.specs.NamedDatabases.{database_of, replaced, with_new}
 use Rattle.pdb_values.specs.Names.{IsName}
 use Rattle.pdb_values.specs.declared.record.Record.{Record}
 use Rattle.pdb_values.specs.declared.user.UserInfo.{UserInfo}
-use Rattle.pdb_values.proofs.NamedLaws.{bytes_eq-own, database_of-replaced, database_of-with_new}
+use Rattle.pdb_values.proofs.NamedLaws.{bytes_eq-own, database_of-replaced, database_of-with_new, replaced-own}
 use Rattle.palm_device.specs.Devices.{Device, most_databases}
 use Rattle.palm_device.specs.Handles.{just_opened}
 use Rattle.palm_device.specs.Records.{put_record, with_records}
@@ -27,7 +27,7 @@ use Rattle.desktop_session.specs.Tellings.{device_after}
 use Rattle.mirrors.specs.News.{as_new, puts}
 use Rattle.session_plan.specs.Choosing.{choice, seen_held, add_count}
 use Rattle.session_plan.specs.Heads.{made_head}
-use Rattle.sync_session.specs.News.{news_acts, news_by, opened_for, writes, replaced as replacements}
+use Rattle.sync_session.specs.News.{news_acts, news_by, opened_for, task_blocks, writes, replaced as replacements}
 use Rattle.sync_session.specs.Reads.{opened}
 use Rattle.session_plan.specs.Tasks.{Meeting, Task}
 use Rattle.front_laws.specs.Repeats.{given_by}
@@ -35,7 +35,11 @@ use Rattle.front_laws.specs.Given.{id_in, ids_in}
 use Rattle.front_laws.proofs.AlongLaws.{Along, Holds, along-append, along-last, along-map, along-quiet, none-in, none-told}
 use Rattle.front_laws.proofs.OpenActs.{all_closed, one_open, open_does}
 use Rattle.front_laws.proofs.PutActs.{IsReplacement, add_room, is_free, own_id, put-length, puts-append, replaces_do, replaces-length, room_now, room_then}
-use Rattle.front_laws.proofs.TaskActs.{Before, HasRoom, IsReady, before_is, made_opens, may_new, may_old}
+use Rattle.front_laws.proofs.TaskActs.{Before, HasRoom, IsBare, IsReady, bare-name, bare-writable, before_is, filled_do, filled_may, fills, made_opens, may_new, may_old}
+use Rattle.front_laws.proofs.BlockActs.{blocks_along, blocks_ids}
+use Rattle.front_laws.specs.Stops.{IsUnfilled, app_alone}
+use Rattle.session_plan.specs.Blocks.{blocks_for, with_blocks}
+use Rattle.session_plan.specs.Merges.{bare_before, new_database}
 use Rattle.front_laws.proofs.WriteActs.{IsSorted, MayWrite, holding, holding_own, put_does, put_tells}
 
 -- ---- what goes on from a step
@@ -213,12 +217,17 @@ module _ {m : Meeting} {t : Task} {o : Opened} {databases : List DatabaseValue} 
 
 -- ---- the databases then
 
+-- a database has some of its news, or none of them yet: it is as it was, or on the way to its blocks
+abbrev pub IsPart : Meeting → Task → DatabaseValue → ℕ → List ℕ → Option DatabaseValue → Type 0
+IsPart m t b count used now =
+    (now ≡ Some (with_some m t count used b)) ⊎ (((now ≡ t.handheld) ⊎ IsUnfilled t now) × (count ≡ 0))
+
 -- a database that gets its news has some of them, and all others are as before
 pub record TaskPart (m : Meeting) (t : Task) (b : DatabaseValue) (databases : List DatabaseValue) (user : UserInfo) (ids : List ℕ) (is : List ℕ)
     (x : Device) : Type 0 where
   pub count : ℕ
   pub used : List ℕ
-  pub stands : (database_of t.name x.databases ≡ Some (with_some m t count used b)) ⊎ ((database_of t.name x.databases ≡ t.handheld) × (count ≡ 0))
+  pub stands : IsPart m t b count used (database_of t.name x.databases)
   pub has : HasSome m t b.records count used
   pub all : is ≡ ids ++ used
   pub others : (name : List ℕ) → bytes_eq t.name name ≡ false → database_of name x.databases ≡ database_of name databases
@@ -230,11 +239,27 @@ Respects P = (is : List ℕ) (d e : Device) → Holds e d → P is d → P is e
 
 respects_part : (m : Meeting) (t : Task) (b : DatabaseValue) (databases : List DatabaseValue) (user : UserInfo) (ids : List ℕ)
     → Respects (TaskPart m t b databases user ids)
-respects_part m t b databases user ids is d e holds part = grind (arith, with_some m t part.count part.used b)
+respects_part m t b databases user ids is d e holds part = record {
+  count = part.count;
+  used = part.used;
+  stands = subst (IsPart m t b part.count part.used) (ap (database_of t.name) (sym holds.databases)) part.stands;
+  has = part.has;
+  all = part.all;
+  others = λ name apart. ap (database_of name) holds.databases ∙ part.others name apart;
+  known = holds.user ∙ part.known;
+}
 
 start_part : (m : Meeting) (t : Task) (b : DatabaseValue) (databases : List DatabaseValue) (user : UserInfo) (ids : List ℕ)
     → database_of t.name databases ≡ t.handheld → TaskPart m t b databases user ids ids (all_closed databases user)
-start_part m t b databases user ids here = grind (arith, [], append-nil ids)
+start_part m t b databases user ids here = record {
+  count = 0;
+  used = [];
+  stands = inr (inl here, refl);
+  has = record { own = refl; free = tt; few = omega arith };
+  all = sym (append-nil ids);
+  others = λ name apart. refl;
+  known = refl;
+}
 
 written_part : (m : Meeting) (t : Task) (is : IsReady m t) (o : Opened) (databases now : List DatabaseValue) (user : UserInfo) (ids : List ℕ)
     → database_of t.name now ≡ Some is.b → ((name : List ℕ) → bytes_eq t.name name ≡ false → database_of name now ≡ database_of name databases)
@@ -277,44 +302,105 @@ opened_for_along : (P : List ℕ → Device → Type 0) (name : List ℕ) (acts 
     → Along P ids (opened name acts) old → Along P ids (opened_for name acts) old
 opened_for_along P name acts old ids start along = grind (arith, common_steps)
 
+-- on the way to its blocks
+unfilled_part : (m : Meeting) (t : Task) (b x : DatabaseValue) (o : Opened) {d : DatabaseValue} (databases now : List DatabaseValue) (user : UserInfo)
+    (ids : List ℕ) → x.head.name ≡ t.name → database_of t.name now ≡ Some d
+    → ((name : List ℕ) → bytes_eq t.name name ≡ false → database_of name now ≡ database_of name databases)
+    → IsPart m t b 0 [] (Some x) → TaskPart m t b databases user ids ids (one_open o (replaced x now) user)
+unfilled_part m t b x o {d} databases now user ids named here others stands =
+    let found : database_of x.head.name now ≡ Some d = ap (λ n. database_of n now) named ∙ here in
+    let own : bytes_eq x.head.name t.name ≡ true = ap (λ n. bytes_eq n t.name) named ∙ bytes_eq-own t.name in
+    record {
+      count = 0;
+      used = [];
+      stands = subst (IsPart m t b 0 []) (sym (database_of-replaced t.name x d now found ∙ ap (λ c. cond c (Some x) (database_of t.name now)) own)) stands;
+      has = record { own = refl; free = tt; few = omega arith };
+      all = sym (append-nil ids);
+      others = λ name apart. database_of-replaced name x d now found
+          ∙ ap (λ n. cond (bytes_eq n name) (Some x) (database_of name now)) named
+          ∙ ap (λ c. cond c (Some x) (database_of name now)) apart ∙ others name apart;
+      known = refl;
+    }
+
+-- where it stands with its blocks
+module _ {m : Meeting} {t : Task} (is : IsReady m t) {d : DatabaseValue} (bare : IsBare is d) where
+  replaced_own : (now : List DatabaseValue) → database_of t.name now ≡ Some d → database_of t.name (replaced is.b now) ≡ Some is.b
+  replaced_own now here =
+      database_of-replaced t.name is.b d now (ap (λ n. database_of n now) is.own ∙ here)
+      ∙ ap (λ c. cond c (Some is.b) (database_of t.name now)) (ap (λ n. bytes_eq n t.name) is.own ∙ bytes_eq-own t.name)
+
+  replaced_others : (databases now : List DatabaseValue) → database_of t.name now ≡ Some d
+      → ((name : List ℕ) → bytes_eq t.name name ≡ false → database_of name now ≡ database_of name databases)
+      → (name : List ℕ) → bytes_eq t.name name ≡ false → database_of name (replaced is.b now) ≡ database_of name databases
+  replaced_others databases now here others name apart =
+      database_of-replaced name is.b d now (ap (λ n. database_of n now) is.own ∙ here)
+      ∙ ap (λ n. cond (bytes_eq n name) (Some is.b) (database_of name now)) is.own
+      ∙ ap (λ c. cond c (Some is.b) (database_of name now)) apart ∙ others name apart
+
+-- its blocks, and then its news
+fills_along : (m : Meeting) (t : Task) (is : IsReady m t) {d : DatabaseValue} (bare : IsBare is d) (o : Opened) (databases now : List DatabaseValue)
+    (user : UserInfo) (given ids : List ℕ) → bare_before t.handheld t.rows ≡ Some d → MayWrite o d now → database_of t.name now ≡ Some d
+    → ((name : List ℕ) → bytes_eq t.name name ≡ false → database_of name now ≡ database_of name databases) → HasRoom m t is.b.records
+    → Along (TaskPart m t is.b databases user ids) ids (fills m t given) (one_open o now user)
+fills_along m t is {d} bare o databases now user given ids before may here others room =
+    let P = TaskPart m t is.b databases user ids in
+    let blocks = blocks_for t.handheld t.rows in
+    let device = one_open o now user in
+    let name = bare-name is bare in
+    let at : (x : DatabaseValue) → x.head.name ≡ t.name → IsPart m t is.b 0 [] (Some x) → P ids (one_open o (replaced x now) user) =
+    λ x named stands. unfilled_part m t is.b x o databases now user ids named here others stands in
+    let first : P ids device =
+    subst (λ (ds : List DatabaseValue). P ids (one_open o ds user)) (replaced-own d now (ap (λ n. database_of n now) name ∙ here))
+    (at d name (inr (inr (record { bare = d; is = before; stands = inl refl }), refl))) in
+    let second : P ids (one_open o (replaced (with_blocks (app_alone blocks) d) now) user) =
+    at (with_blocks (app_alone blocks) d) name (inr (inr (record { bare = d; is = before; stands = inr refl }), refl)) in
+    let last : P ids (one_open o (replaced (with_blocks blocks d) now) user) =
+    at (with_blocks blocks d) name (inl (ap (λ (x : DatabaseValue). Some x) bare.same)) in
+    along-append P ids (task_blocks t) (writes m t given) device (blocks_along user may blocks P ids first second last) (λ free.
+    both_of P (writes m t given) (ap (λ more. ids ++ more) (blocks_ids blocks) ∙ append-nil ids) (filled_do is bare user may)
+    (along-map (WrittenSome m t is.b o (replaced is.b now) user ids) P ids (writes m t given) (one_open o (replaced is.b now) user)
+    (written_part m t is o databases (replaced is.b now) user ids (replaced_own is bare now here) (replaced_others is bare databases now here others))
+    (writes_along user ids is given (filled_may is bare user may) room)))
+
 -- what one database gets
 pub news_along : (m : Meeting) (t : Task) (is : IsReady m t) (databases : List DatabaseValue) (user : UserInfo) (given ids : List ℕ)
     → database_of t.name databases ≡ t.handheld → (t.handheld ≡ None → length databases < most_databases) → HasRoom m t is.b.records
     → Along (TaskPart m t is.b databases user ids) ids (news_acts m t given) (all_closed databases user)
 unfolding news_acts
-news_along m t is databases user given ids here few room = by (before_is t is.before)
+news_along m t is databases user given ids here few room = by (before_is is)
   where
     P : List ℕ → Device → Type 0
     P = TaskPart m t is.b databases user ids
 
     ws : List Act
-    ws = writes m t given
+    ws = fills m t given
 
     start : P ids (all_closed databases user)
     start = start_part m t is.b databases user ids here
 
-    by : Before t is.b → Along P ids (news_by t.handheld t ws) (all_closed databases user)
-    by (inl old) =
+    by : Before is → Along P ids (news_by t.handheld t ws) (all_closed databases user)
+    by (inl (d, old, bare)) =
         let o = just_opened t.name 0xD0 in
-        let there : database_of t.name databases ≡ Some is.b = here ∙ old in
+        let there : database_of t.name databases ≡ Some d = here ∙ old in
         subst (λ (h : Option DatabaseValue). Along P ids (news_by h t ws) (all_closed databases user)) (sym old)
         (opened_for_along P t.name ws (all_closed databases user) ids start
         (around_along P (respects_part m t is.b databases user ids) (opening t.name) ws (all_closed databases user) o databases user ids start refl
-        (open_does databases user is.named there is.writable)
-        (along-map (WrittenSome m t is.b o databases user ids) P ids ws (one_open o databases user)
-        (written_part m t is o databases databases user ids there (λ name apart. refl))
-        (writes_along user ids is given (may_old is databases there) room))))
-    by (inr (rows, no_handheld, some_rows, head)) =
-        let o = just_opened is.b.head.name 0xC0 in
-        let now = with_new is.b databases in
-        let none : database_of is.b.head.name databases ≡ None = ap (λ n. database_of n databases) is.own ∙ here ∙ no_handheld in
-        let look : (name : List ℕ) → database_of name now ≡ cond (bytes_eq t.name name) (Some is.b) (database_of name databases) =
-        λ name. database_of-with_new name is.b databases none ∙ ap (λ n. cond (bytes_eq n name) (Some is.b) (database_of name databases)) is.own in
+        (open_does databases user is.named there (bare-writable is bare))
+        (fills_along m t is bare o databases databases user given ids (ap (λ (h : Option DatabaseValue). bare_before h t.rows) old)
+        (may_old is bare databases there) there (λ name apart. refl) room)))
+    by (inr (rows, no_handheld, some_rows, bare)) =
+        let d = new_database (made_head rows.head) in
+        let o = just_opened d.head.name 0xC0 in
+        let now = with_new d databases in
+        let none : database_of d.head.name databases ≡ None = ap (λ n. database_of n databases) (bare-name is bare) ∙ here ∙ no_handheld in
+        let look : (name : List ℕ) → database_of name now ≡ cond (bytes_eq t.name name) (Some d) (database_of name databases) =
+        λ name. database_of-with_new name d databases none ∙ ap (λ n. cond (bytes_eq n name) (Some d) (database_of name databases)) (bare-name is bare) in
+        let made_before : bare_before t.handheld t.rows ≡ Some d =
+        ap {A = Option DatabaseValue × Option DatabaseValue} (λ p. bare_before p.0 p.1) (λ k. (no_handheld k, some_rows k)) in
         subst (λ (p : Option DatabaseValue × Option DatabaseValue). Along P ids (news_by p.0 (record t { rows = p.1 }) ws) (all_closed databases user))
         (λ k. (sym no_handheld k, sym some_rows k))
         (around_along P (respects_part m t is.b databases user ids) (making (made_head rows.head)) ws (all_closed databases user) o now user ids start refl
-        (made_opens rows databases user head (subst IsName (sym is.own) is.named) none (few no_handheld))
-        (along-map (WrittenSome m t is.b o now user ids) P ids ws (one_open o now user) (written_part m t is o databases now user ids
-        (look t.name ∙ ap (λ c. cond c (Some is.b) (database_of t.name databases)) (bytes_eq-own t.name))
-        (λ name apart. look name ∙ ap (λ c. cond c (Some is.b) (database_of name databases)) apart))
-        (writes_along user ids is given (may_new is databases none) room)))
+        (made_opens rows databases user refl (subst IsName (sym (bare-name is bare)) is.named) none (few no_handheld))
+        (fills_along m t is bare o databases now user given ids made_before (may_new is bare databases none)
+        (look t.name ∙ ap (λ c. cond c (Some d) (database_of t.name databases)) (bytes_eq-own t.name))
+        (λ name apart. look name ∙ ap (λ c. cond c (Some d) (database_of name databases)) apart) room))

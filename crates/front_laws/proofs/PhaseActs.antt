@@ -31,7 +31,7 @@ use Rattle.front_laws.proofs.EachLaws.{rise-put}
 use Rattle.front_laws.proofs.OpenActs.{all_closed}
 use Rattle.front_laws.proofs.ReadActs.{reads_same}
 use Rattle.front_laws.proofs.PutActs.{free-append, free-front}
-use Rattle.front_laws.proofs.TaskActs.{AreGiven, HasNews, HasRoom, IsReady, news_do, purged_does, with_news}
+use Rattle.front_laws.proofs.TaskActs.{AreGiven, HasNews, HasRoom, IsReady, bare-writable, bare_old, news_do, purged_does, with_news}
 use Rattle.front_laws.proofs.SkipLaws.{right_false}
 use Rattle.sync_session.proofs.OnceLaws.{bytes_eq-swap}
 use Rattle.sync_session.proofs.PlannedLaws.{at_most}
@@ -53,8 +53,7 @@ read_one m t is databases user here = by t.handheld refl
         → device_after (if is_none h then [] else opened t.name (reads m t)) (all_closed databases user) ≡ all_closed databases user
     by None none = refl
     by (Some d) old =
-        let same : d ≡ is.b = (let before = sym (ap (λ o. handheld_before o t.rows) old) ∙ is.before in cc) in
-        reads_same m t databases user t.name d is.named (here ∙ old) (ap (λ (x : DatabaseValue). is_read_only x.head.attributes) same ∙ is.writable)
+        reads_same m t databases user t.name d is.named (here ∙ old) (bare-writable is (bare_old is old))
 
 pub reads_all : (m : Meeting) (ts : List Task) (databases : List DatabaseValue) (user : UserInfo) → AreReady m ts → Stand ts databases
     → device_after (flat_map (read_acts m) ts) (all_closed databases user) ≡ all_closed databases user

@@ -27,7 +27,8 @@ use Rattle.record_merge.proofs.SettledLaws.{first-zero}
 use Rattle.record_merge.proofs.ShownLaws.{fast-no_other, slow-no_other}
 use Rattle.session_plan.specs.Choosing.{action_or_sync, agrees, base_rows, choice, is_fast, seen_held, sides, view}
 use Rattle.session_plan.specs.Heads.{made_head}
-use Rattle.session_plan.specs.Merges.{handheld_before, new_database}
+use Rattle.session_plan.specs.Blocks.{blocks_for, with_blocks}
+use Rattle.session_plan.specs.Merges.{bare_before, filled_before, handheld_before, new_database}
 use Rattle.sync_session.specs.News.{replaced as replacements}
 use Rattle.session_plan.specs.Skips.{active, head_of, one_passes, reason_by, skip_of}
 use Rattle.session_plan.specs.Tasks.{Meeting, Task, names, records_of, slot_of, task_of, tasks}
@@ -205,8 +206,8 @@ before_of {m} sound {t} is = by t.handheld t.rows refl refl is.side
         let named = database_of-name t.name m.device.databases d there in
         let bounded = AllByRecursion-database_of IsBoundedDatabase t.name m.device.databases d sound.device.bounded.databases there in
         record {
-          b = d;
-          before = ap (λ o. handheld_before o t.rows) is_h;
+          b = with_blocks (blocks_for t.handheld t.rows) d;
+          before = ap (λ (h : Option DatabaseValue). filled_before (blocks_for t.handheld t.rows) (bare_before h t.rows)) is_h;
           named = subst IsName named bounded.head.name;
           own = named;
         }
@@ -215,8 +216,9 @@ before_of {m} sound {t} is = by t.handheld t.rows refl refl is.side
         let named = database_of-name t.name (slot_of m).shelves.rows d there in
         let bounded = AllByRecursion-database_of IsBoundedDatabase t.name (slot_of m).shelves.rows d sound.slot.rows there in
         record {
-          b = new_database (made_head d.head);
-          before = ap {A = Option DatabaseValue × Option DatabaseValue} (λ p. handheld_before p.0 p.1) (λ k. (is_h k, is_r k));
+          b = with_blocks (blocks_for t.handheld t.rows) (new_database (made_head d.head));
+          before = ap {A = Option DatabaseValue × Option DatabaseValue} (λ p. filled_before (blocks_for t.handheld t.rows) (bare_before p.0 p.1))
+              (λ k. (is_h k, is_r k));
           named = subst IsName named bounded.head.name;
           own = named;
         }

@@ -1,6 +1,6 @@
 -- A session with other ids is the same but for the ids of its new records.
 use Rattle.std.proofs.lemmas.Grind.{common_steps}
-use Rattle.std.proofs.Common.{◌≡◌, ◌∙◌, ◌+◌, refl, ap, sym, subst, ℕ, Bool, true, false, List, [], ◌∷◌, ◌++◌, length, map, take, drop, arith}
+use Rattle.std.proofs.Common.{◌≡◌, inl, inr, ◌∙◌, ◌+◌, refl, ap, sym, subst, ℕ, Bool, true, false, List, [], ◌∷◌, ◌++◌, length, map, take, drop, arith}
 use Rattle.std.specs.Prelude.{Option, Some, None, replicate, flat_map, sum_by}
 use Rattle.std.specs.List.{AllByRecursion}
 use Rattle.std.proofs.lemmas.List.Sums.{sum_by-cons}
@@ -8,12 +8,12 @@ use Rattle.pdb_values.specs.Contents.{ContentValue}
 use Rattle.pdb_values.specs.Databases.{DatabaseValue}
 use Rattle.conduit_rules.specs.Plans.{purged_ids}
 use Rattle.desktop_session.specs.Acts.{Act}
-use Rattle.desktop_session.specs.Requests.{cleaning, closing, ending, making, opening, removing, resetting}
+use Rattle.desktop_session.specs.Requests.{cleaning, closing, ending, making, opening, removing, resetting, writing_app, writing_sort}
 use Rattle.mirrors.specs.News.{as_new, purge_writes, puts}
 use Rattle.session_plan.specs.Choosing.{choice, seen_held, add_count}
 use Rattle.session_plan.specs.Heads.{made_head}
-use Rattle.session_plan.specs.Merges.{handheld_before}
-use Rattle.sync_session.specs.News.{all_news, made, news_acts, news_by, opened_for, purge_acts, writes, replaced as replacements}
+use Rattle.session_plan.specs.Blocks.{GivenBlocks, blocks_for}
+use Rattle.sync_session.specs.News.{all_news, block_act, block_acts, news_acts, news_by, opened_for, purge_acts, task_blocks, writes, replaced as replacements}
 use Rattle.sync_session.specs.Sessions.{adds_of, after_commit, before_commit, before_writes, session, begin_mark, end_mark}
 use Rattle.session_plan.specs.Skips.{active}
 use Rattle.session_plan.specs.Tasks.{Meeting, Task}
@@ -26,7 +26,7 @@ use Rattle.front_laws.proofs.PartActs.{not_zero}
 use Rattle.front_laws.proofs.PutActs.{IsReplacement, puts-append}
 use Rattle.front_laws.proofs.ReadyLaws.{ready-all}
 use Rattle.front_laws.proofs.RunLaws.{asks, asks_in, count_one, given_to, ids_left, relabel}
-use Rattle.front_laws.proofs.TaskActs.{IsReady}
+use Rattle.front_laws.proofs.TaskActs.{Before, IsReady, before_is, fills}
 
 -- ---- lists
 
@@ -113,6 +113,31 @@ writes-labelled m t is ids =
           omega (arith, parts, zero_first, rest));
     }
 
+-- the blocks ask for none
+block-none : (writing : ℕ → List ℕ → Act) → ((bytes : List ℕ) → asks (writing 1 bytes) ≡ false) → (block : Option (List ℕ)) → NoAsk (block_act writing 1 block)
+block-none writing each None = tt
+block-none writing each (Some bytes) = (each bytes, tt)
+
+blocks-none : (blocks : GivenBlocks) → NoAsk (block_acts 1 blocks)
+unfolding block_acts
+blocks-none blocks =
+    none-append (block_act writing_app 1 blocks.app) (block_act writing_sort 1 blocks.sort) (block-none writing_app (λ bytes. refl) blocks.app)
+    (block-none writing_sort (λ bytes. refl) blocks.sort)
+
+fills-labelled : (m : Meeting) (t : Task) → IsReady m t → (ids : List ℕ) → IsLabelled ids (add_count m t) (fills m t []) (fills m t ids)
+fills-labelled m t is ids =
+    let front = task_blocks t in
+    let none = blocks-none (blocks_for t.handheld t.rows) in
+    let behind = writes-labelled m t is ids in
+    let bare = writes m t [] in
+    record {
+      same = ap (λ (zs : List Act). front ++ zs) behind.same
+          ∙ sym (relabel-append ids front bare
+          ∙ ap {A = List Act × ℕ} (λ p. p.0 ++ relabel (drop p.1 ids) bare) (λ k. (none-same ids front none k, none-count front none k)));
+      count = let parts = count-append front bare in let zero_first = none-count front none in let rest = behind.count in
+          omega (arith, parts, zero_first, rest);
+    }
+
 -- what is done while a database is open
 around-labelled : (ids : List ℕ) (n : ℕ) (first : Act) {bare acts : List Act} → asks first ≡ false → IsLabelled ids n bare acts
     → IsLabelled ids n (first ∷ (bare ++ closing 1 ∷ [])) (first ∷ (acts ++ closing 1 ∷ []))
@@ -130,18 +155,19 @@ opened-labelled ids n name {bare} is =
 
 news-labelled : {m : Meeting} {t : Task} → IsReady m t → (ids : List ℕ) → IsLabelled ids (add_count m t) (news_acts m t []) (news_acts m t ids)
 unfolding news_acts
-news-labelled {m} {t} is ids = by t.handheld t.rows refl is.before
+news-labelled {m} {t} is ids = by (before_is is)
   where
     n : ℕ
     n = add_count m t
 
-    by : (h r : Option DatabaseValue) → t.rows ≡ r → handheld_before h r ≡ Some is.b
-        → IsLabelled ids n (news_by h t (writes m t [])) (news_by h t (writes m t ids))
-    by (Some d) r rows before = opened-labelled ids n t.name (writes-labelled m t is ids)
-    by None (Some r) rows before =
-        subst (λ (o : Option DatabaseValue). IsLabelled ids n (made o (writes m t [])) (made o (writes m t ids))) (sym rows)
-        (around-labelled ids n (making (made_head r.head)) refl (writes-labelled m t is ids))
-    by None None rows before = absurd (cc)
+    by : Before is → IsLabelled ids n (news_by t.handheld t (fills m t [])) (news_by t.handheld t (fills m t ids))
+    by (inl (d, old, bare)) =
+        subst (λ (h : Option DatabaseValue). IsLabelled ids n (news_by h t (fills m t [])) (news_by h t (fills m t ids))) (sym old)
+        (opened-labelled ids n t.name (fills-labelled m t is ids))
+    by (inr (r, none, rows, bare)) =
+        subst (λ (p : Option DatabaseValue × Option DatabaseValue).
+        IsLabelled ids n (news_by p.0 (record t { rows = p.1 }) (fills m t [])) (news_by p.0 (record t { rows = p.1 }) (fills m t ids)))
+        (λ k. (sym none k, sym rows k)) (around-labelled ids n (making (made_head r.head)) refl (fills-labelled m t is ids))
 
 -- as many ids as are asked for
 pub ids-length : (acts : List Act) → length (ids_in acts) ≡ asks_in acts

@@ -11,7 +11,7 @@ use Rattle.pdb_values.specs.declared.head.DbHead.{DbHead}
 use Rattle.pdb_values.proofs.NamedLaws.{bytes_eq-own}
 use Rattle.conduit_rules.specs.declared.action.Action.{Action}
 use Rattle.session_plan.specs.Heads.{made_head, plain_attributes, rows_head}
-use Rattle.session_plan.specs.Merges.{handheld_before, new_database, rows_before}
+use Rattle.session_plan.specs.Merges.{bare_before, handheld_before, new_database, rows_before}
 use Rattle.session_plan.specs.Skips.{differ, head_of, is_missing, one_passes, passes, reason_by, skip_of}
 use Rattle.session_plan.specs.Tasks.{Meeting, task_of}
 use Rattle.session_parts.specs.declared.skip.Skip.{Skip}
@@ -130,6 +130,12 @@ pub handheld-like : (h r : Option DatabaseValue) (b : DatabaseValue) → handhel
 handheld-like (Some d) r b is = grind arith
 handheld-like None (Some d) b is = grind (arith, created-like d.head (new_database (made_head d.head)).head refl refl refl)
 handheld-like None None b is = absurd (cc)
+
+-- the same before it has its blocks
+pub bare-like : (h r : Option DatabaseValue) (b : DatabaseValue) → bare_before h r ≡ Some b → IsLikeFirst (head_of h) (head_of r) (Some b.head)
+bare-like (Some d) r b is = grind arith
+bare-like None (Some d) b is = grind (arith, created-like d.head (new_database (made_head d.head)).head refl refl refl)
+bare-like None None b is = absurd (cc)
 
 pub rows-like : (date : ℕ) (h r : Option DatabaseValue) {b : DatabaseValue} → rows_before date r h ≡ Some b
     → IsLikeFirst (head_of r) (head_of h) (Some b.head)

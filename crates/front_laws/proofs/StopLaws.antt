@@ -1,6 +1,6 @@
 -- A front is a stop, and the session that is run again ends as the one that stopped would have ended.
 use Rattle.std.proofs.lemmas.Grind.{common_steps}
-use Rattle.std.proofs.Common.{◌≡◌, ◌⊎◌, inl, inr, ◌∙◌, ◌<◌, ◌||◌, not, refl, ap, sym, subst, ℕ, Bool, true, List, [], ◌∷◌, ◌++◌, length, take, if◌then◌else◌}
+use Rattle.std.proofs.Common.{◌≡◌, ◌⊎◌, inl, inr, ◌∙◌, ◌<◌, ◌||◌, not, refl, ap, sym, subst, ℕ, Bool, true, List, [], ◌∷◌, ◌++◌, length, take, if◌then◌else◌, false}
 use Rattle.std.proofs.Common.{arith, is_none, is_some}
 use Rattle.std.specs.Prelude.{Option, None}
 use Rattle.std.specs.List.{AllByRecursion}
@@ -42,7 +42,7 @@ use Rattle.front_laws.proofs.CommitLaws.{commit-adds, end-adds}
 use Rattle.front_laws.proofs.MeetingLaws.{among-news, at-the_end, behind-the_commit, reading-shows, same_action}
 use Rattle.front_laws.proofs.MergedLaws.{handheld-merged}
 use Rattle.front_laws.proofs.NewsLaws.{whole-is}
-use Rattle.front_laws.proofs.SkipLaws.{handheld-like, kept-stays}
+use Rattle.front_laws.proofs.SkipLaws.{bare-like, handheld-like, kept-stays}
 use Rattle.front_laws.proofs.SoundLaws.{read-commit}
 use Rattle.front_laws.proofs.TaskLaws.{are-active, device-name, is-active, on_a_side, rows-name}
 use Rattle.front_laws.proofs.WholeLaws.{active-again, device_databases, meetings-hold, merged-at, whole-found}
@@ -52,7 +52,7 @@ use Rattle.front_laws.specs.Stops.{StandsAmongNews, StandsBehindCommit, StandsWi
 use Rattle.front_laws.proofs.FrontLaws.{front-among, front-behind}
 use Rattle.front_laws.proofs.PartActs.{take-all}
 use Rattle.front_laws.proofs.ReadyLaws.{handheld-sound}
-use Rattle.front_laws.proofs.UnwrittenLaws.{unwritten-ids, written-records}
+use Rattle.front_laws.proofs.UnwrittenLaws.{stands-records, unwritten-ids, written-records}
 use Rattle.front_laws.proofs.UnknownLaws.{IsNewIn, all-new, news-back, news-new, none-back, none-front, unknown-both, unknown-of}
 use Rattle.front_laws.proofs.HandheldLaws.{take_none}
 
@@ -61,7 +61,13 @@ use Rattle.front_laws.proofs.HandheldLaws.{take_none}
 pub left-among : {meeting next : Meeting} {given : List ℕ} (stands : StandsAmongNews meeting given next.device) → AsksTheSame meeting next
     → next.device.user ≡ begun_user meeting.device.user → slot_of next ≡ slot_of meeting → 0 < (slot_of meeting).marks.pc
     → LeftAmongNews meeting next (ids_at meeting given) stands.count
-left-among stands asks begun slot number = grind arith
+left-among {meeting} {next} {given} stands asks begun slot number = record {
+  asks = asks;
+  marks = record { handheld = ap (λ (u : UserInfo). u.pc) begun; desktop = subst (λ n. 0 < n) (sym (ap (λ (s : SlotValue). s.marks.pc) slot)) number };
+  slot = slot;
+  records = λ name. stands-records (task_of meeting name) (news_at meeting name (ids_at meeting given name) (stands.count name))
+      (database_of name next.device.databases) (stands.each name);
+}
 
 pub slot_pc : (meeting : Meeting) (given : List ℕ) → (merged_slot meeting given).marks.pc ≡ (slot_of meeting).marks.pc
 unfolding merged_slot
@@ -114,11 +120,20 @@ own-like o other = grind (arith, common_steps)
 stands-like : (t : Task) (ws : List Write) (o : Option DatabaseValue) → StandsWith t ws o
     → IsLikeFirst (head_of t.handheld) (head_of t.rows) (head_of o)
 stands-like t ws o (inl (same, none)) = grind (arith, own-like (head_of t.handheld) (head_of t.rows))
-stands-like t ws o (inr is) = grind (arith, handheld-like t.handheld t.rows is.before is.is)
+stands-like t ws o (inr (inl (way, none))) = elim way.stands [
+  | inl there ↦ subst (λ x. IsLikeFirst (head_of t.handheld) (head_of t.rows) (head_of x)) (sym there) (bare-like t.handheld t.rows way.bare way.is)
+  | inr there ↦ subst (λ x. IsLikeFirst (head_of t.handheld) (head_of t.rows) (head_of x)) (sym there) (bare-like t.handheld t.rows way.bare way.is)
+]
+stands-like t ws o (inr (inr is)) = grind (arith, handheld-like t.handheld t.rows is.before is.is)
 
 stands-there : (t : Task) (ws : List Write) (o : Option DatabaseValue) → StandsWith t ws o → is_none (head_of o) ≡ true
     → is_none (head_of t.handheld) ≡ true
-stands-there t ws o e f = grind (arith, common_steps)
+stands-there t ws o (inl (same, none)) f = sym (ap (λ x. is_none (head_of x)) same) ∙ f
+stands-there t ws o (inr (inl (way, none))) f = elim way.stands [
+  | inl there ↦ absurd (let no : false ≡ true = sym (ap (λ x. is_none (head_of x)) there) ∙ f in cc)
+  | inr there ↦ absurd (let no : false ≡ true = sym (ap (λ x. is_none (head_of x)) there) ∙ f in cc)
+]
+stands-there t ws o (inr (inr is)) f = absurd (let no : false ≡ true = sym (ap (λ x. is_none (head_of x)) is.stands) ∙ f in cc)
 
 pub like-among : {meeting : Meeting} (next : Meeting) {given : List ℕ} (stands : StandsAmongNews meeting given next.device) (name : List ℕ)
     → AsksTheSame meeting next → slot_of next ≡ slot_of meeting → StandsLike meeting next name

@@ -1,7 +1,7 @@
 -- A handheld that is as it was got no new record.
 use Rattle.std.proofs.lemmas.Bool.Decides.{nat_tests}
 use Rattle.std.proofs.Common.{◌≡◌, inl, inr, ◌∙◌, refl, ap, sym, subst, ℕ, zero, suc, true, false, List, [], ◌∷◌, ◌++◌, take, arith, is_some}
-use Rattle.std.specs.Prelude.{Option}
+use Rattle.std.specs.Prelude.{Option, Some, None}
 use Rattle.pdb_values.specs.Contents.{ContentValue}
 use Rattle.pdb_values.specs.Databases.{DatabaseValue}
 use Rattle.pdb_values.specs.declared.record.Record.{Record}
@@ -13,7 +13,8 @@ use Rattle.record_merge.specs.Writes.{Write, adding, after, numbered, replaces}
 use Rattle.record_merge.proofs.PutLaws.{first-put}
 use Rattle.session_plan.specs.Tasks.{Task, records_of}
 use Rattle.front_laws.specs.Repeats.{Finding, GotIds, chosen, given_by, news_done, shown}
-use Rattle.front_laws.specs.Stops.{IsWritten, StandsWith}
+use Rattle.front_laws.specs.Stops.{IsUnfilled, IsWritten, StandsWith}
+use Rattle.session_plan.specs.Merges.{bare_before}
 use Rattle.front_laws.proofs.UnknownLaws.{news-new}
 use Rattle.front_laws.proofs.WholeLaws.{before_records}
 
@@ -21,6 +22,23 @@ use Rattle.front_laws.proofs.WholeLaws.{before_records}
 
 pub written-records : {t : Task} {ws : List Write} {o : Option DatabaseValue} → IsWritten t ws o → records_of o ≡ after ws (records_of t.handheld)
 written-records {t} {ws} is = ap records_of is.stands ∙ ap (after ws) (before_records t.handheld t.rows is.is)
+
+-- one that was opened or made has its records
+pub bare_records : (h r : Option DatabaseValue) {b : DatabaseValue} → bare_before h r ≡ Some b → b.records ≡ records_of h
+bare_records (Some d) r is = ap records_of (sym is)
+bare_records None (Some d) is = ap records_of (sym is)
+bare_records None None is = absurd (cc)
+
+unfilled-records : {t : Task} {o : Option DatabaseValue} → IsUnfilled t o → records_of o ≡ records_of t.handheld
+unfilled-records {t} way = elim way.stands [
+  | inl there ↦ ap records_of there ∙ bare_records t.handheld t.rows way.is
+  | inr there ↦ ap records_of there ∙ bare_records t.handheld t.rows way.is
+]
+
+pub stands-records : (t : Task) (ws : List Write) (o : Option DatabaseValue) → StandsWith t ws o → records_of o ≡ after ws (records_of t.handheld)
+stands-records t ws o (inl (same, none)) = ap records_of same ∙ ap (λ vs. after vs (records_of t.handheld)) (sym none)
+stands-records t ws o (inr (inl (way, none))) = unfilled-records way ∙ ap (λ vs. after vs (records_of t.handheld)) (sym none)
+stands-records t ws o (inr (inr is)) = written-records is
 
 -- ---- what was added is there
 
@@ -64,8 +82,6 @@ none-given a x (g ∷ ids) n got all same =
 
 pub unwritten-ids : (a : Action) (x : Finding) (t : Task) (ids : List ℕ) (n : ℕ) → x.records ≡ records_of t.handheld
     → StandsWith t (news_done a x ids n) t.handheld → GotIds a x ids → given_by (news_done a x ids n) ≡ ids → [] ≡ ids
-unwritten-ids a x t ids n own stands got all = elim stands [
-  | inl none ↦ sym (ap given_by none.1) ∙ all
-  | inr is ↦
-      sym (none-given a x ids n got all (ap (after (news_done a x ids n)) own ∙ sym (written-records is) ∙ sym own))
-]
+unwritten-ids a x t ids n own stands got all =
+    sym (none-given a x ids n got all
+    (ap (after (news_done a x ids n)) own ∙ sym (stands-records t (news_done a x ids n) t.handheld stands) ∙ sym own))

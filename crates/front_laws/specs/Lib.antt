@@ -2,6 +2,7 @@ pub mod Acts
 pub mod Again
 pub mod Answered
 pub mod Equal
+pub mod Filled
 pub mod Given
 pub mod Keeping
 pub mod Lives

@@ -1,12 +1,13 @@
 -- Where a handheld stands after a beginning of a session's acts, database by database.
-use Rattle.std.specs.Prelude.{◌≡◌, ◌⊎◌, ℕ, List, [], ◌++◌, Option, Some}
+use Rattle.std.specs.Prelude.{◌≡◌, ◌⊎◌, ℕ, List, [], ◌++◌, Option, Some, None}
 use Rattle.std.specs.List.{flat_map}
 use Rattle.pdb_values.specs.Databases.{DatabaseValue}
 use Rattle.pdb_values.specs.NamedDatabases.{database_of}
 use Rattle.palm_device.specs.Devices.{Device}
 use Rattle.palm_device.specs.Records.{with_records}
 use Rattle.record_merge.specs.Writes.{Write, after, giving}
-use Rattle.session_plan.specs.Merges.{handheld_before, merged_device}
+use Rattle.session_plan.specs.Blocks.{GivenBlocks, blocks_for, with_blocks}
+use Rattle.session_plan.specs.Merges.{bare_before, handheld_before, merged_device}
 use Rattle.session_plan.specs.Skips.{active}
 use Rattle.session_plan.specs.Tasks.{Meeting, Task, task_of}
 use Rattle.session_plan.specs.Users.{begun_user}
@@ -33,15 +34,29 @@ cleared_at meeting name ids count =
     (shown (found_of meeting name)) ids
     ++ clearing_done (action_at meeting name) (found_of meeting name) count
 
--- a database with these writes carried out: the one that the handheld had, or the one that was made
+-- a database with its blocks and with these writes carried out: the one that the handheld had, or
+-- the one that was made
 pub record IsWritten (task : Task) (writes : List Write) (now : Option DatabaseValue) : Type 0 where
   pub before : DatabaseValue
   pub is : handheld_before task.handheld task.rows ≡ Some before
   pub stands : now ≡ Some (with_records (after writes before.records) before)
 
--- the same, or as it was before any
+-- the app block of these alone
+abbrev pub app_alone : GivenBlocks → GivenBlocks
+app_alone blocks = record { app = blocks.app; sort = None }
+
+-- a database that was opened or made and has none of its blocks yet, or the app block alone
+pub record IsUnfilled (task : Task) (now : Option DatabaseValue) : Type 0 where
+  pub bare : DatabaseValue
+  pub is : bare_before task.handheld task.rows ≡ Some bare
+  pub stands : (now ≡ Some bare)
+      ⊎ (now ≡ Some (with_blocks (app_alone (blocks_for task.handheld task.rows)) bare))
+
+-- the same, or as it was before any write, or on the way to its blocks
 abbrev pub StandsWith : Task → List Write → Option DatabaseValue → Type 0
-StandsWith task writes now = ((now ≡ task.handheld) × (writes ≡ [])) ⊎ IsWritten task writes now
+StandsWith task writes now =
+    ((now ≡ task.handheld) × (writes ≡ []))
+    ⊎ ((IsUnfilled task now × (writes ≡ [])) ⊎ IsWritten task writes now)
 
 -- the user is that of a session under way, or nothing was written yet
 abbrev pub HasBegun : Meeting → Device → Type 0
@@ -50,8 +65,8 @@ HasBegun meeting device =
     ⊎ ((device.user ≡ meeting.device.user) × (device.databases ≡ meeting.device.databases))
 
 -- Up to the desktop's commit: each database has so many of its replacements and adds, under the ids
--- that are dealt out to it, of which no record had any at its turn, and none is left. What the
--- session skips or hasn't is as before.
+-- that are dealt out to it, of which no record had any at its turn, and none is left; its blocks
+-- before any of them. What the session skips or hasn't is as before.
 pub record StandsAmongNews (meeting : Meeting) (given : List ℕ) (device : Device) : Type 0 where
   pub count : List ℕ → ℕ
   pub each : (name : List ℕ)

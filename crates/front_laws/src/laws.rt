@@ -1,6 +1,7 @@
 //! What a session makes of a handheld. Each function here does nothing: its contract is the law.
 ghost use Rattle.std.specs.Prelude.{◌≡◌, ◌≤◌, ℕ, List, [], None, Some, length, map, take};
 ghost use Rattle.std.specs.List.{AllByRecursion};
+ghost use Rattle.pdb_values.specs.Databases.{DatabaseValue};
 ghost use Rattle.palm_device.specs.Devices.{Device};
 ghost use Rattle.dlp_commands.specs.Changes.{given_in};
 ghost use Rattle.dlp_commands.specs.Talks.{Talk};
@@ -12,13 +13,14 @@ ghost use Rattle.desktop_session.specs.Tellings.{AreSayable, device_after, excha
 ghost use Rattle.session_plan.specs.Limits.{first_over};
 ghost use Rattle.session_plan.specs.Merges.{merged_device};
 ghost use Rattle.sync_session.specs.Sessions.{adds_of, after_commit, before_commit, before_writes, session, requests, writes_before_commit};
-ghost use Rattle.session_plan.specs.Tasks.{Meeting};
+ghost use Rattle.session_plan.specs.Tasks.{Meeting, task_of};
 ghost use Rattle.front_laws.specs.Meetings.{GotAllAt, IsActive};
 ghost use Rattle.front_laws.specs.Again.{AllRunAgain, AllSkip, AreAllFresh, AreRunAgain, EndsAsWhole, EndsAtMerge, GivesNewIds, IsRunAgain, IsSkipped, LeavesTheSame, LosesNone};
 ghost use Rattle.front_laws.specs.Again.{Later, RunsAgain, last_run};
 ghost use Rattle.front_laws.specs.Answered.{IsAnsweredExchange, RefusesNone};
 ghost use Rattle.front_laws.specs.Equal.{HoldsEqual, IsShownWhole};
 ghost use Rattle.front_laws.specs.Losses.{LeavesEach, MightLose};
+ghost use Rattle.front_laws.specs.Filled.{HasBlocks, IsMade, KeepsBlocks};
 ghost use Rattle.front_laws.specs.Given.{GetFreeIds, TellIds, ids_in};
 ghost use Rattle.front_laws.specs.Sound.{FitsLimits, IsSoundMeeting};
 ghost use Rattle.front_laws.specs.Stops.{IsFittingFront, StandsAmongNews, StandsBehindCommit};
@@ -38,6 +40,21 @@ pub fn both_sides_end_equal()
     ensures { (meeting : Meeting) (given name : List ℕ) → IsSoundMeeting meeting
         → IsActive meeting name → IsShownWhole meeting name
         → GotAllAt meeting given name → HoldsEqual meeting given name }
+{}
+
+/// A database that a session made on the handheld has the desktop's blocks, those that have bytes: behind the
+/// whole session, and from the desktop's commit on wherever it stopped. A database that the handheld had keeps
+/// its own.
+pub fn a_made_database_has_the_desktops_blocks()
+    ensures whole { (meeting : Meeting) (given name : List ℕ) → IsMade meeting name
+        → HasBlocks meeting (merged_device meeting given) name }
+    ensures commit { (meeting : Meeting) (writes : ℕ) (given name : List ℕ) (device : Device)
+        → IsFittingFront meeting writes given device
+        → writes_before_commit meeting ≤ writes → IsMade meeting name
+        → HasBlocks meeting device name }
+    ensures kept { (meeting : Meeting) (given name : List ℕ) (database : DatabaseValue)
+        → IsActive meeting name → (task_of meeting name).handheld ≡ Some database
+        → KeepsBlocks meeting (merged_device meeting given) name }
 {}
 
 /// A session that isn't refused costs the desktop no live row of a database that it merges by both sides and

@@ -1,4 +1,5 @@
 pub mod Archives
+pub mod Blocks
 pub mod Choosing
 pub mod Commits
 pub mod Fits

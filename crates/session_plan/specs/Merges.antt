@@ -14,6 +14,7 @@ use Rattle.record_merge.specs.Merging.{merged_archive, merged_base, merged_recor
 use Rattle.folder_files.specs.Partings.{parting_of}
 use Rattle.folder_files.specs.declared.parted.Parted.{Parted}
 use Rattle.desk_store.specs.Shelves.{ShelvesValue, SlotValue, with_place}
+use Rattle.session_plan.specs.Blocks.{GivenBlocks, blocks_for, with_blocks}
 use Rattle.session_plan.specs.Losses.{is_stranger}
 use Rattle.session_plan.specs.Partings.{parting_by, with_parting}
 use Rattle.session_plan.specs.Tasks.{Meeting, Task, records_of, slot_of, tasks}
@@ -25,16 +26,25 @@ use Rattle.session_plan.specs.Archives.{archive_records, entries_of}
 
 -- ---- the handheld
 
--- a database that it lacked is new: CreateDB makes it
+-- a database that it lacked is new: CreateDB makes it, without blocks
 abbrev pub new_database : DbHead → DatabaseValue
 new_database head =
     empty_database (new_head head.name head.kind.0 head.creator.0 head.attributes head.version)
 
--- the database before: the handheld's, or a new one by the head of the desktop's rows
+-- the database that is opened or made: the handheld's, or a new one by the head of the desktop's
+-- rows
+abbrev pub bare_before : Option DatabaseValue → Option DatabaseValue → Option DatabaseValue
+bare_before (Some handheld) rows = Some handheld
+bare_before None (Some rows) = Some (new_database (made_head rows.head))
+bare_before None None = None
+
+-- the database before its records: with the blocks that it gets
+abbrev pub filled_before : GivenBlocks → Option DatabaseValue → Option DatabaseValue
+filled_before blocks None = None
+filled_before blocks (Some bare) = Some (with_blocks blocks bare)
+
 abbrev pub handheld_before : Option DatabaseValue → Option DatabaseValue → Option DatabaseValue
-handheld_before (Some handheld) rows = Some handheld
-handheld_before None (Some rows) = Some (new_database (made_head rows.head))
-handheld_before None None = None
+handheld_before handheld rows = filled_before (blocks_for handheld rows) (bare_before handheld rows)
 
 -- with its records merged
 abbrev pub put_merged : Meeting → Task → List ℕ → Option DatabaseValue → List DatabaseValue

@@ -31,7 +31,8 @@ use Rattle.session_plan.specs.Fits.{AreOfSession, AreTakeable, IsTakeable, Takes
 use Rattle.sync_session.specs.Gains.{AreGained}
 use Rattle.session_plan.specs.Heads.{plain_attributes}
 use Rattle.session_plan.specs.Jobs.{head_named, job_of, jobs_of, names_with}
-use Rattle.sync_session.specs.Phases.{gained, gained_by, news_under}
+use Rattle.sync_session.specs.Phases.{blocks_at, gained, gained_by, news_under}
+use Rattle.session_plan.specs.Blocks.{GivenBlocks}
 use Rattle.session_plan.specs.PlannedLimits.{over_planned, past_room, unskipped}
 use Rattle.session_plan.specs.Skips.{head_of, one_passes, passes, reason_by}
 use Rattle.session_parts.specs.Stretches.{EachSays, Stretch}
@@ -91,14 +92,14 @@ gained-count told plan handle given ids got =
     let rest = length-drop (length plan.replace.items) given in
     rw got.behind (omega (arith, all, both, adds, rest))
 
-counted-by : (skip : Option Skip) (handheld rows : Option DbHead) (name : List ℕ) (plan : Plan) (told : Option Talk) (handle : ℕ) (given ids : List ℕ)
-    → gained_by skip handheld rows name plan told handle given ids → skip ≡ None → IsSome handheld ⊎ IsSome rows
+counted-by : (skip : Option Skip) (handheld rows : Option DbHead) (blocks : GivenBlocks) (name : List ℕ) (plan : Plan) (told : Option Talk) (handle : ℕ) (given ids : List ℕ)
+    → gained_by skip handheld rows blocks name plan told handle given ids → skip ≡ None → IsSome handheld ⊎ IsSome rows
     → length ids ≡ length plan.adds.items
-counted-by (Some skip) handheld rows name plan told handle given ids got none there = absurd cc
-counted-by None (Some handheld) rows name plan told handle given ids got none there = gained-count _ plan handle given ids got
-counted-by None None (Some rows) name plan told handle given ids got none there = gained-count _ plan handle given ids got
-counted-by None None None name plan told handle given ids got none (inl there) = absurd cc
-counted-by None None None name plan told handle given ids got none (inr there) = absurd cc
+counted-by (Some skip) handheld rows blocks name plan told handle given ids got none there = absurd cc
+counted-by None (Some handheld) rows blocks name plan told handle given ids got none there = gained-count _ plan handle given ids got
+counted-by None None (Some rows) blocks name plan told handle given ids got none there = gained-count _ plan handle given ids got
+counted-by None None None blocks name plan told handle given ids got none (inl there) = absurd cc
+counted-by None None None blocks name plan told handle given ids got none (inr there) = absurd cc
 
 -- ---- a database of a session can be taken
 
@@ -121,13 +122,13 @@ module _ (date : ℕ) (heads : List DbHead) (shelves : ShelvesValue) (agree : Li
   rows-take name plan given None None there is records counted = tt
 
   one-takes : (name : List ℕ) (one : Planned) (told : Option Talk) (handle : ℕ) (given ids : List ℕ) → one.job ≡ job_of heads shelves agree wishes name
-      → gained told one handle given ids → IsTakeable date shelves one ids
+      → gained shelves told one handle given ids → IsTakeable date shelves one ids
   unfolding gained
   one-takes name one told handle given ids is got = λ active.
       let job : Job = job_of heads shelves agree wishes name in
       let skips : job.skip ≡ None = ap (λ (j : Job). j.skip) (sym is) ∙ active in
       let counted : IsSome one.job.handheld ⊎ IsSome one.job.rows → length ids ≡ length one.plan.adds.items
-      = counted-by one.job.skip one.job.handheld one.job.rows one.job.name one.plan told handle given ids got active in
+      = counted-by one.job.skip one.job.handheld one.job.rows (blocks_at shelves one.job.name) one.job.name one.plan told handle given ids got active in
       let there : IsSome job.handheld ⊎ IsSome job.rows → length ids ≡ length one.plan.adds.items = rw is at counted in
       let taken : IfSome (rows_begun date (database_of name shelves.rows) job.handheld) (TakesPlan name one.plan ids)
       = rows-take name one.plan ids (database_of name shelves.rows) job.handheld refl refl (holds_records job.action job.handheld job.rows _ skips) there in
@@ -135,7 +136,7 @@ module _ (date : ℕ) (heads : List DbHead) (shelves : ShelvesValue) (agree : Li
 
   each-takes : (names : List (List ℕ)) (told : Option Talk) (planned : List Planned) (stretches : List Stretch) (ids : List (Vec ℕ))
       → map (λ (one : Planned). one.job) planned ≡ map (job_of heads shelves agree wishes) names
-      → EachSays news_under (λ told one handle given (ids : Vec ℕ). gained told one handle given ids.items) told planned stretches ids
+      → EachSays (news_under shelves) (λ told one handle given (ids : Vec ℕ). gained shelves told one handle given ids.items) told planned stretches ids
       → AreTakeable date shelves planned (each_of ids)
   each-takes [] told [] [] [] are all = tt
   each-takes (name ∷ names) told (one ∷ planned) (stretch ∷ more) (given ∷ ids) are all = (
@@ -157,7 +158,7 @@ module _ (date : ℕ) (heads : List DbHead) (shelves : ShelvesValue) (agree : Li
 -- what a session planned, with the ids that its handheld gave
 pub session-takes : (date : ℕ) {shelves : ShelvesValue} {planned : List Planned} (told : Option Talk) (stretches : List Stretch) (ids : List (Vec ℕ))
     → AreOfSession shelves planned
-    → EachSays news_under (λ told one handle given (ids : Vec ℕ). gained told one handle given ids.items) told planned stretches ids
+    → EachSays (news_under shelves) (λ told one handle given (ids : Vec ℕ). gained shelves told one handle given ids.items) told planned stretches ids
     → AreTakeable date shelves planned (each_of ids)
 unfolding jobs_of
 session-takes date {shelves} {planned} told stretches ids of all =

@@ -6,7 +6,7 @@ use Rattle.session_parts.proofs.LinkWords.{Act, text, closing, making, opening, 
 use Rattle.mirrors.specs.News.{as_new, puts}
 use Rattle.session_plan.specs.Heads.{made_head}
 use Rattle.session_plan.specs.Choosing.{add_count}
-use Rattle.sync_session.specs.News.{all_news, news_acts, news_by, opened_for, replaced, writes}
+use Rattle.sync_session.specs.News.{all_news, news_acts, news_by, opened_for, replaced, task_blocks, writes}
 
 pub text-puts : (handle : ℕ) (entries : List (ℕ × ContentValue)) (ids others : List ℕ)
     → map text (puts handle ids entries) ≡ map text (puts handle others entries)
@@ -34,14 +34,18 @@ text-news_by (Some handheld) rows task acts others is same = text-opened_for tas
 text-news_by None None task acts others is same = rw is refl
 text-news_by None (Some rows) task acts others is same = rw is (text-around (making (made_head rows.head)) acts others same)
 
+pub text-behind : (front acts others : List Act) → map text acts ≡ map text others → map text (front ++ acts) ≡ map text (front ++ others)
+text-behind front acts others same = simp (map-append, same)
+
 -- the ids of a database don't show
 pub text-news_acts : (meeting : Meeting) (task : Task) (ids others : List ℕ)
     → map text (news_acts meeting task ids) ≡ map text (news_acts meeting task others)
 unfolding news_acts
 text-news_acts meeting task ids others =
     let zeros : List ℕ = replicate (length (replaced meeting task)) 0 in
-    text-news_by task.handheld task.rows task (writes meeting task ids) (writes meeting task others) refl
-    (text-puts 1 (replaced meeting task ++ as_new (choice meeting task).adds) (zeros ++ ids) (zeros ++ others))
+    text-news_by task.handheld task.rows task (task_blocks task ++ writes meeting task ids) (task_blocks task ++ writes meeting task others) refl
+    (text-behind (task_blocks task) (writes meeting task ids) (writes meeting task others)
+    (text-puts 1 (replaced meeting task ++ as_new (choice meeting task).adds) (zeros ++ ids) (zeros ++ others)))
 
 pub text-all_news : (meeting : Meeting) (tasks : List Task) (ids others : List ℕ)
     → map text (all_news meeting tasks ids) ≡ map text (all_news meeting tasks others)

@@ -194,8 +194,8 @@ module _ {L F : Type 0} (talk : L → Option Talk) (since : L → L → Type 0) 
       }
 
       after_news : (date : ℕ) (prepared : Prepared) {old now : SessionValue L} (desk : DeskValue F) (answer : Result (Vec (Vec ℕ)) SessionFault)
-          {left : Outcome L F} → SpansBehind talk since fault downs (marking (begun_user old.user) 0x40) news_under
-          (λ told one handle given (ids : Vec ℕ). gained told one handle given ids.items) prepared.planned.items (λ (made : Vec (Vec ℕ)). made.items)
+          {left : Outcome L F} → SpansBehind talk since fault downs (marking (begun_user old.user) 0x40)
+          (news_under (shelves_in desk)) (λ told one handle given (ids : Vec ℕ). gained (shelves_in desk) told one handle given ids.items) prepared.planned.items (λ (made : Vec (Vec ℕ)). made.items)
           old now answer
           → AfterNews talk since fault downs contents moments paths faults date prepared now desk answer left → LeavesBoth old.link desk.folder left
       after_news date prepared {now} desk (Ok ids) sends goes =

@@ -1,3 +1,4 @@
+pub mod BlockLaws
 pub mod EndLaws
 pub mod FilesLaws
 pub mod FitLaws

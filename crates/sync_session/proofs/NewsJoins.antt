@@ -10,7 +10,7 @@ use Rattle.std.specs.Option.{option_to_list}
 use Rattle.sync_session.proofs.MeetingWords.{ContentValue, DatabaseValue, DbHead, IsPlan, replacement, Plan, Planned, Skip, action_or_sync, agrees, choice}
 use Rattle.sync_session.proofs.MeetingWords.{seen_held, sides, sides_by, view, gained, gained_by, news_under, opened_news, AreEachPlannedFor, ArePlannedFor}
 use Rattle.sync_session.proofs.MeetingWords.{IsPlannedFor, listed_head, IsFirst, active, head_of, skip_of, AreFirst, EachSays, Stretch, each_acts, Meeting}
-use Rattle.sync_session.proofs.MeetingWords.{Task, tasks, purged_ids, purges_by, purges_under, done_each, says_nothing}
+use Rattle.sync_session.proofs.MeetingWords.{ShelvesValue, Task, names, slot_of, task_of, tasks, purged_ids, purges_by, purges_under, done_each, says_nothing}
 use Rattle.session_parts.proofs.LinkWords.{Talk, Act, acted, text, closing, making, opening, said, saying, device_after}
 use Rattle.conduit_rules.specs.ById.{each_id, id_bound, ids_below, with_id}
 use Rattle.conduit_rules.specs.Choices.{Sides, choice_for, fate_for, offered_for, offers_for, partners_for}
@@ -23,18 +23,24 @@ use Rattle.conduit_rules.specs.declared.action.Action.TheVariants.{Sync, Handhel
 use Rattle.conduit_rules.proofs.ContentLaws.{same_content-same}
 use Rattle.desktop_session.proofs.SaysLaws.{saying_none, saying_then}
 use Rattle.desktop_session.proofs.TellLaws.{said_device}
-use Rattle.mirrors.specs.News.{AreIdsOf, as_new, news_of, puts, purge_writes}
+use Rattle.mirrors.specs.News.{AreFreeFor, AreIdsOf, as_new, news_of, puts, purge_writes}
+use Rattle.desk_journal.proofs.StepLaws.{all-append}
 use Rattle.sync_session.specs.Gains.{AreGained}
 use Rattle.sync_session.specs.Given.{AreDealtTo}
 use Rattle.session_parts.specs.Given.{GetFreeIds}
+use Rattle.session_plan.specs.Blocks.{GivenBlocks, blocks_for, blocks_of}
 use Rattle.session_plan.specs.Heads.{made_head}
+use Rattle.pdb_values.specs.NamedDatabases.{database_of}
+use Rattle.palm_device.specs.Devices.{Device}
+use Rattle.sync_session.proofs.BlockLaws.{blocks-none, blocks_keep}
+use Rattle.sync_session.specs.Phases.{GainsMade, blocks_at}
 use Rattle.sync_session.specs.News as session
 use Rattle.session_plan.specs.Choosing.{add_count}
-use Rattle.sync_session.specs.News.{all_news, made, news_acts, opened_for, replaced, writes, purge_acts}
+use Rattle.sync_session.specs.News.{all_news, block_acts, made, news_acts, opened_for, replaced, task_blocks, writes, purge_acts}
 use Rattle.sync_session.specs.Phases as phase
-use Rattle.session_parts.proofs.CloseLaws.{LeavesClosed, TellsClosed, around_closed, closed_on, making_one, none_closed, opening_one, puts_keep, purges_keep}
-use Rattle.sync_session.proofs.FreeLaws.{NoId, around_free, free-append, puts_free}
-use Rattle.sync_session.proofs.IdsLaws.{text-all_news, text-around, text-news_acts, text-opened_for, text-puts}
+use Rattle.session_parts.proofs.CloseLaws.{KeepsHandles, LeavesClosed, TellsClosed, around_closed, closed_on, making_one, none_closed, opening_one, puts_keep, purges_keep}
+use Rattle.sync_session.proofs.FreeLaws.{NoId, around_free, free-append, none_free, puts_free}
+use Rattle.sync_session.proofs.IdsLaws.{text-all_news, text-around, text-behind, text-news_acts, text-opened_for, text-puts}
 use Rattle.sync_session.proofs.ReadJoins.{job-skip}
 use Rattle.session_parts.proofs.RestLaws.{all-flat_map}
 use Rattle.session_parts.proofs.StretchLaws.{flat_map-none, flat_map-same, where_kept, Steps, kept_step, stretches_join}
@@ -156,6 +162,14 @@ module _ (meeting : Meeting) (task : Task) where
       → session.news_by task.handheld task acts ≡ made rows acts
   made_for rows acts has is = rw (has, is)
 
+  -- the blocks of one that is made are those of its rows, and one that the handheld has gets none
+  made_blocks : (rows : Option DatabaseValue) → task.handheld ≡ None → task.rows ≡ rows → blocks_for task.handheld task.rows ≡ blocks_of rows
+  made_blocks rows has is = rw (has, is) refl
+
+  no_task_blocks : (database : DatabaseValue) → task.handheld ≡ Some database → task_blocks task ≡ []
+  unfolding block_acts
+  no_task_blocks database has = rw has refl
+
   -- what it gets, where this became of its new records
   record NewsStep (b : Bool) (acts : List Act) (ids : List ℕ) : Type 0 where
     acts_are : acts ≡ where_kept b (news_acts meeting task ids)
@@ -188,55 +202,69 @@ module _ (meeting : Meeting) (task : Task) where
         ap (λ es. map text (puts 1 given es)) (news-plan is)
         ∙ text-puts 1 (rows ++ as_new (choice meeting task).adds) given (replicate (length rows) 0 ++ ids)
 
-    news_by_case : (told : Option Talk) (s : Option Skip) (h r : Option DatabaseValue) → task.handheld ≡ h → task.rows ≡ r
-        → (s ≡ None → IsPlan (action_or_sync task.action) (sides meeting task) plan)
-        → gained_by s (listed_head h) (head_of r) task.name plan told 1 given ids
-        → NewsStep (is_none s) (phase.news_by s (listed_head h) (head_of r) task.name (news_of plan) 1 given) ids
-    unfolding news_acts
-    news_by_case told (Some why) h r has rows planned gains = record { acts_are = refl; count = ap length gains }
-    news_by_case told None (Some d) r has rows planned gains =
-        let put = plan_puts (planned refl) gains.behind gains.own in
-        record {
-          acts_are = opened_same task.name (news_of plan) given ∙ ap (opened_for task.name) put.0 ∙ sym (opened_there d (writes meeting task ids) has);
-          count = put.1;
-        }
-    news_by_case told None None (Some d) has rows planned gains =
-        let put = plan_puts (planned refl) gains.behind gains.own in
-        record {
-          acts_are = ap (λ zs. making (made_head d.head) ∷ (zs ++ closing 1 ∷ [])) put.0 ∙ sym (made_for (Some d) (writes meeting task ids) has rows);
-          count = put.1;
-        }
-    news_by_case told None None None has rows planned gains =
-        record { acts_are = sym (made_for None (writes meeting task ids) has rows); count = ap length gains ∙ sym (ap length (rowless_adds rows)) }
+    -- the blocks, and what is written behind them
+    abbrev filled : List Act
+    filled = task_blocks task ++ writes meeting task ids
 
-    text_by_case : (s : Option Skip) (h r : Option DatabaseValue) → task.handheld ≡ h → task.rows ≡ r
+    news_by_case : (told : Option Talk) (s : Option Skip) (h r : Option DatabaseValue) (blocks : GivenBlocks) → task.handheld ≡ h → task.rows ≡ r
+        → blocks ≡ blocks_of r → (s ≡ None → IsPlan (action_or_sync task.action) (sides meeting task) plan)
+        → gained_by s (listed_head h) (head_of r) blocks task.name plan told 1 given ids
+        → NewsStep (is_none s) (phase.news_by s (listed_head h) (head_of r) blocks task.name (news_of plan) 1 given) ids
+    unfolding news_acts
+    news_by_case told (Some why) h r blocks has rows own planned gains = record { acts_are = refl; count = ap length gains }
+    news_by_case told None (Some d) r blocks has rows own planned gains =
+        let put = plan_puts (planned refl) gains.behind gains.own in
+        record {
+          acts_are = opened_same task.name (news_of plan) given ∙ ap (opened_for task.name) put.0
+              ∙ ap (λ front. opened_for task.name (front ++ writes meeting task ids)) (sym (no_task_blocks d has)) ∙ sym (opened_there d filled has);
+          count = put.1;
+        }
+    news_by_case told None None (Some d) blocks has rows own planned gains =
+        let put = plan_puts (planned refl) gains.behind gains.own in
+        record {
+          acts_are = ap (λ zs. making (made_head d.head) ∷ ((block_acts 1 blocks ++ zs) ++ closing 1 ∷ [])) put.0
+              ∙ ap (λ front. making (made_head d.head) ∷ ((block_acts 1 front ++ writes meeting task ids) ++ closing 1 ∷ []))
+              (own ∙ sym (made_blocks (Some d) has rows)) ∙ sym (made_for (Some d) filled has rows);
+          count = put.1;
+        }
+    news_by_case told None None None blocks has rows own planned gains =
+        record { acts_are = sym (made_for None filled has rows); count = ap length gains ∙ sym (ap length (rowless_adds rows)) }
+
+    text_by_case : (s : Option Skip) (h r : Option DatabaseValue) (blocks : GivenBlocks) → task.handheld ≡ h → task.rows ≡ r → blocks ≡ blocks_of r
         → (s ≡ None → IsPlan (action_or_sync task.action) (sides meeting task) plan)
-        → map text (phase.news_by s (listed_head h) (head_of r) task.name (news_of plan) 1 given)
+        → map text (phase.news_by s (listed_head h) (head_of r) blocks task.name (news_of plan) 1 given)
         ≡ map text (where_kept (is_none s) (news_acts meeting task ids))
     unfolding news_acts
-    text_by_case (Some why) h r has rows planned = refl
-    text_by_case None (Some d) r has rows planned =
+    text_by_case (Some why) h r blocks has rows own planned = refl
+    text_by_case None (Some d) r blocks has rows own planned =
         ap (map text) (opened_same task.name (news_of plan) given)
         ∙ text-opened_for task.name (puts 1 given (news_of plan)) (writes meeting task ids) (text_put (planned refl))
-        ∙ ap (map text) (sym (opened_there d (writes meeting task ids) has))
-    text_by_case None None (Some d) has rows planned =
-        text-around (making (made_head d.head)) (puts 1 given (news_of plan)) (writes meeting task ids) (text_put (planned refl))
-        ∙ ap (map text) (sym (made_for (Some d) (writes meeting task ids) has rows))
-    text_by_case None None None has rows planned = ap (map text) (sym (made_for None (writes meeting task ids) has rows))
+        ∙ ap (λ front. map text (opened_for task.name (front ++ writes meeting task ids))) (sym (no_task_blocks d has))
+        ∙ ap (map text) (sym (opened_there d filled has))
+    text_by_case None None (Some d) blocks has rows own planned =
+        text-around (making (made_head d.head)) (block_acts 1 blocks ++ puts 1 given (news_of plan)) (block_acts 1 blocks ++ writes meeting task ids)
+        (text-behind (block_acts 1 blocks) (puts 1 given (news_of plan)) (writes meeting task ids) (text_put (planned refl)))
+        ∙ ap (λ front. map text (making (made_head d.head) ∷ ((block_acts 1 front ++ writes meeting task ids) ++ closing 1 ∷ [])))
+        (own ∙ sym (made_blocks (Some d) has rows))
+        ∙ ap (map text) (sym (made_for (Some d) filled has rows))
+    text_by_case None None None blocks has rows own planned = ap (map text) (sym (made_for None filled has rows))
 
-  module _ (one : Planned) (told : Option Talk) (given ids : List ℕ) (is : IsPlannedFor meeting task one) where
-    news_step : gained told one 1 given ids → NewsStep (is_active task) (news_under told one 1 given) ids
+  module _ (shelves : ShelvesValue) (own : database_of task.name shelves.rows ≡ task.rows) (one : Planned) (told : Option Talk) (given ids : List ℕ)
+      (is : IsPlannedFor meeting task one) where
+    news_step : gained shelves told one 1 given ids → NewsStep (is_active task) (news_under shelves told one 1 given) ids
     unfolding news_under gained
     news_step gains =
         let skips = job-skip meeting task in
         let mine = rw (is.job, skips) at gains in
-        let step = news_by_case one.plan given ids told (skip_of task) task.handheld task.rows refl refl is.plan mine in
+        let step = news_by_case one.plan given ids told (skip_of task) task.handheld task.rows (blocks_at shelves task.name) refl refl (ap blocks_of own)
+        is.plan mine in
         record { acts_are = rw (is.job, skips) step.acts_are; count = step.count }
 
-    text_step : map text (news_under told one 1 given) ≡ map text (where_kept (is_active task) (news_acts meeting task ids))
+    text_step : map text (news_under shelves told one 1 given) ≡ map text (where_kept (is_active task) (news_acts meeting task ids))
     unfolding news_under
     text_step =
-        rw (is.job, job-skip meeting task) (text_by_case one.plan given ids (skip_of task) task.handheld task.rows refl refl is.plan)
+        rw (is.job, job-skip meeting task) (text_by_case one.plan given ids (skip_of task) task.handheld task.rows (blocks_at shelves task.name) refl refl
+        (ap blocks_of own) is.plan)
 
   deal : (later : List Task) (b : Bool) (ids rest : List ℕ) → length ids ≡ kept_count b (add_count meeting task)
       → where_kept b (news_acts meeting task ids) ++ all_news meeting later rest ≡ all_news meeting (if b then task ∷ later else later) (ids ++ rest)
@@ -280,18 +308,31 @@ opened_free name plan [] talk given ids is gains = tt
 opened_free name plan (e ∷ es) talk given ids is gains =
     rw is at (put_free (opening name) plan talk given ids (record { is = refl }) gains)
 
-free_by_case : (s : Option Skip) (h r : Option DbHead) (name : List ℕ) (plan : Plan) (talk : Talk) (given ids : List ℕ)
-    → gained_by s h r name plan (Some talk) 1 given ids → GetFreeIds (phase.news_by s h r name (news_of plan) 1 given) talk.device
-free_by_case (Some why) h r name plan talk given ids gains = tt
-free_by_case None (Some h) r name plan talk given ids gains = opened_free name plan (news_of plan) talk given ids refl gains
-free_by_case None None (Some r) name plan talk given ids gains =
-    put_free (making (made_head r)) plan talk given ids (record { is = refl }) gains
-free_by_case None None None name plan talk given ids gains = tt
+made_free : (head : DbHead) (blocks : GivenBlocks) (plan : Plan) (talk : Talk) (given ids : List ℕ) → GainsMade head blocks (Some talk) plan 1 given ids
+    → GetFreeIds (making head ∷ ((block_acts 1 blocks ++ puts 1 given (news_of plan)) ++ closing 1 ∷ [])) talk.device
+unfolding saying
+made_free head blocks plan talk given ids gains =
+    let front : List Act = block_acts 1 blocks in
+    let puts_all : List Act = puts 1 given (news_of plan) in
+    let now : Device = (acted (making head) talk.device).1 in
+    let free : GetFreeIds puts_all (device_after front now) =
+    puts_free 1 (news_of plan) given (device_after front now) gains.own
+    (subst (AreFreeFor 1 (news_of plan) given) (said_device (making head ∷ front) talk) gains.free) in
+    around_free (making head) (front ++ puts_all) talk.device (record { is = refl })
+    (free-append front puts_all now (none_free front now (blocks-none 1 blocks)) free)
 
-news_free : (one : Planned) (talk : Talk) (given ids : List ℕ) → gained (Some talk) one 1 given ids
-    → GetFreeIds (news_under (Some talk) one 1 given) talk.device
+free_by_case : (s : Option Skip) (h r : Option DbHead) (blocks : GivenBlocks) (name : List ℕ) (plan : Plan) (talk : Talk) (given ids : List ℕ)
+    → gained_by s h r blocks name plan (Some talk) 1 given ids → GetFreeIds (phase.news_by s h r blocks name (news_of plan) 1 given) talk.device
+free_by_case (Some why) h r blocks name plan talk given ids gains = tt
+free_by_case None (Some h) r blocks name plan talk given ids gains = opened_free name plan (news_of plan) talk given ids refl gains
+free_by_case None None (Some r) blocks name plan talk given ids gains = made_free (made_head r) blocks plan talk given ids gains
+free_by_case None None None blocks name plan talk given ids gains = tt
+
+news_free : (shelves : ShelvesValue) (one : Planned) (talk : Talk) (given ids : List ℕ) → gained shelves (Some talk) one 1 given ids
+    → GetFreeIds (news_under shelves (Some talk) one 1 given) talk.device
 unfolding news_under gained
-news_free one talk given ids gains = free_by_case one.job.skip one.job.handheld one.job.rows one.job.name one.plan talk given ids gains
+news_free shelves one talk given ids gains =
+    free_by_case one.job.skip one.job.handheld one.job.rows (blocks_at shelves one.job.name) one.job.name one.plan talk given ids gains
 
 nothing_free : (told : Option Talk) → IfSome told (λ talk. GetFreeIds [] talk.device)
 nothing_free None = tt
@@ -306,17 +347,31 @@ opened_leaves : (name : List ℕ) (entries : List (ℕ × ContentValue)) (given 
 opened_leaves name [] given = none_closed
 opened_leaves name (e ∷ es) given = around_closed (opening name) (puts 1 given (e ∷ es)) (opening_one name) (puts_keep 1 given (e ∷ es))
 
-news_leaves : (s : Option Skip) (h r : Option DbHead) (name : List ℕ) (entries : List (ℕ × ContentValue)) (given : List ℕ)
-    → LeavesClosed (phase.news_by s h r name entries 1 given)
-news_leaves (Some why) h r name entries given = none_closed
-news_leaves None (Some h) r name entries given = opened_leaves name entries given
-news_leaves None None None name entries given = none_closed
-news_leaves None None (Some r) name entries given =
-    around_closed (making (made_head r)) (puts 1 given entries) (making_one (made_head r)) (puts_keep 1 given entries)
+news_leaves : (s : Option Skip) (h r : Option DbHead) (blocks : GivenBlocks) (name : List ℕ) (entries : List (ℕ × ContentValue)) (given : List ℕ)
+    → LeavesClosed (phase.news_by s h r blocks name entries 1 given)
+news_leaves (Some why) h r blocks name entries given = none_closed
+news_leaves None (Some h) r blocks name entries given = opened_leaves name entries given
+news_leaves None None None blocks name entries given = none_closed
+news_leaves None None (Some r) blocks name entries given =
+    around_closed (making (made_head r)) (block_acts 1 blocks ++ puts 1 given entries) (making_one (made_head r))
+    (all-append KeepsHandles (block_acts 1 blocks) (puts 1 given entries) (blocks_keep 1 blocks) (puts_keep 1 given entries))
 
-news_under_leaves : (told : Option Talk) (one : Planned) (given : List ℕ) → LeavesClosed (news_under told one 1 given)
+news_under_leaves : (shelves : ShelvesValue) (told : Option Talk) (one : Planned) (given : List ℕ) → LeavesClosed (news_under shelves told one 1 given)
 unfolding news_under
-news_under_leaves told one given = news_leaves one.job.skip one.job.handheld one.job.rows one.job.name (news_of one.plan) given
+news_under_leaves shelves told one given =
+    news_leaves one.job.skip one.job.handheld one.job.rows (blocks_at shelves one.job.name) one.job.name (news_of one.plan) given
+
+-- the rows of tasks are those of a slot
+abbrev HaveOwnRows : ShelvesValue → List Task → Type 0
+HaveOwnRows shelves ts = AllByRecursion (λ (t : Task). database_of t.name shelves.rows ≡ t.rows) ts
+
+own_rows : (meeting : Meeting) → HaveOwnRows (slot_of meeting).shelves (tasks meeting)
+unfolding tasks
+own_rows meeting = each (names meeting)
+  where
+    each : (ns : List (List ℕ)) → HaveOwnRows (slot_of meeting).shelves (map (task_of meeting) ns)
+    each [] = tt
+    each (n ∷ ns) = (refl, each ns)
 
 -- under the handle that it got
 pub handle_is : (told : Option Talk) (handle : ℕ) → TellsClosed told → IsFirst told handle → handle ≡ 1
@@ -325,51 +380,52 @@ handle_is told handle tells first = let here : IsFirst (Some tells.talk) handle 
 -- ---- all of them
 
 -- what all databases got: the ids that were given are dealt out to them in order, each was free at its turn, and then nothing is open
-pub record NewsJoin (meeting : Meeting) (ts : List Task) (told : Option Talk) (planned : List Planned) (ones : List Stretch) (given : List ℕ)
+pub record NewsJoin (shelves : ShelvesValue) (meeting : Meeting) (ts : List Task) (told : Option Talk) (planned : List Planned) (ones : List Stretch) (given : List ℕ)
     (each : List (List ℕ)) : Type 0 where
-  pub free : IfSome told (λ talk. GetFreeIds (each_acts news_under told planned ones) talk.device)
-  pub acts : each_acts news_under told planned ones ≡ all_news meeting (filter is_active ts) given
-  pub closed : TellsClosed (saying (each_acts news_under told planned ones) told)
+  pub free : IfSome told (λ talk. GetFreeIds (each_acts (news_under shelves) told planned ones) talk.device)
+  pub acts : each_acts (news_under shelves) told planned ones ≡ all_news meeting (filter is_active ts) given
+  pub closed : TellsClosed (saying (each_acts (news_under shelves) told planned ones) told)
   pub count : length given ≡ sum_by (add_count meeting) (filter is_active ts)
   pub dealt : AreDealtTo meeting ts each
 
-news_each : {V : Type 0} (items : V → List ℕ) (meeting : Meeting) (ts : List Task) (told : Option Talk) (planned : List Planned) (ones : List Stretch)
-    (ids : List V) → AreEachPlannedFor meeting ts planned → TellsClosed told → AreFirst news_under told planned ones
-    → EachSays news_under (λ told one handle given got. gained told one handle given (items got)) told planned ones ids
-    → NewsJoin meeting ts told planned ones (flat_map items ids) (map items ids)
+news_each : {V : Type 0} (items : V → List ℕ) (shelves : ShelvesValue) (meeting : Meeting) (ts : List Task) → HaveOwnRows shelves ts → (told : Option Talk) (planned : List Planned) (ones : List Stretch)
+    (ids : List V) → AreEachPlannedFor meeting ts planned → TellsClosed told → AreFirst (news_under shelves) told planned ones
+    → EachSays (news_under shelves) (λ told one handle given got. gained shelves told one handle given (items got)) told planned ones ids
+    → NewsJoin shelves meeting ts told planned ones (flat_map items ids) (map items ids)
 unfolding all_news
-news_each items meeting [] told [] [] [] are tells firsts all =
+news_each items shelves meeting [] own told [] [] [] are tells firsts all =
     record { free = nothing_free told; acts = refl; closed = subst TellsClosed (sym (saying_none told)) tells; count = refl; dealt = tt }
-news_each items meeting (task ∷ ts) told (p ∷ planned) (one ∷ ones) (x ∷ ids) are tells firsts all =
+news_each items shelves meeting (task ∷ ts) own told (p ∷ planned) (one ∷ ones) (x ∷ ids) are tells firsts all =
     let handle : one.handle ≡ 1 = handle_is told one.handle tells firsts.0 in
-    let mine : List Act = news_under told p one.handle one.given in
-    let same : mine ≡ news_under told p 1 one.given = ap (λ h. news_under told p h one.given) handle in
-    let step = news_step meeting task p told one.given (items x) are.0 (rw handle at all.0) in
-    let leaves = subst LeavesClosed (sym same) (news_under_leaves told p one.given) in
-    let later = news_each items meeting ts (saying mine told) planned ones ids are.1 (closed_on mine told tells leaves) firsts.1 all.1 in
+    let mine : List Act = news_under shelves told p one.handle one.given in
+    let same : mine ≡ news_under shelves told p 1 one.given = ap (λ h. news_under shelves told p h one.given) handle in
+    let step = news_step meeting task shelves own.0 p told one.given (items x) are.0 (rw handle at all.0) in
+    let leaves = subst LeavesClosed (sym same) (news_under_leaves shelves told p one.given) in
+    let later = news_each items shelves meeting ts own.1 (saying mine told) planned ones ids are.1 (closed_on mine told tells leaves) firsts.1 all.1 in
     let rest : List ℕ = flat_map items ids in
-    let rests : List Act = each_acts news_under (saying mine told) planned ones in
+    let rests : List Act = each_acts (news_under shelves) (saying mine told) planned ones in
     let talk : Talk = tells.talk in
     let now : saying mine told ≡ Some (said mine talk) = ap (saying mine) tells.is ∙ said_some mine talk in
-    let first : GetFreeIds mine talk.device = rw (same, tells.is) (news_free p talk one.given (items x) (rw (handle, tells.is) at all.0)) in
+    let first : GetFreeIds mine talk.device = rw (same, tells.is) (news_free shelves p talk one.given (items x) (rw (handle, tells.is) at all.0)) in
     let second : GetFreeIds rests (device_after mine talk.device) = subst (GetFreeIds rests) (said_device mine talk)
     (subst (λ t. IfSome t (λ talk. GetFreeIds rests talk.device)) now later.free) in
     record {
       free = subst (λ t. IfSome t (λ talk. GetFreeIds (mine ++ rests) talk.device)) (sym tells.is) (free-append mine rests talk.device first second);
       acts = rw (later.acts, same ∙ step.acts_are) (deal meeting task (filter is_active ts) (is_active task) (items x) rest step.count);
-      closed = subst TellsClosed (saying_then mine (each_acts news_under (saying mine told) planned ones) told) later.closed;
+      closed = subst TellsClosed (saying_then mine (each_acts (news_under shelves) (saying mine told) planned ones) told) later.closed;
       count = adds_more meeting task (filter is_active ts) (is_active task) (items x) rest step.count later.count;
       dealt = (step.count, later.dealt);
     }
-news_each items meeting [] told (p ∷ planned) ones ids are tells firsts all = absurd are
-news_each items meeting (task ∷ ts) told [] ones ids are tells firsts all = absurd are
-news_each items meeting ts told planned ones ids are tells firsts all = absurd all
+news_each items shelves meeting [] own told (p ∷ planned) ones ids are tells firsts all = absurd are
+news_each items shelves meeting (task ∷ ts) own told [] ones ids are tells firsts all = absurd are
+news_each items shelves meeting ts own told planned ones ids are tells firsts all = absurd all
 
-pub news_join : {V : Type 0} (items : V → List ℕ) (meeting : Meeting) (told : Option Talk) (planned : List Planned) (ones : List Stretch)
-    (ids : List V) → ArePlannedFor meeting planned → TellsClosed told → AreFirst news_under told planned ones
-    → EachSays news_under (λ told one handle given got. gained told one handle given (items got)) told planned ones ids
-    → NewsJoin meeting (tasks meeting) told planned ones (flat_map items ids) (map items ids)
-news_join items meeting told planned ones ids are tells firsts all = news_each items meeting (tasks meeting) told planned ones ids are tells firsts all
+pub news_join : {V : Type 0} (items : V → List ℕ) (meeting : Meeting) → let shelves = (slot_of meeting).shelves in (told : Option Talk) (planned : List Planned) (ones : List Stretch)
+    (ids : List V) → ArePlannedFor meeting planned → TellsClosed told → AreFirst (news_under shelves) told planned ones
+    → EachSays (news_under shelves) (λ told one handle given got. gained shelves told one handle given (items got)) told planned ones ids
+    → NewsJoin shelves meeting (tasks meeting) told planned ones (flat_map items ids) (map items ids)
+news_join items meeting told planned ones ids are tells firsts all =
+    news_each items (slot_of meeting).shelves meeting (tasks meeting) (own_rows meeting) told planned ones ids are tells firsts all
 
 -- ---- some of them: what their texts begin with
 
@@ -378,19 +434,19 @@ pub record TextsLead (first all : List (List ℕ)) : Type 0 where
   pub rest : List (List ℕ)
   pub is : first ++ rest ≡ all
 
-news_lead_each : (meeting : Meeting) (ts : List Task) (told : Option Talk) (planned : List Planned) (ones : List Stretch) (ids : List ℕ)
-    → AreEachPlannedFor meeting ts planned → TellsClosed told → AreFirst news_under told planned ones
-    → TextsLead (map text (each_acts news_under told planned ones)) (map text (all_news meeting (filter is_active ts) ids))
-news_lead_each meeting [] told [] ones ids are tells firsts = record { rest = map text (all_news meeting [] ids); is = refl }
-news_lead_each meeting (task ∷ ts) told (p ∷ planned) [] ids are tells firsts =
+news_lead_each : (shelves : ShelvesValue) (meeting : Meeting) (ts : List Task) → HaveOwnRows shelves ts → (told : Option Talk) (planned : List Planned) (ones : List Stretch) (ids : List ℕ)
+    → AreEachPlannedFor meeting ts planned → TellsClosed told → AreFirst (news_under shelves) told planned ones
+    → TextsLead (map text (each_acts (news_under shelves) told planned ones)) (map text (all_news meeting (filter is_active ts) ids))
+news_lead_each shelves meeting [] own told [] ones ids are tells firsts = record { rest = map text (all_news meeting [] ids); is = refl }
+news_lead_each shelves meeting (task ∷ ts) own told (p ∷ planned) [] ids are tells firsts =
     record { rest = map text (all_news meeting (filter is_active (task ∷ ts)) ids); is = refl }
-news_lead_each meeting (task ∷ ts) told (p ∷ planned) (one ∷ ones) ids are tells firsts =
+news_lead_each shelves meeting (task ∷ ts) own told (p ∷ planned) (one ∷ ones) ids are tells firsts =
     let handle : one.handle ≡ 1 = handle_is told one.handle tells firsts.0 in
-    let mine : List Act = news_under told p one.handle one.given in
-    let same : mine ≡ news_under told p 1 one.given = ap (λ h. news_under told p h one.given) handle in
-    let leaves = subst LeavesClosed (sym same) (news_under_leaves told p one.given) in
-    let rest : List Act = each_acts news_under (saying mine told) planned ones in
-    let later = news_lead_each meeting ts (saying mine told) planned ones ids are.1 (closed_on mine told tells leaves) firsts.1 in
+    let mine : List Act = news_under shelves told p one.handle one.given in
+    let same : mine ≡ news_under shelves told p 1 one.given = ap (λ h. news_under shelves told p h one.given) handle in
+    let leaves = subst LeavesClosed (sym same) (news_under_leaves shelves told p one.given) in
+    let rest : List Act = each_acts (news_under shelves) (saying mine told) planned ones in
+    let later = news_lead_each shelves meeting ts own.1 (saying mine told) planned ones ids are.1 (closed_on mine told tells leaves) firsts.1 in
     record {
       rest = later.rest;
       is = rw (
@@ -398,16 +454,16 @@ news_lead_each meeting (task ∷ ts) told (p ∷ planned) (one ∷ ones) ids are
         append_assoc (map text mine) (map text rest) later.rest,
         later.is,
         same,
-        text_step meeting task p told one.given ids are.0,
+        text_step meeting task shelves own.0 p told one.given ids are.0,
       ) (text_deal meeting task (filter is_active ts) (is_active task) ids);
     }
-news_lead_each meeting ts told planned ones ids are tells firsts = absurd are
+news_lead_each shelves meeting ts own told planned ones ids are tells firsts = absurd are
 
-pub news_lead : (meeting : Meeting) (told : Option Talk) (planned : List Planned) (ones : List Stretch) (ids : List ℕ) → ArePlannedFor meeting planned
-    → TellsClosed told → AreFirst news_under told planned ones
-    → TextsLead (map text (each_acts news_under told planned ones)) (map text (all_news meeting (active meeting) ids))
+pub news_lead : (meeting : Meeting) → let shelves = (slot_of meeting).shelves in (told : Option Talk) (planned : List Planned) (ones : List Stretch) (ids : List ℕ) → ArePlannedFor meeting planned
+    → TellsClosed told → AreFirst (news_under shelves) told planned ones
+    → TextsLead (map text (each_acts (news_under shelves) told planned ones)) (map text (all_news meeting (active meeting) ids))
 unfolding active
-news_lead meeting told planned ones ids are tells firsts = news_lead_each meeting (tasks meeting) told planned ones ids are tells firsts
+news_lead meeting told planned ones ids are tells firsts = news_lead_each (slot_of meeting).shelves meeting (tasks meeting) (own_rows meeting) told planned ones ids are tells firsts
 
 -- ---- what they lose once the desktop has committed
 

@@ -13,7 +13,7 @@ use Rattle.desk_journal.specs.Entries.{EntryValue}
 use Rattle.desk_journal.specs.Overlays.{FinishesAs, finished, put_all}
 use Rattle.desk_journal.proofs.FinishLaws.{plain_finished}
 use Rattle.desk_store.specs.Desks.{IsDesk}
-use Rattle.sync_session.proofs.MeetingWords.{AreInOrder, SlotValue, DeskValue, marks_in, ArePlannedFor, IsAtRest, adds_of, after_commit, before_writes, Meeting}
+use Rattle.sync_session.proofs.MeetingWords.{AreInOrder, SlotValue, DeskValue, marks_in, shelves_in, ArePlannedFor, IsAtRest, adds_of, after_commit, before_writes, Meeting}
 use Rattle.sync_session.proofs.MeetingWords.{slot_of, gained, news_under, SpansBehind}
 use Rattle.desk_store.specs.declared.fault.CommitFault.{CommitFault}
 use Rattle.desk_store.specs.declared.fault.CommitFault.TheVariants as commit
@@ -336,14 +336,18 @@ module _ {L F : Type 0} (talk : L → Option Talk) (since : L → L → Type 0) 
         pub read : Reached talk since fault downs (before_writes meeting) old now.link
         pub tells : Tells meeting.device (talk now.link)
 
+      own_shelves : {date : ℕ} {prepared : Prepared} {now : SessionValue L} {desk : DeskValue F} → Known prepared now desk date
+          → shelves_in desk ≡ (slot_of meeting).shelves
+      own_shelves knows = rw (knows.slots, knows.picked) refl
+
       pub news_ends : {date : ℕ} {prepared : Prepared} {now then : SessionValue L} {desk : DeskValue F} (answer : Result (Vec (Vec ℕ)) SessionFault)
-          {left : Outcome L F} → Known prepared now desk date → SpansBehind talk since fault downs (marking (begun_user now.user) 0x40) news_under
-          (λ told one handle given (ids : Vec ℕ). gained told one handle given ids.items) prepared.planned.items (λ (made : Vec (Vec ℕ)). made.items)
+          {left : Outcome L F} → Known prepared now desk date → SpansBehind talk since fault downs (marking (begun_user now.user) 0x40)
+          (news_under (shelves_in desk)) (λ told one handle given (ids : Vec ℕ). gained (shelves_in desk) told one handle given ids.items) prepared.planned.items (λ (made : Vec (Vec ℕ)). made.items)
           now then answer
           → AfterNews talk since fault downs contents moments paths faults date prepared then desk answer left → EndsSo desk.folder left
       news_ends {date} {prepared} {then} {desk} (Ok ids) knows sends goes =
           let dealt : List (List ℕ) = each_of ids.items in
-          let news = news_reach since_more meeting knows.rests (λ (one : Vec ℕ). one.items) knows.user knows.are knows.read knows.tells sends in
+          let news = news_reach since_more meeting knows.rests (λ (one : Vec ℕ). one.items) (own_shelves knows) knows.user knows.are knows.read knows.tells sends in
           let user : then.user ≡ meeting.device.user = sends.user ∙ knows.user in
           let marked : marks_in desk ≡ (slot_of meeting).marks = rw (knows.slots, knows.picked) in
           let taken : taken_slots date then.user prepared.planned.items dealt desk.picked desk.slots
@@ -354,7 +358,7 @@ module _ {L F : Type 0} (talk : L → Option Talk) (since : L → L → Type 0) 
           = rw (knows.dated, user, knows.picked, knows.slots) (taken-files meeting prepared.planned.items dealt knows.are) in
           commit_ends prepared then goes.answer knows.dated user marked knows.are knows.told news knows.on knows.seated (rw taken at goes.commits) files goes.goes
       news_ends {then} (Err cause) knows sends goes =
-          ends_before goes (news_stop since_more meeting knows.rests (λ (one : Vec ℕ). one.items) knows.user knows.are knows.read knows.tells
+          ends_before goes (news_stop since_more meeting knows.rests (λ (one : Vec ℕ). one.items) (own_shelves knows) knows.user knows.are knows.read knows.tells
           (replicate (adds_of meeting) 0) sends)
           (later_stop talk fault meeting old then.link cause sends.cause) (not_refused _ meeting knows.on)
           (λ why is. seated_says _ meeting why knows.seated is) (unrefused_says meeting _ knows.on)

@@ -187,18 +187,18 @@ module _ {L : Type 0} {talk : L → Option Talk} {since : L → L → Type 0} {f
 
     -- ---- the news are sent
 
-    module _ {B V : Type 0} (meeting : Meeting) (rests : IsAtRest meeting.device) {user : UserInfo} {planned : List Planned} (items : V → List ℕ)
-        {each : B → List V} {old : L} {now new : SessionValue L} (known : user ≡ meeting.device.user) (are : ArePlannedFor meeting planned)
+    module _ {B V : Type 0} (meeting : Meeting) (rests : IsAtRest meeting.device) {user : UserInfo} {shelves : ShelvesValue} {planned : List Planned}
+        (items : V → List ℕ) (own : shelves ≡ (slot_of meeting).shelves) {each : B → List V} {old : L} {now new : SessionValue L} (known : user ≡ meeting.device.user) (are : ArePlannedFor meeting planned)
         (read : Reached talk since fault downs (before_writes meeting) old now.link) (tells : Tells meeting.device (talk now.link)) where
-      pub news_reach : {ids : B} → SpansBehind talk since fault downs (marking (users.begun_user user) 0x40) news_under
-          (λ told one handle given got. gained told one handle given (items got)) planned each now new (Ok ids)
+      pub news_reach : {ids : B} → SpansBehind talk since fault downs (marking (users.begun_user user) 0x40)
+          (news_under shelves) (λ told one handle given got. gained shelves told one handle given (items got)) planned each now new (Ok ids)
           → NewsReach talk since fault downs meeting (flat_map items (each ids)) (map items (each ids)) old new.link
       unfolding before_commit adds_of active
       news_reach {ids} spans =
-          let here = rw (ap (λ u. marking (users.begun_user u) 0x40) known) at spans in
+          let here = rw (own, ap (λ u. marking (users.begun_user u) 0x40) known) at spans in
           let told : Option Talk = saying (begin_mark meeting ∷ []) (talk now.link) in
           let given : List ℕ = flat_map items (each ids) in
-          let news : List Act = each_acts news_under told planned here.stretches in
+          let news : List Act = each_acts (news_under (slot_of meeting).shelves) told planned here.stretches in
           let joined = news_join items meeting told planned here.stretches (each ids) are (begun_tells meeting (talk now.link) rests tells) here.firsts
           here.said in
           let first : List Act = before_writes meeting in
@@ -216,14 +216,14 @@ module _ {L : Type 0} {talk : L → Option Talk} {since : L → L → Type 0} {f
           }
 
       -- they are sent, or the sending stopped
-      pub news_stop : (given : List ℕ) {answer : Result B SessionFault} → SpansBehind talk since fault downs (marking (users.begun_user user) 0x40) news_under
-          (λ told one handle given got. gained told one handle given (items got)) planned each now new answer
+      pub news_stop : (given : List ℕ) {answer : Result B SessionFault} → SpansBehind talk since fault downs (marking (users.begun_user user) 0x40)
+          (news_under shelves) (λ told one handle given got. gained shelves told one handle given (items got)) planned each now new answer
           → Stops talk since fault downs (map text (before_commit meeting given)) old new.link
       unfolding before_commit
       news_stop given spans =
-          let here = rw (ap (λ u. marking (users.begun_user u) 0x40) known) at spans in
+          let here = rw (own, ap (λ u. marking (users.begun_user u) 0x40) known) at spans in
           let told : Option Talk = saying (begin_mark meeting ∷ []) (talk now.link) in
-          let news : List Act = each_acts news_under told planned here.stretches in
+          let news : List Act = each_acts (news_under (slot_of meeting).shelves) told planned here.stretches in
           let leads = news_lead meeting told planned here.stretches given are (begun_tells meeting (talk now.link) rests tells) here.firsts in
           let first : List Act = before_writes meeting in
           let all : List Act = begin_mark meeting ∷ all_news meeting (active meeting) given in

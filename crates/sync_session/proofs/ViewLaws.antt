@@ -12,7 +12,7 @@ use Rattle.hs_folders.specs.Moments.{Moments}
 use Rattle.pdb_values.specs.declared.user.Marks.{Marks}
 use Rattle.conduit_rules.specs.declared.view.View.{View}
 use Rattle.session_parts.proofs.LinkWords.{LinkFault, Talk, SessionValue, Act, saying, marking, Ended, Halted, SessionFault}
-use Rattle.sync_session.proofs.MeetingWords.{ShelvesValue, DeskValue, marks_in, Job, Plan, Planned, Skip, gained, news_under, purges_under}
+use Rattle.sync_session.proofs.MeetingWords.{ShelvesValue, DeskValue, marks_in, shelves_in, Job, Plan, Planned, Skip, gained, news_under, purges_under}
 use Rattle.sync_session.proofs.MeetingWords.{AreFirst, EachSays, IsFirst, Stretch, done_each, each_acts, says_nothing}
 use Rattle.desk_store.specs.declared.fault.CommitFault.{CommitFault}
 use Rattle.desk_store.specs.Shelves.{SlotValue}
@@ -152,24 +152,26 @@ module _ {old new : List Planned} (same : SameButViews old new) where
   pub length-unskipped_same : length (unskipped new) ≡ length (unskipped old)
   length-unskipped_same = by_plans (λ planned. length (unskipped planned)) length-unskipped_seen old new same
 
-  news-acts : (told : Option Talk) (stretches : List Stretch) → each_acts news_under told new stretches ≡ each_acts news_under told old stretches
+  news-acts : (shelves : ShelvesValue) (told : Option Talk) (stretches : List Stretch)
+      → each_acts (news_under shelves) told new stretches ≡ each_acts (news_under shelves) told old stretches
   unfolding news_under
-  news-acts told stretches =
-      by_plans (λ planned. each_acts news_under told planned stretches)
-      (λ view planned. each_acts-map (seen_as view) news_under (λ told one handle given. refl) told planned stretches) old new same
+  news-acts shelves told stretches =
+      by_plans (λ planned. each_acts (news_under shelves) told planned stretches)
+      (λ view planned. each_acts-map (seen_as view) (news_under shelves) (λ told one handle given. refl) told planned stretches) old new same
 
-  news-first : (told : Option Talk) (stretches : List Stretch) → AreFirst news_under told new stretches ≡ AreFirst news_under told old stretches
+  news-first : (shelves : ShelvesValue) (told : Option Talk) (stretches : List Stretch)
+      → AreFirst (news_under shelves) told new stretches ≡ AreFirst (news_under shelves) told old stretches
   unfolding news_under
-  news-first told stretches =
-      by_plans (λ planned. AreFirst news_under told planned stretches)
-      (λ view planned. are_first-map (seen_as view) news_under (λ told one handle given. refl) told planned stretches) old new same
+  news-first shelves told stretches =
+      by_plans (λ planned. AreFirst (news_under shelves) told planned stretches)
+      (λ view planned. are_first-map (seen_as view) (news_under shelves) (λ told one handle given. refl) told planned stretches) old new same
 
-  news-says : (told : Option Talk) (stretches : List Stretch) (ids : List (Vec ℕ))
-      → EachSays news_under GainsEach told new stretches ids ≡ EachSays news_under GainsEach told old stretches ids
+  news-says : (shelves : ShelvesValue) (told : Option Talk) (stretches : List Stretch) (ids : List (Vec ℕ))
+      → EachSays (news_under shelves) (GainsEach shelves) told new stretches ids ≡ EachSays (news_under shelves) (GainsEach shelves) told old stretches ids
   unfolding news_under gained
-  news-says told stretches ids =
-      by_plans (λ planned. EachSays news_under GainsEach told planned stretches ids)
-      (λ view planned. each_says-map (seen_as view) news_under (λ told one handle given. refl) GainsEach (λ told one handle given x. refl)
+  news-says shelves told stretches ids =
+      by_plans (λ planned. EachSays (news_under shelves) (GainsEach shelves) told planned stretches ids)
+      (λ view planned. each_says-map (seen_as view) (news_under shelves) (λ told one handle given. refl) (GainsEach shelves) (λ told one handle given x. refl)
       told planned stretches ids) old new same
 
   purges-acts : (told : Option Talk) (stretches : List Stretch) → each_acts purges_under told new stretches ≡ each_acts purges_under told old stretches
@@ -252,20 +254,20 @@ module _ (old : Prepared) (planned : Vec Planned) (same : SameButViews old.plann
   writes-same {talk} {since} {fault} {downs} {contents} {moments} {paths} {faults} {date} {before} {desk} {left} writes =
       let sends = writes.sends in
       let told : Option Talk = saying (marking (begun_user before.user) 0x40 ∷ []) (talk before.link) in
-      let acts = news-acts same told sends.stretches in
+      let acts = news-acts same (shelves_in desk) told sends.stretches in
       record {
         now = writes.now;
         answer = writes.answer;
         sends = record {
           stretches = sends.stretches;
-          firsts = subst (λ (T : Type 0). T) (news-first same told sends.stretches) sends.firsts;
+          firsts = subst (λ (T : Type 0). T) (news-first same (shelves_in desk) told sends.stretches) sends.firsts;
           stops = rw acts at sends.stops;
           does = rw acts at sends.does;
           clear = sends.clear;
           user = sends.user;
           closed = sends.closed;
           cause = sends.cause;
-          said = IfOk-weaker writes.answer _ _ (λ ids said. subst (λ (T : Type 0). T) (news-says same told sends.stretches ids.items) said) sends.said;
+          said = IfOk-weaker writes.answer _ _ (λ ids said. subst (λ (T : Type 0). T) (news-says same (shelves_in desk) told sends.stretches ids.items) said) sends.said;
         };
         goes = by writes.answer writes.goes;
       }

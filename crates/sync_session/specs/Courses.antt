@@ -121,8 +121,9 @@ pub record Writes {L F : Type 0} (talk : L → Option Talk) (since : L → L →
     (left : Outcome L F) : Type 0 where
   pub now : SessionValue L
   pub answer : Result (Vec (Vec ℕ)) SessionFault
-  pub sends : SpansBehind talk since fault downs (marking (begun_user old.user) 0x40) news_under
-      GainsEach prepared.planned.items (λ (made : Vec (Vec ℕ)). made.items) old now answer
+  pub sends : SpansBehind talk since fault downs (marking (begun_user old.user) 0x40)
+      (news_under (shelves_in desk)) (GainsEach (shelves_in desk)) prepared.planned.items
+      (λ (made : Vec (Vec ℕ)). made.items) old now answer
   pub goes : AfterNews talk since fault downs contents moments paths faults
       date prepared now desk answer left
 

@@ -5,8 +5,9 @@ use Rattle.pdb_values.specs.Contents.{ContentValue}
 use Rattle.pdb_values.specs.Databases.{DatabaseValue}
 use Rattle.conduit_rules.specs.Plans.{replaced_rows, purged_ids}
 use Rattle.desktop_session.specs.Acts.{Act}
-use Rattle.desktop_session.specs.Requests.{making, closing}
+use Rattle.desktop_session.specs.Requests.{making, closing, writing_app, writing_sort}
 use Rattle.mirrors.specs.News.{as_new, purge_writes, puts}
+use Rattle.session_plan.specs.Blocks.{GivenBlocks, blocks_for}
 use Rattle.session_plan.specs.Tasks.{Meeting, Task}
 use Rattle.session_plan.specs.Choosing.{add_count, choice, seen_held}
 use Rattle.session_plan.specs.Heads.{made_head}
@@ -21,6 +22,20 @@ abbrev pub writes : Meeting → Task → List ℕ → List Act
 writes meeting task given =
     puts 1 (replicate (length (replaced meeting task)) 0 ++ given)
     (replaced meeting task ++ as_new (choice meeting task).adds)
+
+-- a block is written
+abbrev pub block_act : (ℕ → List ℕ → Act) → ℕ → Option (List ℕ) → List Act
+block_act writing handle None = []
+block_act writing handle (Some bytes) = writing handle bytes ∷ []
+
+-- the app block, and then the sort block
+unfoldable pub block_acts : ℕ → GivenBlocks → List Act
+block_acts handle blocks =
+    block_act writing_app handle blocks.app ++ block_act writing_sort handle blocks.sort
+
+-- those that a database gets
+abbrev pub task_blocks : Task → List Act
+task_blocks task = block_acts 1 (blocks_for task.handheld task.rows)
 
 -- a database that the handheld lacks is made by the head of the desktop's rows, also where nothing
 -- is to be written
@@ -37,8 +52,10 @@ abbrev pub news_by : Option DatabaseValue → Task → List Act → List Act
 news_by None task acts = made task.rows acts
 news_by (Some handheld) task acts = opened_for task.name acts
 
+-- the blocks, and then the records
 unfoldable pub news_acts : Meeting → Task → List ℕ → List Act
-news_acts meeting task given = news_by task.handheld task (writes meeting task given)
+news_acts meeting task given =
+    news_by task.handheld task (task_blocks task ++ writes meeting task given)
 
 -- the ids are dealt out to the databases in order
 unfoldable pub all_news : Meeting → List Task → List ℕ → List Act

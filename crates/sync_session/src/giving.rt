@@ -1,20 +1,27 @@
 // What a handheld gets before the desktop commits.
 ghost use Rattle.std.specs.Prelude.{◌≡◌, ◌+◌, ◌↔◌, ◌∷◌, ◌++◌, [], IfErr, IsTrue, OnOk, false, length};
+ghost use Rattle.std.specs.Option.{option_copied};
+ghost use Rattle.desk_store.specs.Views.{shelves_in};
 ghost use Rattle.desktop_session.specs.declared.fault.SessionFault.TheVariants as session;
 ghost use Rattle.desktop_session.specs.Requests.{making, marking, opening};
 ghost use Rattle.mirrors.specs.News.{news_of};
+ghost use Rattle.session_plan.specs.Blocks.{blocks_of};
 ghost use Rattle.session_plan.specs.Heads as heads;
-ghost use Rattle.sync_session.specs.Phases.{GainsEach, GainsIds, gained, news_under, news_within, opened_news};
+ghost use Rattle.sync_session.specs.Phases.{Fills, GainsEach, GainsIds, GainsMade, gained, made_within, news_under, news_within, opened_news};
+ghost use Rattle.session_parts.specs.Causes.{IsLater};
 ghost use Rattle.session_parts.specs.Spans.{Spans};
 ghost use Rattle.session_plan.specs.Users as users;
 ghost use Rattle.session_parts.specs.Stretches.{SpansBehind, SpansEach};
 
+use crate::blocks::write_blocks;
 use crate::marking::begin;
 use conduit_rules::Plan;
-use desktop_session::{Linked, SessionFault};
+use desk_store::Desk;
+use desktop_session::{Linked, OpenDb, SessionFault};
 use dlp_commands::Link;
+use hs_folders::Folder;
 use mirrors::send_news;
-use pdb_values::{Content, DbHead, DbName, RecordId};
+use pdb_values::{Content, Database, DbHead, DbName, RecordId};
 use session_plan::{Planned, made_head};
 use std::alloc::{AllocError, Global};
 
@@ -43,20 +50,41 @@ pub fn give_one<L: Link>(
     Ok(ids)
 }
 
-/// Makes a database by a head on the handheld and gives it what its plan says, as `give_one` does.
+// Writes the blocks of the desktop's rows into a database that was just made, and then what its plan says.
+fn fill<L: Link>(
+    alloc: Global,
+    db: &mut OpenDb<'_, L>,
+    rows: Option<&Database>,
+    plan: &Plan,
+) -> Result<Vec<RecordId>, SessionFault>
+    ensures same_reference { db.new.linked.ghost_name ≡ db.old.linked.ghost_name }
+    ensures same_handle { db.new.handle ≡ db.old.handle }
+    ensures fills { Fills L.talk L.since L.fault L.downs db.old.handle
+        (blocks_of (option_copied rows.entry)) plan.now db.old.linked.now db.new.linked.now result }
+    ensures cause { IfErr result (IsLater (L.talk db.new.linked.now.link)
+        (L.fault db.new.linked.now.link)) }
+{
+    write_blocks(db, rows)?;
+    send_news(alloc, db, plan)
+}
+
+/// Makes a database by a head on the handheld, writes the blocks of the desktop's rows that have bytes, and gives it what its plan says,
+/// as `give_one` does.
 pub fn make_one<L: Link>(
     alloc: Global,
     linked: &mut Linked<L>,
     head: &DbHead,
+    rows: Option<&Database>,
     plan: &Plan,
 ) -> Result<Vec<RecordId>, SessionFault>
     requires { linked.old.abandoned ≡ false }
-    ensures spans { Spans L.talk L.since L.fault L.downs (news_within (making head.now) plan.now)
-        (GainsIds (making head.now) (L.talk linked.old.link) plan.now)
-        linked.old linked.new result }
+    ensures spans { let blocks = blocks_of (option_copied rows.entry) in
+        Spans L.talk L.since L.fault L.downs (made_within head.now blocks (news_of plan.now))
+        (λ handle given ids. GainsMade head.now blocks (L.talk linked.old.link) plan.now handle given
+        ids.items) linked.old linked.new result }
 {
     let mut opened = linked.create(head)?;
-    let ids = match send_news(alloc, &mut opened, plan) {
+    let ids = match fill(alloc, &mut opened, rows, plan) {
         Ok(ids) => ids,
         Err(fault) => {
             opened.abandon();
@@ -94,15 +122,17 @@ fn give_old<L: Link>(
 }
 
 // Gives a database what its plan says, unless it is skipped; one that the handheld lacks is made.
-fn give_planned<L: Link>(
+fn give_planned<L: Link, D: Folder>(
     alloc: Global,
     linked: &mut Linked<L>,
+    desk: &Desk<D>,
     one: &Planned,
 ) -> Result<Vec<RecordId>, SessionFault>
     requires { linked.old.abandoned ≡ false }
     ensures spans { Spans L.talk L.since L.fault L.downs
-        (news_under (L.talk linked.old.link) one.now)
-        (λ handle given ids. gained (L.talk linked.old.link) one.now handle given ids.items)
+        (news_under (shelves_in desk.now) (L.talk linked.old.link) one.now)
+        (λ handle given ids. gained (shelves_in desk.now) (L.talk linked.old.link) one.now handle
+        given ids.items)
         linked.old linked.new result }
 {
     match &one.job.skip {
@@ -110,7 +140,10 @@ fn give_planned<L: Link>(
         None => match &one.job.handheld {
             Some(_) => give_old(alloc, linked, &one.job.name, &one.plan),
             None => match &one.job.rows {
-                Some(rows) => make_one(alloc, linked, &made_head(rows), &one.plan),
+                Some(rows) => {
+                    let own = desk.rows(&one.job.name);
+                    make_one(alloc, linked, &made_head(rows), own, &one.plan)
+                }
                 None => Ok(Vec::new(alloc)),
             },
         },
@@ -127,38 +160,40 @@ fn push_ids(ids: &mut Vec<Vec<RecordId>>, more: Vec<RecordId>) -> Result<(), Ses
 }
 
 /// Gives each of these databases of the handheld what its plan says, one database after another, and answers the ids that the new
-/// records of each got. A database that the handheld lacks is made by the head of the desktop's rows, and one that gets nothing or
-/// is skipped is not opened.
-pub fn give_all<L: Link>(
+/// records of each got. A database that the handheld lacks is made by the head of the desktop's rows, with their blocks, and one that
+/// gets nothing or is skipped is not opened.
+pub fn give_all<L: Link, D: Folder>(
     alloc: Global,
     linked: &mut Linked<L>,
+    desk: &Desk<D>,
     planned: &[Planned],
 ) -> Result<Vec<Vec<RecordId>>, SessionFault>
     requires { linked.old.abandoned ≡ false }
-    ensures gives { SpansEach L.talk L.since L.fault L.downs news_under
-        GainsEach planned.now
+    ensures gives { SpansEach L.talk L.since L.fault L.downs (news_under (shelves_in desk.now))
+        (GainsEach (shelves_in desk.now)) planned.now
         (λ made. made.items) linked.old linked.new result }
 {
     let mut ids = Vec::new(alloc);
     for one in planned {
-        let more = give_planned(alloc, linked, one)?;
+        let more = give_planned(alloc, linked, desk, one)?;
         push_ids(&mut ids, more)?;
     }
     Ok(ids)
 }
 
 /// Marks the handheld as one whose session is under way, then gives each of these databases what its plan says, as `give_all` does.
-pub fn send_all<L: Link>(
+pub fn send_all<L: Link, D: Folder>(
     alloc: Global,
     linked: &mut Linked<L>,
+    desk: &Desk<D>,
     planned: &[Planned],
 ) -> Result<Vec<Vec<RecordId>>, SessionFault>
     requires { linked.old.abandoned ≡ false }
     ensures sends { SpansBehind L.talk L.since L.fault L.downs
-        (marking (users.begun_user linked.old.user) 0x40) news_under
-        GainsEach planned.now
+        (marking (users.begun_user linked.old.user) 0x40) (news_under (shelves_in desk.now))
+        (GainsEach (shelves_in desk.now)) planned.now
         (λ made. made.items) linked.old linked.new result }
 {
     begin(linked)?;
-    give_all(alloc, linked, planned)
+    give_all(alloc, linked, desk, planned)
 }

@@ -2,6 +2,7 @@
 //! functions of what they held before.
 #![tactic(auto)]
 
+mod blocks;
 mod ending;
 mod giving;
 mod laws;

@@ -128,7 +128,7 @@ fn write<L: Link, D: Folder>(
         planned: without_views(alloc, prepared.planned),
         reports: prepared.reports,
     };
-    match send_all(alloc, &mut linked, &prepared.planned) {
+    match send_all(alloc, &mut linked, &desk, &prepared.planned) {
         Ok(ids) => commit(alloc, linked, desk, prepared, &ids, date),
         Err(cause) => stopped(link_of(linked), desk, Stop::Session(cause)),
     }

@@ -3,7 +3,7 @@ import os
 import shutil
 
 from situations.rig import (
-    DATE, DIRTY, LATER, LATEST, all_files, call, memos, pdb, put, records_of, texts, two_sides, want, want_line, want_run, situation,
+    DATE, DIRTY, LATER, LATEST, all_files, blocks_of, call, memos, pdb, put, records_of, texts, two_sides, want, want_line, want_run, situation,
 )
 
 THREE = [b"one\0", b"three\0", b"two\0"]
@@ -114,6 +114,44 @@ def a_database_is_made_anew_between_two_sessions():
     want_refused("h", "d", LATER)
     want_run("h", "d", LATER, "--actions=MemoDB:desktop")
     want_both(*THREE)
+
+
+@situation
+def databases_come_back_to_a_reset_handheld_with_their_blocks():
+    """Categories, labels and sort order are in the blocks: a database that the handheld lacks is made with both."""
+    two_sides()
+    rows = records_of("d/MemoDB.pdb")
+    put("d/MemoDB.pdb", pdb("MemoDB", rows, app=b"labels\0", sort=b"\1\2"))
+    put("d/ToDoDB.pdb", pdb("ToDoDB", memos("task"), sort=b"\3"))
+    reset()
+    want_run("h", "d", LATER, "--actions=*:desktop")
+    want_both(*THREE)
+    want(blocks_of("h/MemoDB.pdb"), (b"labels\0", b"\1\2"), "blocks of the memos")
+    want(blocks_of("h/ToDoDB.pdb"), (b"", b"\3"), "blocks of the tasks")
+    want(blocks_of("d/MemoDB.pdb"), (b"labels\0", b"\1\2"), "blocks of the desktop's memos")
+
+
+@situation
+def a_handheld_keeps_the_blocks_of_a_database_that_it_has():
+    """A handheld that was reset made an empty database with blocks of its own."""
+    two_sides()
+    put("d/MemoDB.pdb", pdb("MemoDB", records_of("d/MemoDB.pdb"), app=b"labels\0", sort=b"\1\2"))
+    reset()
+    put("h/MemoDB.pdb", pdb("MemoDB", [], app=b"its own\0"))
+    want_run("h", "d", LATER, "--actions=*:desktop")
+    want_both(*THREE)
+    want(blocks_of("h/MemoDB.pdb"), (b"its own\0", b""), "blocks of the handheld's")
+    want(blocks_of("d/MemoDB.pdb"), (b"labels\0", b"\1\2"), "blocks of the desktop's")
+
+
+@situation
+def a_desktops_new_file_has_no_blocks():
+    """A session reads no blocks."""
+    put("h/MemoDB.pdb", pdb("MemoDB", memos("one"), app=b"labels\0", sort=b"\1\2"))
+    os.makedirs("d")
+    want_run("h", "d", DATE)
+    want(blocks_of("d/MemoDB.pdb"), (b"", b""), "blocks of the desktop's")
+    want(blocks_of("h/MemoDB.pdb"), (b"labels\0", b"\1\2"), "blocks of the handheld's")
 
 
 @situation

@@ -16,15 +16,27 @@ SITUATIONS = []
 # ---- files
 
 
-def pdb(name, records):
-    """The bytes of a database with these records: attributes, id, bytes."""
-    place = 78 + 8 * len(records) + 2
-    head = struct.pack(">32sHHIIIIII4s4sIIH", name.encode(), 0, 0, 1, 1, 0, 0, 0, 0, b"DATA", b"test", 0, 0, len(records))
+def pdb(name, records, app=b"", sort=b""):
+    """The bytes of a database with these records: attributes, id, bytes; and with these blocks, where they have bytes."""
+    start = 78 + 8 * len(records) + 2
+    place = start + len(app) + len(sort)
+    places = (start if app else 0, start + len(app) if sort else 0)
+    head = struct.pack(">32sHHIIIIII4s4sIIH", name.encode(), 0, 0, 1, 1, 0, 0, *places, b"DATA", b"test", 0, 0, len(records))
     entries, data = b"", b""
     for attributes, number, text in records:
         entries += struct.pack(">IB", place + len(data), attributes) + number.to_bytes(3, "big")
         data += text
-    return head + entries + b"\0\0" + data
+    return head + entries + b"\0\0" + app + sort + data
+
+
+def blocks_of(path):
+    """The application block and the sort block of a database file; no bytes where it has none."""
+    with open(path, "rb") as file:
+        whole = file.read()
+    app, sort = struct.unpack_from(">II", whole, 52)
+    (count,) = struct.unpack_from(">H", whole, 76)
+    first = struct.unpack_from(">I", whole, 78)[0] if count else len(whole)
+    return (whole[app : sort or first] if app else b"", whole[sort:first] if sort else b"")
 
 
 def records_of(path):

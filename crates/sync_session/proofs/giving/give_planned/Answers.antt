@@ -14,7 +14,7 @@ returns-in-Some-handheld g c = record { spans = rw (c.in-None.is, c.in-Some-hand
 pub returns-in-Some-rows : goal.returns-in-Some-rows
 unfolding news_under gained
 returns-in-Some-rows g c =
-    record { spans = rw (c.in-None.is, c.in-None-handheld.is, c.in-Some-rows.is) (rw c.made_head.ensures at c.make_one.ensures.spans) }
+    record { spans = rw (c.in-None.is, c.in-None-handheld.is, c.in-Some-rows.is) (rw (c.made_head.ensures, c.rows-own.ensures) at c.make_one.ensures.spans) }
 
 pub returns-in-None-rows : goal.returns-in-None-rows
 unfolding news_under gained

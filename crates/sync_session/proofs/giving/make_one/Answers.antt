@@ -1,41 +1,52 @@
--- A database is made, given its news, and closed.
-use Rattle.std.proofs.Common.{refl, rules}
+-- A database is made, given its blocks and its news, and closed.
+use Rattle.std.proofs.Common.{◌++◌, ◌∷◌, [], ap, refl, rules, subst}
 use Rattle.std.proofs.lemmas.Result.{err_from_is_err_and}
-use Rattle.dlp_replies.specs.ReplyReading.{reply_at}
-use Rattle.session_parts.proofs.CauseLaws.{later_by}
+use Rattle.std.specs.Option.{option_copied}
+use Rattle.mirrors.specs.News.{news_of, puts}
 use Rattle.session_parts.proofs.HandleLaws.{made_first}
 use Rattle.session_parts.proofs.SpanLaws.{span_done, span_stopped, span_unclosed, span_unopened}
+use Rattle.session_plan.specs.Blocks.{blocks_of}
+use Rattle.sync_session.specs.News.{block_acts}
+use Rattle.sync_session.proofs.BlockLaws.{gained_behind}
 use Rattle.sync_session.proofs.giving.make_one.Goals as goal
 
 pub returns-in_err-opened : goal.returns-in_err-opened
 returns-in_err-opened g c =
     let p = err_from_is_err_and c.from_residual.result c.from_residual.ensures.1 in
-    record { spans = rw (p.1, p.2) (span_unopened 0x18 _ _ refl refl c.in_err-opened.was c.create.follows.holds-at-none) }
+    let blocks = blocks_of (option_copied c.args.rows) in
+    record {
+      spans = rw (p.1, p.2) (span_unopened 0x18 (λ handle given. block_acts handle blocks ++ puts handle given (news_of c.args.plan.now)) _
+          refl refl c.in_err-opened.was c.create.follows.holds-at-none);
+    }
 
 pub returns-in-Err : goal.returns-in-Err
 returns-in-Err g c =
     let opened = made_first c.args.head.now c.in_ok-opened.ensures.asked c.in_ok-opened.ensures.handle in
-    let puts = c.in-Err.ensures.puts in
+    let blocks = blocks_of (option_copied c.args.rows) in
+    let fills = c.in-Err.ensures.fills in
     record {
-      spans = span_stopped g.met.L.Link.since_more _ puts.given opened puts.asks
-          (later_by _ _ (reply_at 0x21 c.send_news.new.db.linked.now.reply) _ puts.cause c.in-Err.ensures.last) (search rules);
+      spans = span_stopped g.met.L.Link.since_more (λ handle given. block_acts handle blocks ++ puts handle given (news_of c.args.plan.now))
+          fills.given opened fills.asks c.in-Err.ensures.cause (search rules);
     }
 
 pub returns-in_err-close : goal.returns-in_err-close
 returns-in_err-close g c =
     let p = err_from_is_err_and c.from_residual-in_err-close.result c.from_residual-in_err-close.ensures.1 in
     let opened = made_first c.args.head.now c.in_ok-opened.ensures.asked c.in_ok-opened.ensures.handle in
-    let puts = c.in-Ok.ensures.puts in
+    let blocks = blocks_of (option_copied c.args.rows) in
+    let fills = c.in-Ok.ensures.fills in
     record {
-      spans = rw (p.1, p.2) (span_unclosed g.met.L.Link.since_more _ puts.given opened puts.asks c.in-Ok.ensures.same_handle
-          c.in_err-close.ensures.asked c.in_err-close.ensures.answer (search rules));
+      spans = rw (p.1, p.2) (span_unclosed g.met.L.Link.since_more (λ handle given. block_acts handle blocks ++ puts handle given (news_of c.args.plan.now))
+          fills.given opened fills.asks c.in-Ok.ensures.same_handle c.in_err-close.ensures.asked c.in_err-close.ensures.answer (search rules));
     }
 
 pub returns : goal.returns
 returns g c =
     let opened = made_first c.args.head.now c.in_ok-opened.ensures.asked c.in_ok-opened.ensures.handle in
-    let puts = c.in-Ok.ensures.puts in
+    let blocks = blocks_of (option_copied c.args.rows) in
+    let fills = c.in-Ok.ensures.fills in
     record {
-      spans = span_done g.met.L.Link.since_more _ puts.given opened puts.asks c.in-Ok.ensures.same_handle c.in_ok-close.ensures.asked
-          c.in_ok-close.ensures.answer (record { behind = puts.said; own = puts.ids; free = rw opened.told at puts.free }) (search rules);
+      spans = span_done g.met.L.Link.since_more (λ handle given. block_acts handle blocks ++ puts handle given (news_of c.args.plan.now))
+          fills.given opened fills.asks c.in-Ok.ensures.same_handle c.in_ok-close.ensures.asked c.in_ok-close.ensures.answer
+          (gained_behind c.args.head.now blocks (g.L.Link.talk c.args.linked.now.link) opened.told fills.said) (search rules);
     }

@@ -1,0 +1,27 @@
+-- No block, or one of no bytes, is not written.
+use Rattle.std.proofs.Common.{◌∙◌, ◌≡◌, sym, refl, length, arith}
+use Rattle.std.proofs.lemmas.Bool.{eqb-true}
+use Rattle.desktop_session.specs.Requests.{writing_app}
+use Rattle.mirrors.proofs.AskLaws.{asked_answer}
+use Rattle.session_parts.proofs.CauseLaws.{later_answer}
+use Rattle.session_parts.proofs.LinkWords.{no_more}
+use Rattle.sync_session.proofs.BlockLaws.{asks_none, block_none, block_some}
+use Rattle.sync_session.proofs.blocks.write_app.Goals as goal
+
+pub returns-in_default-clause-asks : goal.returns-in_default-clause-asks
+returns-in_default-clause-asks g c = rw c.in_default.is (asks_none g.met.L.Link.since_itself c.args.db.now.linked.now tt)
+
+pub returns-then-is_empty-clause-asks : goal.returns-then-is_empty-clause-asks
+returns-then-is_empty-clause-asks g c =
+    rw c.in-Some.is (rw (block_none writing_app c.args.db.now.handle c.in-Some.bytes.now
+    (eqb-true _ 0 (sym c.is_empty.ensures ∙ c.if-is_empty.true)))
+    (asks_none g.met.L.Link.since_itself c.args.db.now.linked.now tt))
+
+pub returns-clause-asks : goal.returns-clause-asks
+returns-clause-asks g c =
+    rw c.in-Some.is (rw (block_some writing_app c.args.db.now.handle c.in-Some.bytes.now (sym c.is_empty.ensures ∙ c.if-is_empty.false))
+    (asked_answer g.L.Link.talk g.L.Link.since g.L.Link.fault g.L.Link.downs (writing_app c.args.db.now.handle c.in-Some.bytes.now)
+    c.args.db.now.linked.now c.write_app.new.self.linked.now _ c.write_app.result c.write_app.ensures.answer c.write_app.ensures.asked))
+
+pub returns-clause-cause : goal.returns-clause-cause
+returns-clause-cause g c = later_answer no_more c.write_app.result refl c.write_app.ensures.asked c.write_app.ensures.answer
