@@ -15,16 +15,15 @@ DATA, ACKNOWLEDGEMENT = 1, 2
 NOT_FOUND, EXISTS, ILLEGAL = 5, 9, 2
 # The habits that change nothing, and those that are told, with the lines and the status.
 HARMLESS = ("wake_of_another_version", "three_wakes", "tickles", "each_packet_twice", "noise", "indices_with_gaps",
-            "many_entries_a_reply", "more_to_the_end", "five_ids_a_reply", "handle_0", "dates_of_zeros", "a_password", "busy_records")
+            "many_entries_a_reply", "more_to_the_end", "five_ids_a_reply", "handle_0", "dates_of_zeros", "a_password", "busy_records", "archived_without_deleted")
 TOLD = {
     "a_date_that_is_none": (b"bad reply 16\n", 6),
     "a_user_date_that_is_none": (b"bad reply 10\n", 6),
     "entries_with_more": (b"bad reply 16\n", 6),
     "bytes_behind_the_user": (b"bad reply 10\n", 6),
     "a_second_argument": (b"bad reply 10\n", 6),
-    "records_cut_to_40_bytes": (b"bad reply 20\n", 6),
+    "records_cut_to_40_bytes": (b"bad reply 1f\n", 6),
     "the_same_five_ids": (b"bad reply 31\n", 6),
-    "begins_anew": (b"handheld began anew\n", 6),
 }
 DATE = bytes([2001 >> 8, 2001 & 255, 9, 8, 12, 0, 0, 0])
 

@@ -13,6 +13,7 @@ pub mod Sessions
 pub mod Stays
 pub mod Stops
 pub mod Told
+pub mod TouchedLines
 pub mod Traces
 pub mod Undisturbed
 pub mod Views

@@ -59,7 +59,7 @@ fn done_lines(alloc: Global, databases: &[DbReport]) -> Result<String, AllocErro
 
 // The line of one database.
 #[tactic(auto, unfolding(crate::specs::DoneLines::database_line))]
-fn database_line(alloc: Global, report: &DbReport) -> Result<String, AllocError>
+pub(crate) fn database_line(alloc: Global, report: &DbReport) -> Result<String, AllocError>
     ensures { IfOk result (λ line. string_bytes line
         ≡ line_of_database report.now.name report.now.did) }
 {

@@ -12,6 +12,7 @@ mod report;
 mod reporting;
 mod script;
 mod sides;
+mod touched_lines;
 mod tracing;
 
 pub use answer::Answer;
@@ -21,4 +22,5 @@ pub use done_lines::print_status;
 pub use report::{Report, SessionEnd};
 pub use script::script_of;
 pub use sides::{open_desktop, open_files, open_handheld};
+pub use touched_lines::print_touched;
 pub use tracing::{open_named, open_trace, write_text};

@@ -15,6 +15,7 @@ use Rattle.pdb_values.proofs.NamedLaws.{bytes_eq-is, bytes_eq-other, bytes_eq-ow
 use Rattle.pdb_files.specs.Files.{IsFileText, canonical}
 use Rattle.pdb_files.proofs.FileLaws.{one_database}
 use Rattle.folder_files.specs.FileNames.{database_file, desktop_info_file, journal_file}
+use Rattle.folder_files.specs.Slots.{SlotInfoValue}
 use Rattle.folder_files.specs.InfoFiles.{IsDeviceFile, desktop_in, device_forms, device_text, device_values}
 use Rattle.folder_files.specs.Lines.{SaysDate}
 use Rattle.folder_files.proofs.LineLaws.{lines_written}
@@ -298,6 +299,10 @@ shelf_is items shelf one rise each =
     look role.Archive name true is = refl
     look role.Archive name false is = refl
 
+-- equal lists of one are of equal ones
+only : {a b : SlotInfoValue} → a ∷ [] ≡ b ∷ [] → a ≡ b
+only e = cc
+
 pub made_desktop : {items : List Item} {slots : List SlotValue} → AreItems items → IsDesk (Some (desktop_files items)) slots
     → (slot : SlotValue) × (slots ≡ slot ∷ []) × MadeSlot items slot
 made_desktop {items} {slots} are desk =
@@ -311,8 +316,8 @@ made_desktop {items} {slots} are desk =
       slot,
       refl,
       record {
-        marks = cc;
-        parted = cc;
+        marks = ap (λ (info : SlotInfoValue). info.marks) (only marks);
+        parted = ap (λ (info : SlotInfoValue). info.parted) (only marks);
         rows = shelf_is items slot.shelves.rows role.Rows order.0.rows (λ name. shelved 0 role.Rows name (omega arith) ∙ found_at are role.Rows name);
         bases = shelf_is items slot.shelves.bases role.Base order.0.bases (λ name. shelved 0 role.Base name (omega arith) ∙ found_at are role.Base name);
         archives = shelf_is items slot.shelves.archives role.Archive order.0.archives (λ name. shelved 0 role.Archive name (omega arith)

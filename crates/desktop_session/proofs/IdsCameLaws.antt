@@ -1,5 +1,5 @@
 -- A list of ids grows by those that come, whatever the replies say; over a device that is told by 8,000.
-use Rattle.std.proofs.Common.{◌≡◌, ◌∙◌, ◌≤◌, ◌<◌, ◌+◌, ◌*◌, refl, ap, sym, subst, ℕ, List, [], ◌∷◌, ◌++◌, length, map, arith}
+use Rattle.std.proofs.Common.{◌≡◌, ◌∙◌, ◌≤◌, ◌<◌, ◌+◌, ◌*◌, ◌%◌, refl, ap, sym, subst, ℕ, List, [], ◌∷◌, ◌++◌, length, map, arith}
 use Rattle.std.proofs.lemmas.List.{length-append, map-append}
 use Rattle.std.proofs.lemmas.Grind.{common_steps}
 use Rattle.std.proofs.lemmas.Bool.Decides.{nat_tests}
@@ -254,6 +254,15 @@ module _ {L : Type 0} {talk : L → Option Talk} {since : L → L → Type 0} {f
       by : (o : Option Talk) → IfSome o (λ talk. 0 < length (ids_in (reply_at 0x31 new.reply))) → o ≡ None
       by None some = refl
       by (Some said) some = absurd (omega (arith, some, size, same))
+
+  -- nor does one behind a reply of fewer than 8,000
+  pub parted_untold : {ids : List ℕ} {now : SessionValue L} → IdsCame talk since fault downs handle count ids old now → length ids < count
+      → (length ids % 8000 ≡ 0 → ⊥) → IsCounted (talk old.link) handle count → talk old.link ≡ None
+  parted_untold {ids} before less parted counted = by (talk old.link) refl
+    where
+      by : (o : Option Talk) → talk old.link ≡ o → o ≡ None
+      by None is = refl
+      by (Some said) is = let at = at_of before is counted in let start = at.at less in absurd (parted (omega (arith, start)))
 
   pub tells_on : {ids : List ℕ} {now : SessionValue L} → IdsCame talk since fault downs handle count ids old now → talk old.link ≡ None → talk now.link ≡ None
   tells_on before none = untold_on (talk old.link) before.acts none before.does.said

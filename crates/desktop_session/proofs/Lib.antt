@@ -26,3 +26,4 @@ pub mod TellLaws
 pub mod UntoldLaws
 pub mod UserLaws
 pub mod WholeListLaws
+pub mod WholeReplies

@@ -55,10 +55,10 @@ pub valid_sizes : (kinds : List CellKind) (sizes : Fields kinds → Bool) (check
 unfolding valid_in
 valid_sizes kinds sizes checks place content v is = grind arith
 
-arguments_found : (r : Result (List Argument) ArgFault) (arguments : List Argument) → of_arguments r ≡ Ok arguments → r ≡ Ok arguments
+pub arguments_found : (r : Result (List Argument) ArgFault) (arguments : List Argument) → of_arguments r ≡ Ok arguments → r ≡ Ok arguments
 arguments_found r arguments is = grind arith
 
-le_or_more : (n limit : ℕ) → (n ≤ limit) ⊎ (limit < n)
+pub le_or_more : (n limit : ℕ) → (n ≤ limit) ⊎ (limit < n)
 le_or_more n limit = grind (arith, nat_tests, common_steps)
 
 -- where its argument is read
@@ -94,7 +94,7 @@ some_left : (text content : List ℕ) (size : ℕ) (found : Argument × List ℕ
 unfolding argument_at
 some_left text content size found header less is none = grind (arith, nat_tests, common_steps, length-drop size content)
 
-long_unread : (content : List ℕ) (arguments : List Argument) → 65535 < length content → arguments_at 1 4 (arg_text (one content)) ≡ Ok arguments → ⊥
+pub long_unread : (content : List ℕ) (arguments : List Argument) → 65535 < length content → arguments_at 1 4 (arg_text (one content)) ≡ Ok arguments → ⊥
 unfolding arguments_at
 long_unread content arguments long is =
     let text = arg_text (one content) in

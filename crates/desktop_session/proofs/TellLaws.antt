@@ -122,6 +122,18 @@ pub done_then : {A B : Type 0} (r : Result A ℕ) (next : A → Result B ℕ) (P
 done_then (Ok x) next P each = each x refl
 done_then (Err code) next P each = tt
 
+-- what was done by steps of which the first did this
+pub done_with : {A B : Type 0} (r : Result A ℕ) (next : A → Result B ℕ) (Q : A → Type 0) (P : B → Type 0) → IfDone Q r
+    → ((x : A) → Q x → IfDone P (next x)) → IfDone P (r >>= next)
+done_with (Ok x) next Q P holds each = each x holds
+done_with (Err code) next Q P holds each = tt
+
+-- what is replied where nothing changes
+pub replied : {A : Type 0} (P : A → Type 0) (device : Device) (r : Result A ℕ) → IfDone P r
+    → IfDone (λ (done : Device × A). P done.1) (r >>= (λ (answer : A). Ok (device, answer)))
+replied P device (Ok x) holds = holds
+replied P device (Err code) holds = tt
+
 pub need_some : {A : Type 0} (code : ℕ) (o : Option A) (x : A) → need code o ≡ Ok x → o ≡ Some x
 need_some code o x is = search (rules)
 

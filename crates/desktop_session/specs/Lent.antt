@@ -48,8 +48,9 @@ record_lent item = record {
 abbrev pub resource_lent : Resource → LentResource
 resource_lent resource = record { kind = resource.kind.0; id = resource.id; bytes = resource.bytes }
 
--- attribute 0x80: the user deleted it; 0x08: and wants it kept in an archive
+-- attribute 0x08: the user deleted it and wants it kept in an archive, with 0x80 or without; 0x80
+-- alone: the user deleted it
 abbrev pub lent_kind : ℕ → Kind
 lent_kind attributes =
-    if has_bit 0x80 attributes then (if has_bit 0x08 attributes then Archived else Deleted)
-    else Live
+    if has_bit 0x08 attributes then Archived
+    else (if has_bit 0x80 attributes then Deleted else Live)

@@ -19,3 +19,4 @@ pub mod Sessions
 pub mod Starts
 pub mod Stops
 pub mod Tellings
+pub mod Wholes

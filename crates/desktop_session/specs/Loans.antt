@@ -11,6 +11,7 @@ use Rattle.desktop_session.specs.Acts.{Act}
 use Rattle.desktop_session.specs.Answers.{answer_by, handle_of, or_none, said_in}
 use Rattle.desktop_session.specs.Sessions.{SessionValue}
 use Rattle.desktop_session.specs.Stops.{AsksOne}
+use Rattle.desktop_session.specs.Wholes.{HasWhole}
 use Rattle.desktop_session.specs.contracts.linked.Linked as linked_row
 use Rattle.desktop_session.specs.contracts.open_db.OpenDb as open_row
 use Rattle.desktop_session.specs.declared.fault.SessionFault.{SessionFault}
@@ -39,6 +40,17 @@ Lends T g database one Holds =
     × (last.handle ≡ database.now.handle)
     × AsksOne g.talk g.since g.fault g.downs one database.now.linked.now last.linked.now
     × Holds last.linked.now)
+
+-- the same of a record, and what was lent is whole
+abbrev pub LendsWhole : (T : RattleType) (g : Ghosts T.Denot) → MutBor (OpenDb T.Denot) → Act
+    → (SessionValue T.Denot → Type 0) → Fml
+LendsWhole T g database one Holds =
+    Rests (open_row.the_row (record { mir = named 0; lft = [] }) T g) database
+    (λ last. (last.linked.ghost_name ≡ database.now.linked.ghost_name)
+    × (last.handle ≡ database.now.handle)
+    × AsksOne g.talk g.since g.fault g.downs one database.now.linked.now last.linked.now
+    × Holds last.linked.now
+    × HasWhole g.fault one last.linked.now)
 
 -- Where no database is opened, the session asked for one act, and was answered this fault.
 abbrev pub OpensNone : (T : RattleType) (g : Ghosts T.Denot) → MutBor (SessionValue T.Denot)

@@ -1,9 +1,11 @@
 -- Where a list goes on behind each reply, whatever the replies say: a handheld's indices may have
 -- gaps, and then a reply has the first database at or above the start; and a reply may have fewer
--- ids than were asked for.
-use Rattle.std.specs.Prelude.{◌≡◌, ◌&&◌, ◌++◌, ◌+◌, ℕ, List, [], Option, None, Some, IfSome, Result, Ok, Err, nat_lt, not, if◌then◌else◌}
+-- ids than were asked for, or some that came before.
+use Rattle.std.specs.Prelude.{◌≡◌, ◌≤◌, ◌<◌, ◌%◌, ◌⊎◌, ◌&&◌, ◌++◌, ◌+◌, ℕ, true, false, List, [], length, take, slice_index, Option, None, Some, IfSome, Result, Ok, Err}
+use Rattle.std.specs.Prelude.{nat_lt, not, if◌then◌else◌}
 use Rattle.pdb_values.specs.Heads.{has_bit}
 use Rattle.pdb_values.specs.declared.head.DbHead.{DbHead}
+use Rattle.palm_device.specs.FreshIds.{is_among}
 use Rattle.dlp_replies.specs.declared.fault.ReplyFault.{ReplyFault}
 use Rattle.dlp_replies.specs.ReplyValues as reply
 use Rattle.dlp_replies.specs.ReplyValues.{ReplyValue}
@@ -11,7 +13,7 @@ use Rattle.dlp_replies.specs.ReplyReading.{reply_at}
 use Rattle.dlp_commands.specs.Talks.{Talk}
 use Rattle.desktop_session.specs.Acts.{acted}
 use Rattle.desktop_session.specs.Answers.{count_of, said_in}
-use Rattle.desktop_session.specs.Lists.{heads_in}
+use Rattle.desktop_session.specs.Lists.{heads_in, ids_in}
 use Rattle.desktop_session.specs.Requests.{counting}
 
 -- the index behind this one, where there is one
@@ -49,3 +51,24 @@ IsCounted talk handle count =
     IfSome talk
     (λ talk. said_in 0x2B count_of (reply_at 0x2B (acted (counting handle) talk.device).0)
     ≡ Ok count)
+
+-- ---- ids that come once
+
+-- each id from a place on is none of those before it
+abbrev pub AreNewFrom : ℕ → List ℕ → Type 0
+AreNewFrom place ids =
+    (k : ℕ) → place ≤ k → k < length ids → is_among (slice_index ids k) (take k ids) ≡ false
+
+-- an id from a place on is one of those before it
+pub record ComesTwice (place : ℕ) (ids : List ℕ) : Type 0 where
+  pub at : ℕ
+  pub behind : place ≤ at
+  pub within : at < length ids
+  pub again : is_among (slice_index ids at) (take at ids) ≡ true
+
+-- These are the ids up to those in this reply. Where those before it are no replies of 8,000, which
+-- is the most that is asked for, each of its ids is new.
+pub record AreIdsUpTo (read : Result ReplyValue ReplyFault) (ids : List ℕ) : Type 0 where
+  pub before : List ℕ
+  pub is : ids ≡ before ++ ids_in read
+  pub new : (length before % 8000 ≡ 0) ⊎ AreNewFrom (length before) ids

@@ -28,16 +28,17 @@ impl<'o> RecordLent<'o> {
         }
     }
 
-    /// What the record stands for. An archived one was deleted and is to be kept in an archive.
+    /// What the record stands for. An archived one was deleted and is to be kept in an archive, whether or not its handheld
+    /// tells it as deleted, too.
     pub fn kind(&self) -> Kind
         ensures { result ≡ lent_kind self.now.attributes }
     {
-        if self.attributes & 0x80 == 0 {
-            Kind::Live
-        } else if self.attributes & 0x08 != 0 {
+        if self.attributes & 0x08 != 0 {
             Kind::Archived
-        } else {
+        } else if self.attributes & 0x80 != 0 {
             Kind::Deleted
+        } else {
+            Kind::Live
         }
     }
 

@@ -1,5 +1,6 @@
 // Lists that come in several replies.
-ghost use Rattle.std.specs.Prelude.{◌≡◌, ◌++◌, ◌≤◌, IfErr, IfOk, IsOk, None, OnErr, OnOk, false, length, map};
+ghost use Rattle.std.specs.Prelude.{◌≡◌, ◌≢◌, ◌++◌, ◌≤◌, ◌<◌, ◌%◌, ◌⊎◌, IfErr, IfOk, IsOk, IsTrue, None, OnErr, OnOk, false, length, map};
+ghost use Rattle.palm_device.specs.FreshIds as fresh;
 ghost use Rattle.dlp_replies.specs.ReplyReading.{reply_at};
 ghost use Rattle.desktop_session.specs.Acts.{text};
 ghost use Rattle.desktop_session.specs.Answers.{ids_of, mapped, said_in};
@@ -7,7 +8,7 @@ ghost use Rattle.desktop_session.specs.Lasts.{IsByLastReply};
 ghost use Rattle.desktop_session.specs.Lists.{AreIdsRead, HasCause, IsByReplyTo, IsNotMissing, Lists, heads_in, id_listing, id_reads};
 ghost use Rattle.desktop_session.specs.Lists.{id_parts, ids_in};
 ghost use Rattle.desktop_session.specs.Requests.{listing, listing_ids};
-ghost use Rattle.desktop_session.specs.Starts.{IsCounted, IsListedUpTo, next_start};
+ghost use Rattle.desktop_session.specs.Starts.{AreIdsUpTo, AreNewFrom, ComesTwice, IsCounted, IsListedUpTo, next_start};
 ghost use Rattle.desktop_session.specs.Stops.{AsksOne, Does, Stops};
 
 use crate::fault::SessionFault;
@@ -103,7 +104,7 @@ impl<L: Link> Linked<L> {
     }
 
     // The ids of an open database that has so many records: each request begins behind those that came. A reply without
-    // ids where some are due is taken for none.
+    // ids where some are due is taken for none, and so is one that repeats some behind a reply of fewer than 8,000.
     fn ids_of(
         &mut self,
         alloc: Global,
@@ -118,6 +119,8 @@ impl<L: Link> Linked<L> {
         ensures ids { IfOk result (λ ids. IsCounted (L.talk self.old.link) handle count
             → AreIdsRead (L.talk self.old.link) handle count ids.items) }
         ensures whole { IfOk result (λ ids. count ≤ length ids.items) }
+        ensures once { IfOk result (λ ids. 0 < count
+            → AreIdsUpTo (reply_at 0x31 self.new.reply) ids.items) }
         ensures cause { IfErr result (HasCause (L.fault self.new.link) (reply_at 0x31
             self.new.reply)) }
         ensures last { IfErr result (λ cause. IsCounted (L.talk self.old.link) handle count
@@ -138,15 +141,48 @@ impl<L: Link> Linked<L> {
                     fault: ReplyFault::Wrapper(0),
                 });
             }
+            if repeats(&ids, before) {
+                self.forget_reply();
+                return Err(SessionFault::BadReply {
+                    function: 0x31,
+                    fault: ReplyFault::Wrapper(0),
+                });
+            }
         }
         Ok(ids)
     }
 }
 
+// Whether one of the ids behind so many is one of those before it. Behind replies of 8,000, the most that is asked for, it
+// isn't asked.
+fn repeats(ids: &[RecordId], before: usize) -> bool
+    ensures parted { IsTrue result → before % 8000 ≢ 0 }
+    ensures twice { IsTrue result → ComesTwice before ids.now }
+    ensures none { result ≡ false → (before % 8000 ≡ 0) ⊎ AreNewFrom before ids.now }
+{
+    if before % 8_000 == 0 {
+        return false;
+    }
+    for place in before..ids.len() {
+        if is_among(ids[place], &ids[..place]) {
+            return true;
+        }
+    }
+    false
+}
+
+// Whether an id is one of these.
+fn is_among(id: RecordId, ids: &[RecordId]) -> bool
+    ensures { result ≡ fresh.is_among id ids.now }
+{
+    ids.iter().any(|other| other.number() == id.number())
+}
+
 impl<'s, L: Link> OpenDb<'s, L> {
     /// The ids of the records, in their order, where there are so many, as `count` says. Each request is for those behind the
     /// ones that came, however many a reply has, and none goes out for no record. There are never fewer: a reply without
-    /// ids where some are due is taken for none. Over a device that is told 8,000 come in each reply but the last.
+    /// ids where some are due is taken for none, and so is one that repeats an id behind a reply of fewer than 8,000. Over a
+    /// device that is told 8,000 come in each reply but the last.
     pub fn ids(&mut self, alloc: Global, count: u16) -> Result<Vec<RecordId>, SessionFault>
         ensures same_reference { self.new.linked.ghost_name ≡ self.old.linked.ghost_name }
         ensures same_handle { self.new.handle ≡ self.old.handle }
@@ -161,6 +197,8 @@ impl<'s, L: Link> OpenDb<'s, L> {
             self.old.handle count
             → AreIdsRead (L.talk self.old.linked.now.link) self.old.handle count ids.items) }
         ensures whole { IfOk result (λ ids. count ≤ length ids.items) }
+        ensures once { IfOk result (λ ids. 0 < count
+            → AreIdsUpTo (reply_at 0x31 self.new.linked.now.reply) ids.items) }
         ensures cause { IfErr result (HasCause (L.fault self.new.linked.now.link)
             (reply_at 0x31 self.new.linked.now.reply)) }
         ensures last { IfErr result (λ cause. IsCounted (L.talk self.old.linked.now.link)

@@ -6,15 +6,16 @@ ghost use Rattle.dlp_args.specs.Views.{Gives};
 ghost use Rattle.dlp_replies.specs.ReplyReading.{reply_at};
 ghost use Rattle.desktop_session.specs.Answers.{answer_by, count_of, record_of, resource_of, said_in};
 ghost use Rattle.desktop_session.specs.Lent.{lent_resource, lent_value};
-ghost use Rattle.desktop_session.specs.Loans.{Lends, answered_with, found_with};
+ghost use Rattle.desktop_session.specs.Loans.{Lends, LendsWhole, answered_with, found_with};
 ghost use Rattle.desktop_session.specs.Requests.{counting, reading_at, reading_next, reading_of, reading_resource};
 ghost use Rattle.desktop_session.specs.Stops.{AsksOne};
+ghost use Rattle.desktop_session.specs.Wholes.{HasWhole, whole_reply};
 
 use crate::fault::SessionFault;
 use crate::lent::{RecordLent, ResourceLent};
 use crate::linked::Linked;
 use crate::open_db::OpenDb;
-use crate::replies::{count_in, found_in, next_in, record_in, resource_in};
+use crate::replies::{count_in, found_in, is_whole, next_in, record_in, resource_in};
 use dlp_commands::{Link, Request};
 use pdb_values::RecordId;
 
@@ -37,18 +38,30 @@ impl<'s, L: Link> OpenDb<'s, L> {
 
 // What is asked before something is lent.
 impl<L: Link> Linked<L> {
+    // A reply to a function whose record has fewer bytes than it says is taken for none.
+    fn keep_whole(&mut self, function: u8)
+        ensures { self.new ≡ record self.old { reply = whole_reply function self.old.reply } }
+    {
+        if !is_whole(function, self.reply()) {
+            self.forget_reply();
+        }
+    }
+
     #[tactic(auto, using(crate::proofs::RequestFits::at_fits))]
     fn ask_at(&mut self, handle: u8, index: u16) -> Result<(), SessionFault>
         ensures asked { AsksOne L.talk L.since L.fault L.downs (reading_at handle index) self.old
             self.new }
         ensures fault { result ≡ answer_by (L.fault self.new.link) (Ok tt) }
+        ensures whole { HasWhole L.fault (reading_at handle index) self.new }
     {
         self.ask(&Request::ReadRecordByIndex {
             handle,
             index,
             offset: 0,
             length: 65_535,
-        })
+        })?;
+        self.keep_whole(0x20);
+        Ok(())
     }
 
     #[tactic(auto, using(crate::proofs::RequestFits::of_fits))]
@@ -56,13 +69,16 @@ impl<L: Link> Linked<L> {
         ensures asked { AsksOne L.talk L.since L.fault L.downs (reading_of handle id) self.old
             self.new }
         ensures fault { result ≡ answer_by (L.fault self.new.link) (Ok tt) }
+        ensures whole { HasWhole L.fault (reading_of handle id) self.new }
     {
         self.ask(&Request::ReadRecordById {
             handle,
             id: id.number(),
             offset: 0,
             length: 65_535,
-        })
+        })?;
+        self.keep_whole(0x20);
+        Ok(())
     }
 
     #[tactic(auto, using(crate::proofs::RequestFits::next_fits))]
@@ -70,8 +86,11 @@ impl<L: Link> Linked<L> {
         ensures asked { AsksOne L.talk L.since L.fault L.downs (reading_next handle) self.old
             self.new }
         ensures fault { result ≡ answer_by (L.fault self.new.link) (Ok tt) }
+        ensures whole { HasWhole L.fault (reading_next handle) self.new }
     {
-        self.ask(&Request::ReadNextModifiedRec { handle })
+        self.ask(&Request::ReadNextModifiedRec { handle })?;
+        self.keep_whole(0x1F);
+        Ok(())
     }
 
     #[tactic(auto, using(crate::proofs::RequestFits::resource_fits))]
@@ -91,9 +110,9 @@ impl<L: Link> Linked<L> {
 
 #[tactic(auto, using(crate::proofs::AnswerLaws::answer_said, crate::proofs::AnswerLaws::answer_failed, crate::proofs::AnswerLaws::gives_said, crate::proofs::AnswerLaws::gives_failed))]
 impl<'s, L: Link> OpenDb<'s, L> {
-    /// Lends the record at an index.
+    /// Lends the record at an index. One whose reply has fewer bytes than the size that it tells is a reply that can't be read.
     pub fn at(&mut self, index: u16) -> Result<RecordLent<'_>, SessionFault>
-        ensures* rests { sem 𝓛 (Lends L.row L.Link self.entry (reading_at self.old.handle index)
+        ensures* rests { sem 𝓛 (LendsWhole L.row L.Link self.entry (reading_at self.old.handle index)
             (λ last. Gives lent_value result (answered_with L.fault 0x20 record_of last))) }
     {
         let handle = self.handle();
@@ -105,9 +124,9 @@ impl<'s, L: Link> OpenDb<'s, L> {
         record_in(linked.reply.bytes())
     }
 
-    /// Lends the record of an id, or nothing where there is none.
+    /// Lends the record of an id, or nothing where there is none. One with fewer bytes than its size can't be read.
     pub fn by_id(&mut self, id: RecordId) -> Result<Option<RecordLent<'_>>, SessionFault>
-        ensures* rests { sem 𝓛 (Lends L.row L.Link self.entry (reading_of self.old.handle id)
+        ensures* rests { sem 𝓛 (LendsWhole L.row L.Link self.entry (reading_of self.old.handle id)
             (λ last. Gives (option_map lent_value) result
             (found_with L.fault 0x20 record_of last))) }
     {
@@ -120,9 +139,10 @@ impl<'s, L: Link> OpenDb<'s, L> {
         found_in(linked.reply.bytes())
     }
 
-    /// Lends the next record that is dirty or deleted, or nothing where none is left.
+    /// Lends the next record that is dirty or deleted, or nothing where none is left. One with fewer bytes than its size
+    /// can't be read.
     pub fn next_changed(&mut self) -> Result<Option<RecordLent<'_>>, SessionFault>
-        ensures* rests { sem 𝓛 (Lends L.row L.Link self.entry (reading_next self.old.handle)
+        ensures* rests { sem 𝓛 (LendsWhole L.row L.Link self.entry (reading_next self.old.handle)
             (λ last. Gives (option_map lent_value) result
             (found_with L.fault 0x1F record_of last))) }
     {

@@ -11,6 +11,7 @@ ghost use Rattle.desktop_session.specs.Lent.{lent_resource, lent_value};
 ghost use Rattle.desktop_session.specs.Lists as lists;
 ghost use Rattle.desktop_session.specs.Replies.{AnswersTo};
 ghost use Rattle.desktop_session.specs.Starts.{next_start};
+ghost use Rattle.desktop_session.specs.Wholes as wholes;
 
 use crate::fault::SessionFault;
 use crate::lent::{RecordLent, ResourceLent};
@@ -129,6 +130,17 @@ pub(crate) fn record_in(bytes: &[u8]) -> Result<RecordLent<'_>, SessionFault>
             bytes,
         }),
         _ => unreachable!(),
+    }
+}
+
+// Whether a record has all the bytes of the size that its reply tells. No other reply has one.
+pub(crate) fn is_whole(function: u8, bytes: &[u8]) -> bool
+    ensures { result ≡ wholes.is_whole (reply_at function bytes.now) }
+{
+    match read_reply(function, bytes) {
+        Ok(Reply::ReadRecord { size, bytes, .. }) => usize::from(size) <= bytes.len(),
+        Ok(Reply::ReadNextModifiedRec { size, bytes, .. }) => usize::from(size) <= bytes.len(),
+        _ => true,
     }
 }
 

@@ -18,7 +18,7 @@ use Rattle.port_link.specs.Courses.{Course, Happens, Holds, HoldsNext, IsHeard, 
 use Rattle.port_link.specs.Desks.{Event, Awaits, Begins, Came, Read, desk_after, reacts}
 use Rattle.port_link.specs.Listening.{GoesThrough, is_over}
 use Rattle.port_link.specs.Logs.{EntryValue, entries_at, logged}
-use Rattle.port_link.proofs.TellLaws.{tells-failed, tells-then, written-none, written-then}
+use Rattle.port_link.proofs.TellLaws.{tells-failed, tells-nothing, tells-then, written-none, written-then}
 
 -- ---- what a reader holds
 
@@ -110,6 +110,16 @@ pub happens-from : (result : Result Turn PortFault) (old new : Scene) (held : Li
     → Happens result (record { given = old.given; taken = old.taken; palm = old.palm; held = held; desk = old.desk; log = old.log }) new → Happens result old new
 happens-from (Ok turn) old new held first happens = (happens.0, happens.1, happens.2, course-from old held first happens.3)
 happens-from (Err fault) old new held first happens = (happens.0, happens.1, course-from old held first happens.2)
+
+-- nothing happened
+pub course-none : (s : Scene) → Course [] None s s
+course-none s = record {
+  holds = continues_start s.held;
+  given = written-none s.given;
+  desk = refl;
+  tells = tells-nothing s.taken s.log;
+  palms = refl;
+}
 
 -- the port failed at a read
 pub course-unread : (fault : PortFault) {old new : Scene} → new.given ≡ old.given → new.taken ≡ old.taken → new.held ≡ old.held → new.desk ≡ old.desk

@@ -17,7 +17,7 @@ use Rattle.port_line.specs.declared.port_fault.PortFault.{PortFault}
 use Rattle.port_line.specs.declared.port_fault.PortFault.TheVariants.{Failed, NoMemory}
 use Rattle.slp_frames.specs.PacketText.{PacketValue}
 use Rattle.port_link.specs.declared.awaited.Awaited.{Awaited}
-use Rattle.port_link.specs.declared.awaited.Awaited.TheVariants.{Delivery, Message}
+use Rattle.port_link.specs.declared.awaited.Awaited.TheVariants.{Delivery, Wake}
 use Rattle.port_link.specs.declared.desk.Desk.{Desk}
 use Rattle.port_link.specs.declared.port_cause.PortCause.{PortCause}
 use Rattle.port_link.specs.declared.turn.Turn.{Turn}
@@ -33,7 +33,7 @@ use Rattle.port_link.specs.Standing.{IsStill, IsUnsaid}
 use Rattle.port_link.proofs.AskLaws.{events_keep}
 use Rattle.port_link.proofs.ReplyLaws.{heard_once}
 use Rattle.port_link.proofs.StandLaws.{Stood, ends_stood, events_stood, hears_stood, said_nothing, through_heard, told_as}
-use Rattle.port_link.proofs.WholeLaws.{fault-caused, heard-message, not_delivered, silence-not_whole}
+use Rattle.port_link.proofs.WholeLaws.{fault-caused, heard-message, silence-not_whole}
 
 -- ---- the handheld performed nothing
 
@@ -118,10 +118,16 @@ event_woken was old new (Came packet) stood turn course =
 event_woken was old new (Read []) stood turn course = absurd (silence-not_whole old.desk turn)
 event_woken was old new (Read (byte ∷ bytes)) stood turn course = cc
 
+undelivered : (old new : Scene) → Listens Wake old new (Ok then.Delivered) → ⊥
+undelivered old new listens = go listens.ends where
+  go : EndsWith Wake (length listens.events) (Ok then.Delivered) listens.between new → ⊥
+  go (inl ends) = let e : false ≡ true = ends.1 in cc
+  go (inr ends) = let e : then.Delivered ≡ then.GoesOn = ends.1 in cc
+
 -- what was answered where all went well
-pub whole_only : (old new : Scene) (answer : Result Turn PortFault) → None ≡ waking_cause answer → Listens Message old new answer → answer ≡ Ok then.Whole
+pub whole_only : (old new : Scene) (answer : Result Turn PortFault) → None ≡ waking_cause answer → Listens Wake old new answer → answer ≡ Ok then.Whole
 whole_only old new (Ok then.Whole) none listens = refl
-whole_only old new (Ok then.Delivered) none listens = absurd (not_delivered old new listens)
+whole_only old new (Ok then.Delivered) none listens = absurd (undelivered old new listens)
 whole_only old new (Ok then.GoesOn) none listens = cc
 whole_only old new (Ok then.Quiet) none listens = cc
 whole_only old new (Ok then.Spent) none listens = cc
@@ -130,11 +136,11 @@ whole_only old new (Ok then.Aborted) none listens = cc
 whole_only old new (Err Failed) none listens = cc
 whole_only old new (Err NoMemory) none listens = cc
 
-pub listens_woken : (was : Hand) (old new : Scene) → Stood (Waking was) old.desk.end old.held old.palm → Listens Message old new (Ok then.Whole)
+pub listens_woken : (was : Hand) (old new : Scene) → Stood (Waking was) old.desk.end old.held old.palm → Listens Wake old new (Ok then.Whole)
     → Stood (Woken was) new.desk.end new.held new.palm
 listens_woken was old new stood listens = go listens.ends where
-  go : EndsWith Message (length listens.events) (Ok then.Whole) listens.between new → Stood (Woken was) new.desk.end new.held new.palm
-  go (inl ends) = event_woken was listens.between new ends.0.0 (between_stood (Waking was) Message (Ok then.Whole) old new stood listens) ends.0.2 ends.0.3
+  go : EndsWith Wake (length listens.events) (Ok then.Whole) listens.between new → Stood (Woken was) new.desk.end new.held new.palm
+  go (inl ends) = event_woken was listens.between new ends.0.0 (between_stood (Waking was) Wake (Ok then.Whole) old new stood listens) ends.0.2 ends.0.3
   go (inr ends) = let e : then.Whole ≡ then.GoesOn = ends.1 in cc
 
 -- ---- the init
@@ -244,9 +250,9 @@ listens_id awaited answer old new listens =
 -- ---- the whole greeting
 
 waits_stood : (palm : Palm) (old between : Scene) (id : ℕ) (answer : Result Turn PortFault) → IsUnsaid old.desk.end old.held id palm → old.palm ≡ Some palm
-    → Says Message (Awaits 255 ∷ []) old between answer → Stood (Waking palm.hand) between.desk.end between.held between.palm
+    → Says Wake (Awaits 255 ∷ []) old between answer → Stood (Waking palm.hand) between.desk.end between.held between.palm
 waits_stood palm old between id answer unsaid told (inl says) =
-    listens_stood (Waking palm.hand) Message answer says.0 between (opens_stood None palm old says.0 id unsaid told says.1) says.2
+    listens_stood (Waking palm.hand) Wake answer says.0 between (opens_stood None palm old says.0 id unsaid told says.1) says.2
 waits_stood palm old between id answer unsaid told (inr says) = opens_stood (Some says.0) palm old between id unsaid told says.2
 
 fault_wakes : (fault : PortFault) → None ≡ waking_cause (Err fault) → ⊥
@@ -255,10 +261,10 @@ fault_wakes NoMemory e = cc
 
 waits_woken : (palm : Palm) (old between : Scene) (id : ℕ) (answer : Result Turn PortFault) → None ≡ waking_cause answer
     → IsUnsaid old.desk.end old.held id palm → old.palm ≡ Some palm
-    → Says Message (Awaits 255 ∷ []) old between answer → Stood (Woken palm.hand) between.desk.end between.held between.palm
+    → Says Wake (Awaits 255 ∷ []) old between answer → Stood (Woken palm.hand) between.desk.end between.held between.palm
 waits_woken palm old between id answer none unsaid told (inl says) =
     listens_woken palm.hand says.0 between (opens_stood None palm old says.0 id unsaid told says.1)
-    (subst (λ (a : Result Turn PortFault). Listens Message says.0 between a) (whole_only says.0 between answer none says.2) says.2)
+    (subst (λ (a : Result Turn PortFault). Listens Wake says.0 between a) (whole_only says.0 between answer none says.2) says.2)
 waits_woken palm old between id answer none unsaid told (inr says) =
     absurd (fault_wakes says.0 (none ∙ ap waking_cause says.1))
 

@@ -1,5 +1,5 @@
 -- What a handheld performed at a port is a run of its device.
-use Rattle.std.proofs.Common.{◌≡◌, List, [], ◌∷◌, inl, refl, sym, ap, subst, ◌∙◌}
+use Rattle.std.proofs.Common.{◌≡◌, List, [], ◌∷◌, inl, refl, sym, ap, subst}
 use Rattle.dlp_commands.specs.DeviceRuns.{DeviceRun}
 use Rattle.device_stream.proofs.HandLaws.{takes-once, run-on}
 use Rattle.device_stream.specs.Hands.{Hand}

@@ -1,5 +1,5 @@
 -- How a handheld's end at a port goes on.
-use Rattle.std.proofs.Common.{◌≡◌, ℕ, ◌+◌, ◌-◌, ◌&&◌, true, nat_eq, List, [], ◌∷◌, ◌++◌, length, refl, sym, ap, subst, ◌∙◌}
+use Rattle.std.proofs.Common.{◌≡◌, ℕ, ◌-◌, ◌&&◌, true, nat_eq, List, [], ◌∷◌, ◌++◌, length, refl, sym, ap, subst, ◌∙◌}
 use Rattle.std.specs.Prelude.{Option, Some, None, is_some}
 use Rattle.std.specs.Option.{option_map}
 use Rattle.std.proofs.lemmas.Grind.{flat_map-append}
@@ -25,7 +25,7 @@ use Rattle.padp_link.specs.declared.piece.Piece.{Piece}
 use Rattle.port_line.specs.declared.port_fault.PortFault.{PortFault}
 use Rattle.port_line.specs.declared.port_fault.PortFault.TheVariants as port
 use Rattle.port_link.specs.Courses.{Holds, HoldsNext, Tells, reads_at, reads_of}
-use Rattle.port_link.specs.Desks.{Event, Came, Read}
+use Rattle.port_link.specs.Desks.{Event}
 use Rattle.port_link.specs.Logs.{EntryValue, heard_entries, said_entries, speech}
 use Rattle.port_link.proofs.CourseLaws.{holds-from, holds-then}
 use Rattle.port_link.proofs.TellLaws.{tells-failed, tells-nothing, tells-then, tells-unkept, written-none, written-then}
@@ -34,7 +34,7 @@ use Rattle.port_link.specs.declared.port_end.PortEnd.TheVariants.{Ended, PortFai
 use Rattle.port_link.specs.VigilCourses.{GoesOn, GoesOut, HasStepped, Scene, Stops}
 use Rattle.port_link.specs.Ends.{IsDown, IsLong, IsOut, IsOver, IsSudden, end_of_fault, end_of_port, end_of_talk, fault_of, most_events}
 use Rattle.port_link.specs.Runs.{IsPortRun}
-use Rattle.port_link.specs.Vigils.{Step, Steps, Vigil, behind_tick, vigil, waking}
+use Rattle.port_link.specs.Vigils.{GoesOnBehind, Step, Steps, StepsOn, StepsTo, Vigil, behind_tick, vigil, waking}
 use Rattle.device_stream.proofs.CourseLaws.{begins-behind, same-hand}
 
 gave-then : (a : Option (List (List ℕ))) {b c : Option (List (List ℕ))} (es fs : List Event) → b ≡ option_map (λ given. given ++ reads_of es) a
@@ -43,22 +43,54 @@ gave-then a es fs first next =
     written-then a (reads_of es) (reads_of fs) first next
     ∙ ap (λ (r : List (List ℕ)). option_map (λ given. given ++ r) a) (sym (flat_map-append reads_at es fs))
 
+on-then : (a : Vigil) (es : List Event) (kept : List EntryValue) (b : Vigil) (fs : List Event) (more : List EntryValue) (c : Vigil)
+    → StepsOn a es kept b → StepsOn b fs more c → StepsOn a (es ++ fs) (kept ++ more) c
+on-then a [] kept b fs more c first next =
+    subst (λ (v : Vigil). StepsOn v fs (kept ++ more) c) first.1 (subst (λ (k : List EntryValue). StepsOn b fs (k ++ more) c) (sym first.0) next)
+on-then a (event ∷ es) kept b fs more c (said, later, between, step, is, steps, on) next = (
+  said,
+  later ++ more,
+  between,
+  step,
+  ap (λ (k : List EntryValue). k ++ more) is ∙ append_assoc (heard_entries event ++ said_entries said) later more,
+  on-then between es later b fs more c steps next,
+  on,
+)
+
 steps-then : (a : Vigil) (es : List Event) (kept : List EntryValue) (b : Vigil) (fs : List Event) (more : List EntryValue) (c : Vigil)
-    → Steps a es kept b → Steps b fs more c → Steps a (es ++ fs) (kept ++ more) c
+    → StepsOn a es kept b → StepsTo b fs more c → StepsTo a (es ++ fs) (kept ++ more) c
 steps-then a [] kept b fs more c first next =
-    subst (λ (v : Vigil). Steps v fs (kept ++ more) c) first.1 (subst (λ (k : List EntryValue). Steps b fs (k ++ more) c) (sym first.0) next)
-steps-then a (event ∷ es) kept b fs more c (said, later, between, step, is, steps) next = (
+    subst (λ (v : Vigil). StepsTo v fs (kept ++ more) c) first.1 (subst (λ (k : List EntryValue). StepsTo b fs (k ++ more) c) (sym first.0) next)
+steps-then a (event ∷ es) kept b fs more c (said, later, between, step, is, steps, on) next = (
   said,
   later ++ more,
   between,
   step,
   ap (λ (k : List EntryValue). k ++ more) is ∙ append_assoc (heard_entries event ++ said_entries said) later more,
   steps-then between es later b fs more c steps next,
+  λ follow. on,
 )
 
-steps-one : (a : Vigil) (said : List OutgoingFragment) {b : Vigil} (event : Event) → Step a event said b → Steps a (event ∷ []) (heard_entries event ++ said_entries said) b
+-- where it goes on it went on behind each but the last
+to-last : (a : Vigil) (es : List Event) (kept : List EntryValue) (b : Vigil) → StepsOn a es kept b → StepsTo a es kept b
+to-last a [] kept b steps = steps
+to-last a (event ∷ es) kept b (said, later, between, step, is, steps, on) =
+    (said, later, between, step, is, to-last between es later b steps, λ follow. on)
+
+-- these are steps
+pub steps-of : (a : Vigil) (es : List Event) (kept : List EntryValue) (b : Vigil) → StepsTo a es kept b → Steps a es kept b
+steps-of a [] kept b steps = steps
+steps-of a (event ∷ es) kept b (said, later, between, step, is, steps, on) = (said, later, between, step, is, steps-of between es later b steps)
+
+on-one : (a : Vigil) (said : List OutgoingFragment) {b : Vigil} (event : Event) → Step a event said b → GoesOnBehind a event b
+    → StepsOn a (event ∷ []) (heard_entries event ++ said_entries said) b
+on-one a said {b} event step on =
+    (said, [], b, step, sym (append-nil (heard_entries event ++ said_entries said)), (refl, refl), on)
+
+steps-one : (a : Vigil) (said : List OutgoingFragment) {b : Vigil} (event : Event) → Step a event said b
+    → StepsTo a (event ∷ []) (heard_entries event ++ said_entries said) b
 steps-one a said {b} event step =
-    (said, [], b, step, sym (append-nil (heard_entries event ++ said_entries said)), (refl, refl))
+    (said, [], b, step, sym (append-nil (heard_entries event ++ said_entries said)), (refl, refl), λ follow. absurd follow)
 
 -- ---- events
 
@@ -76,7 +108,7 @@ goes-then {a} {b} {c} {es} {fs} first next = record {
   holds = holds-then es fs a.held b.held c.held first.holds next.holds;
   given = gave-then a.given es fs first.given next.given;
   kept = first.kept ++ next.kept;
-  steps = steps-then a.vigil es first.kept b.vigil fs next.kept c.vigil first.steps next.steps;
+  steps = on-then a.vigil es first.kept b.vigil fs next.kept c.vigil first.steps next.steps;
   tells = tells-then first.tells next.tells;
 }
 
@@ -88,7 +120,7 @@ goes-one event {old} {new} holds given stepped = record {
   holds = (new.held, holds, continues_start new.held);
   given = given ∙ ap (λ (r : List (List ℕ)). option_map (λ given. given ++ r) old.given) (sym (append-nil (reads_at event)));
   kept = heard_entries event ++ said_entries stepped.said;
-  steps = steps-one old.vigil stepped.said event stepped.step;
+  steps = on-one old.vigil stepped.said event stepped.step stepped.on;
   tells = stepped.tells;
 }
 
@@ -172,7 +204,7 @@ out-long {a} {b} {es} before count going = record {
   holds = before.holds;
   gave = before.given;
   first = ([], sym (append-nil es));
-  steps = before.steps;
+  steps = to-last a.vigil es before.kept b.vigil before.steps;
   tells = before.tells;
   same = same-hand b.vigil.hand;
   over = going;
@@ -187,7 +219,7 @@ out-said {end} {a} {b} {c} {text} given held vigil_is tells out = record {
   holds = subst (λ (h : List ℕ). Holds h out.course.came c.held) held out.holds;
   gave = out.gave ∙ ap (λ (g : Option (List (List ℕ))). option_map (λ given. given ++ reads_of out.course.came) g) given;
   first = out.first;
-  steps = subst (λ (v : Vigil). Steps v out.course.events out.course.kept out.course.vigil) vigil_is out.steps;
+  steps = subst (λ (v : Vigil). StepsTo v out.course.events out.course.kept out.course.vigil) vigil_is out.steps;
   tells = tells-then tells out.tells;
   same = out.same;
   over = out.over;
@@ -332,12 +364,13 @@ pub run-of : {device : Device} {given given' : Option (List (List ℕ))} {taken 
     (out : GoesOut (said_text wake_said) end (record { given = given; taken = taken; held = []; vigil = waking device; log = [] })
     (record { given = given'; taken = taken'; held = held; vigil = after; log = log }))
     → IsPortRun device given given' taken taken' log end out.course
-run-of {held = held} out = record {
+run-of {device} {held = held} out = record {
   held = held;
   holds = out.holds;
   gave = out.gave;
   first = out.first;
-  steps = out.steps;
+  steps = steps-of (waking device) out.course.events out.course.kept out.course.vigil out.steps;
+  through = out.steps;
   tells = out.tells;
   over = out.over;
   long = out.long;
@@ -351,6 +384,7 @@ run-unbegun device given taken = record {
   gave = written-none given;
   first = ([], refl);
   steps = (refl, refl);
+  through = (refl, refl);
   tells = tells-unkept taken (said_entries wake_said ++ []) refl;
   over = tt;
   long = tt;

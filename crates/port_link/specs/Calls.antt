@@ -8,7 +8,7 @@ use Rattle.padp_link.specs.Receivers.{whole_of}
 use Rattle.port_laws.specs.Palms.{Palm}
 use Rattle.port_line.specs.declared.port_fault.PortFault.{PortFault}
 use Rattle.port_link.specs.declared.awaited.Awaited.{Awaited}
-use Rattle.port_link.specs.declared.awaited.Awaited.TheVariants.{Message, Delivery, Tick}
+use Rattle.port_link.specs.declared.awaited.Awaited.TheVariants.{Wake, Message, Delivery, Tick}
 use Rattle.port_link.specs.declared.desk.Desk.{Desk}
 use Rattle.port_link.specs.declared.port_cause.PortCause.{PortCause}
 use Rattle.port_link.specs.declared.port_cause.PortCause.TheVariants.{PortFailed}
@@ -55,7 +55,7 @@ GoesOnFrom None old new result =
 pub record Greets (old new : Scene) (result : Result ℕ PortCause) : Type 0 where
   pub answer : Result Turn PortFault
   pub between : Scene
-  pub waits : Says Message (Awaits 255 ∷ []) old between answer
+  pub waits : Says Wake (Awaits 255 ∷ []) old between answer
   pub goes_on : GoesOnFrom (waking_cause answer) between new result
 
 -- ---- a request

@@ -21,9 +21,10 @@ cause_of (Ok then.Aborted) = Some Aborted
 cause_of (Err port.Failed) = Some PortFailed
 cause_of (Err port.NoMemory) = Some NoMemory
 
--- the same of a wake: where nothing came there is no handheld
+-- the same of a wake: where none came, or something else without end, there is no handheld
 abbrev pub waking_cause : Result Turn PortFault → Option PortCause
 waking_cause (Ok then.Silent) = Some NoHandheld
+waking_cause (Ok then.GoesOn) = Some NoHandheld
 waking_cause answer = cause_of answer
 
 -- what a link answers for it

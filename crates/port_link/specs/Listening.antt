@@ -2,28 +2,35 @@
 use Rattle.std.specs.Prelude.{◌≡◌, ◌⊎◌, ℕ, Bool, true, false, List, [], ◌∷◌, length, None, Result, Ok, Err}
 use Rattle.port_line.specs.declared.port_fault.PortFault.{PortFault}
 use Rattle.port_link.specs.declared.awaited.Awaited.{Awaited}
-use Rattle.port_link.specs.declared.awaited.Awaited.TheVariants.{Message, Delivery, Tick}
+use Rattle.port_link.specs.declared.awaited.Awaited.TheVariants.{Wake, Message, Delivery, Tick}
 use Rattle.port_link.specs.declared.desk.Desk.{Desk}
 use Rattle.port_link.specs.declared.turn.Turn.{Turn}
 use Rattle.port_link.specs.declared.turn.Turn.TheVariants as then
 use Rattle.port_link.specs.Courses.{Course, Happens, IsHeard, Scene}
 use Rattle.port_link.specs.Desks.{Event, reacts}
 
--- how many events are waited for at most
-abbrev pub most_events : ℕ
-most_events = 1048576
+-- how many events are waited for at most; fewer for a wake, since a port that talks without end is
+-- no handheld's
+abbrev pub most_events : Awaited → ℕ
+most_events Wake = 65536
+most_events Message = 1048576
+most_events Delivery = 1048576
+most_events Tick = 1048576
 
 abbrev pub is_message : Awaited → Bool
+is_message Wake = true
 is_message Message = true
 is_message Delivery = false
 is_message Tick = false
 
 abbrev pub is_delivery : Awaited → Bool
+is_delivery Wake = false
 is_delivery Message = false
 is_delivery Delivery = true
 is_delivery Tick = false
 
 abbrev pub is_tick : Awaited → Bool
+is_tick Wake = false
 is_tick Message = false
 is_tick Delivery = false
 is_tick Tick = true
@@ -49,7 +56,7 @@ GoesThrough awaited desk (event ∷ events) =
 abbrev pub EndsWith : Awaited → ℕ → Result Turn PortFault → Scene → Scene → Type 0
 EndsWith awaited count (Ok turn) old new =
     (Happens (Ok turn) old new × (is_over awaited turn ≡ true))
-    ⊎ ((count ≡ most_events) × (turn ≡ then.GoesOn) × (new ≡ old))
+    ⊎ ((count ≡ most_events awaited) × (turn ≡ then.GoesOn) × (new ≡ old))
 EndsWith awaited count (Err fault) old new = Happens (Err fault) old new
 
 -- it listened up to this answer

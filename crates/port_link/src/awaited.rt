@@ -7,6 +7,8 @@ use crate::turn::Turn;
 /// What a desktop's end listens for.
 #[derive(Clone, Copy)]
 pub enum Awaited {
+    /// The first message of the other end, which is to be its wake.
+    Wake,
     /// A message of the other end.
     Message,
     /// The acknowledgement of its own message.
@@ -22,7 +24,7 @@ pub(crate) fn ends(awaited: Awaited, turn: Turn) -> bool
     match turn {
         Turn::GoesOn => false,
         Turn::Delivered => matches!(awaited, Awaited::Delivery),
-        Turn::Whole => matches!(awaited, Awaited::Message),
+        Turn::Whole => matches!(awaited, Awaited::Wake | Awaited::Message),
         Turn::Quiet => matches!(awaited, Awaited::Tick),
         Turn::Spent | Turn::Silent | Turn::Aborted => true,
     }

@@ -4,7 +4,7 @@ ghost use Rattle.hs_folders.specs.Causes.{HasCause};
 ghost use Rattle.slp_frames.specs.PacketScan.{scan};
 ghost use Rattle.port_link.specs.CableScenes.{scene_of};
 ghost use Rattle.port_link.specs.Courses.{Happens};
-ghost use Rattle.port_link.specs.Listening.{Listens};
+ghost use Rattle.port_link.specs.Listening.{Listens, most_events};
 
 use crate::awaited::{Awaited, ends};
 use crate::cable::Cable;
@@ -15,6 +15,9 @@ use slp_frames::SlpReader;
 /// How often a packet is taken or the port is read until what is awaited has to be there: more than
 /// sixteen times the bytes of the longest message.
 const READS: u32 = 1_048_576;
+
+/// The same of a wake: a port that talks, and is no handheld's, says more.
+const WAKE_READS: u32 = 65_536;
 
 /// Takes packets and reads the port until what is awaited is there, or won't come any more.
 pub(crate) fn listen<P: Port>(
@@ -28,7 +31,7 @@ pub(crate) fn listen<P: Port>(
     ensures cause { HasCause (P.faults cable.old.port) (P.faults cable.new.port)
         (IsErrOf result PortFault.Failed) }
 {
-    for count in 0..READS {
+    for count in 0..most_reads(awaited) {
         match step(cable, reader) {
             Ok(turn) if ends(awaited, turn) => return Ok(turn),
             Ok(_) => {}
@@ -36,6 +39,16 @@ pub(crate) fn listen<P: Port>(
         }
     }
     Ok(Turn::GoesOn)
+}
+
+// How often a packet is taken or the port is read at most.
+fn most_reads(awaited: Awaited) -> u32
+    ensures { result ≡ most_events awaited }
+{
+    match awaited {
+        Awaited::Wake => WAKE_READS,
+        Awaited::Message | Awaited::Delivery | Awaited::Tick => READS,
+    }
 }
 
 // Takes a packet that the reader holds, or reads the port once.

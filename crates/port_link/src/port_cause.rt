@@ -12,7 +12,8 @@ use port_line::PortFault;
 pub enum PortCause {
     /// The port failed.
     PortFailed,
-    /// No handheld woke it: thirty ticks in a row brought nothing, or what came first is no wake.
+    /// No handheld woke it: thirty ticks in a row brought nothing, what came first is no wake, or it wasn't there behind 65,536
+    /// packets, bytes and ticks.
     NoHandheld,
     /// A piece was said ten times, with a tick of silence behind each, and never acknowledged.
     LineDown,
@@ -61,7 +62,7 @@ pub(crate) fn waking_outcome(answer: Result<Turn, PortFault>) -> Result<(), Port
     ensures { result_err result ≡ waking_cause answer }
 {
     match answer {
-        Ok(Turn::Silent) => Err(PortCause::NoHandheld),
+        Ok(Turn::Silent | Turn::GoesOn) => Err(PortCause::NoHandheld),
         answer => outcome(answer),
     }
 }

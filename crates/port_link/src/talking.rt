@@ -31,7 +31,7 @@ pub(crate) fn greet<P: Port>(cable: &mut Cable<P>, reader: &mut SlpReader) -> Re
         (result_err result ≡ Some PortCause.PortFailed) }
 {
     cable.desk.expect(GREETING_ID);
-    match waking_outcome(listen(cable, reader, Awaited::Message)) {
+    match waking_outcome(listen(cable, reader, Awaited::Wake)) {
         Ok(()) => answer_wake(cable, reader),
         Err(cause) => Err(cause),
     }

@@ -30,7 +30,7 @@ use Rattle.call_parts.specs.Closings.{left_databases, left_end}
 use Rattle.call_parts.specs.Told.{FolderTold}
 use Rattle.front_laws.proofs.RequestLaws.{sound_meeting}
 use Rattle.port_run.specs.Ends.{LeftFor}
-use Rattle.port_run.specs.Links.{LinkRan, link_over}
+use Rattle.port_run.specs.Links.{LinkRan, answered, fault_of_link, link_over}
 use Rattle.port_run.specs.Told.{PortTold}
 use Rattle.port_run.specs.Wishes.{AsksFor}
 use Rattle.port_run.specs.declared.synced.CableReport.{CableReport}
@@ -116,13 +116,13 @@ fresh-told port palm is first =
     ∙ ap (λ (l : List (List ℕ)). Some (record { device = palm.hand.device; exchanges = exchanged l palm.hand.replies; left = None })) start.performed
 
 -- what is left of both sides by a session over a port that told its handheld
-pub left_for : (fault : LinkValue → Option LinkFault) (downs : LinkValue → ℕ) {cable : Cable} {wishes : Wishes} (slots : List SlotValue)
+pub left_for : (downs : LinkValue → ℕ) {cable : Cable} {wishes : Wishes} (slots : List SlotValue)
     (port after : PortTold) (palm : Palm) (desk desk_after : FolderTold) (report : CableReport) (log : List EntryValue) (answer : Result (Vec DbReport) Stop)
     → port.palm ≡ Some palm → is_first palm ≡ true → IsAtRest palm.hand.device → AsksFor cable wishes → AreBounded slots → wishes.date < 2 ^ 32
     → report.end ≡ left_end answer → report.databases.items ≡ left_databases answer → (ran : LinkRan port after report.cause log)
-    → EndsOver fault downs (meeting_of palm.hand.device slots wishes) (link_over port) ran.last desk desk_after answer
-    → LeftFor cable palm.hand.device slots after.palm desk desk_after ran.last report
-left_for fault downs {cable} {wishes} slots port after palm desk desk_after report log answer is first rests asked bounded date end databases ran ends =
+    → EndsOver fault_of_link downs (meeting_of palm.hand.device slots wishes) (link_over port) ran.last desk desk_after answer
+    → LeftFor cable palm.hand.device slots after.palm desk desk_after (answered (link_over port) ran.last answer) report
+left_for downs {cable} {wishes} slots port after palm desk desk_after report log answer is first rests asked bounded date end databases ran ends =
     let start = opened palm first in
     let fresh_ran = first-ran port.given port.taken port.palm port.paths port.faults palm is first in
     let last_ran = calls-ran palm.hand ran.since.0 (link_over port) ran.last fresh_ran ran.since.1 in
@@ -133,11 +133,12 @@ left_for fault downs {cable} {wishes} slots port after palm desk desk_after repo
     record {
       wishes = wishes;
       asked = asked;
+      why = ends.cause;
       talk = talk;
       told = told;
       palm = last.palm;
       palm_is = last.palm_is;
-      left = session_left fault downs {meeting = meeting_of palm.hand.device slots wishes} (link_over port) ran.last talk last.palm.hand desk desk_after report
+      left = session_left fault_of_link downs {meeting = meeting_of palm.hand.device slots wishes} (link_over port) ran.last talk last.palm.hand desk desk_after report
           (fresh-told port palm is first) told (sound_meeting slots wishes rests bounded date)
           (still-ran last.did (link-ran palm.hand start.performed start.replies last_ran told))
           (began-with palm.hand start.performed start.replies fresh_ran last_ran last.did) answer end databases ends;

@@ -30,7 +30,7 @@ stop_blames down why = grind (arith, common_steps)
 pub record Closing (down : Option PortCause) (answer : Result (Vec DbReport) Stop) (closed : Closed) : Type 0 where
   pub end : closed.end ≡ left_end answer
   pub databases : closed.databases.items ≡ left_databases answer
-  pub over : IsOver closed.end down closed.status
+  pub over : IsOver answer closed.end down closed.status
   pub port : closed.status ≡ PortFailed → down ≡ Some cause.PortFailed
   pub desktop : closed.status ≡ DesktopFolder → IsErrOf answer stop.DeskFault
   pub unsaid : IsUnsaid closed.status
@@ -39,7 +39,7 @@ pub closing : (down : Option PortCause) (answer : Result (Vec DbReport) Stop) (c
 closing down (Ok databases) closed is = record {
   end = is.1;
   databases = ap (λ (made : Vec DbReport). made.items) is.2;
-  over = subst (λ end. IsOver end down closed.status) (sym is.1) is.0;
+  over = (is.1, is.0);
   port = λ e. absurd cc;
   desktop = λ e. absurd cc;
   unsaid = subst IsUnsaid (sym is.0) tt;
@@ -49,7 +49,7 @@ closing down (Err why) closed is =
     record {
       end = is.1;
       databases = is.2;
-      over = subst (λ end. IsOver end down closed.status) (sym is.1) (why, is.0);
+      over = (is.1, is.0);
       port = blames.port;
       desktop = λ e. ap Err (blames.desktop e);
       unsaid = blames.unsaid;

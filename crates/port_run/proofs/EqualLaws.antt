@@ -16,7 +16,7 @@ use Rattle.front_laws.specs.Equal.{HasEqualSides}
 use Rattle.front_laws.proofs.EqualLaws.{holds-equal}
 use Rattle.front_laws.proofs.FrontLaws.{front-behind}
 use Rattle.port_laws.specs.Palms.{Palm}
-use Rattle.port_link.specs.Calls.{LinkValue}
+use Rattle.port_run.specs.Links.{Answered, answered, link_over}
 use Rattle.run_words.specs.Cables.{Cable}
 use Rattle.cmd_status.specs.declared.status.Status.{Status}
 use Rattle.call_parts.specs.LineRuns.{write_count}
@@ -46,8 +46,8 @@ all-written {meeting} {hand} ended =
     let first = writes-before meeting none in
     omega (arith, sum, first)
 
-module _ {cable : Cable} {device : Device} {after : Option Palm} {desk desk_after : FolderTold} {last : LinkValue} {report : CableReport}
-    (both : BothLeft cable device after desk desk_after last report) (ended : EndedSession both.meeting both.palm.hand desk_after report) where
+module _ {cable : Cable} {device : Device} {after : Option Palm} {desk desk_after : FolderTold} {said : Answered} {report : CableReport}
+    (both : BothLeft cable device after desk desk_after said report) (ended : EndedSession both.meeting both.palm.hand desk_after report) where
   none-over : first_over both.meeting ≡ None
   none-over =
       let none = replicate (adds_of both.meeting) 0 in
@@ -81,7 +81,7 @@ pub ends-equal : (cable : Cable) (before after : SyncTold) (status : Status) (re
 ends-equal cable before after status report ran end = go before.port.palm ran.both where
   go : (told : Option Palm)
       → IfSome told (λ (palm : Palm). IsAtRest palm.hand.device
-      → BothLeft cable palm.hand.device after.port.palm before.desk after.desk ran.link.last report)
+      → BothLeft cable palm.hand.device after.port.palm before.desk after.desk (answered (link_over ran.opened) ran.link.last ran.answer) report)
       → IfSome told (λ (palm : Palm). IsAtRest palm.hand.device
       → EndsEqual cable palm.hand.device after.port.palm before.desk after.desk)
   go None both = tt

@@ -6,5 +6,6 @@ pub mod TalkedLaws
 pub mod LeftLaws
 pub mod BehindLaws
 pub mod TalkLaws
+pub mod PrintedLaws
 pub mod SyncLaws
 pub mod EqualLaws

@@ -1,7 +1,8 @@
 -- What is known of a call over a cable with a session, from before its objects were opened on.
 use Rattle.std.proofs.lemmas.Grind.{common_steps}
 use Rattle.std.proofs.Common.{◌≡◌, ◌⊎◌, ◌∙◌, ◌-◌, ◌^◌, ◌≤◌, inl, inr, List, Option, Some, None, refl, sym, subst, ap, arith}
-use Rattle.std.specs.Prelude.{IfSome}
+use Rattle.std.specs.Prelude.{IfSome, Result, Ok, Err}
+use Rattle.std.specs.Global.{Vec}
 use Rattle.std.specs.Option.{option_map}
 use Rattle.hs_folders.specs.FileMaps.{FileMap}
 use Rattle.hs_folders.specs.Moments.{EachMomentSince}
@@ -13,7 +14,6 @@ use Rattle.device_stream.specs.Hands.{Hand}
 use Rattle.dlp_commands.specs.Talks.{Talk}
 use Rattle.palm_device.specs.Devices.{Device}
 use Rattle.port_laws.specs.Palms.{Palm}
-use Rattle.port_link.specs.Calls.{LinkValue}
 use Rattle.session_parts.specs.Rests.{IsAtRest}
 use Rattle.session_plan.specs.Merges.{merged_slots}
 use Rattle.session_plan.specs.Tasks.{Meeting, meeting_of}
@@ -21,6 +21,7 @@ use Rattle.sync_session.specs.Outcomes.{StandsForSlots}
 use Rattle.run_words.specs.Cables.{Cable}
 use Rattle.trace_text.specs.declared.frame.End.{End}
 use Rattle.port_link.specs.declared.port_cause.PortCause.{PortCause}
+use Rattle.session_parts.specs.declared.report.DbReport.{DbReport}
 use Rattle.session_parts.specs.declared.stop.Stop.{Stop}
 use Rattle.cmd_status.specs.Opening.{Opens, OpensGiven, OpensGivenAtMost}
 use Rattle.cmd_status.specs.Told.{SinkTold}
@@ -36,6 +37,7 @@ use Rattle.call_parts.proofs.RetoldLaws.{by_end_both, by_end_then}
 use Rattle.call_parts.proofs.TraceLaws.{traced_from}
 use Rattle.port_run.specs.Causes.{stop_status}
 use Rattle.port_run.specs.Ends.{BothLeft, LeftFor, SessionLeft}
+use Rattle.port_run.specs.Links.{Answered, answered, link_over}
 use Rattle.port_run.specs.Reports.{IsOver}
 use Rattle.port_run.specs.Syncs.{HasSynced, SentNothing, SessionRan, TracesTalk}
 use Rattle.port_run.specs.Talks.{DesktopRan, KeptSilent, StaysUnsaid, PortSession}
@@ -80,10 +82,10 @@ traced_in_use said status end is e = grind (arith, common_steps)
 stop_not_in_use : (cause : Option PortCause) (stop : Stop) (end : End) → stop_status cause stop ≡ InUse end → ⊥
 stop_not_in_use cause stop end e = grind (arith, common_steps)
 
-over_not_in_use : (far : SessionEnd) (cause : Option PortCause) (status : Status) (end : End) → IsOver far cause status → status ≡ InUse end → ⊥
-over_not_in_use NotStarted cause status end over e = absurd over
-over_not_in_use Ended cause status end over e = absurd cc
-over_not_in_use Stopped cause status end over e = stop_not_in_use cause over.0 end (sym over.1 ∙ e)
+over_not_in_use : (answer : Result (Vec DbReport) Stop) (far : SessionEnd) (cause : Option PortCause) (status : Status) (end : End)
+    → IsOver answer far cause status → status ≡ InUse end → ⊥
+over_not_in_use (Ok databases) far cause status end over e = let done = over.1 in cc
+over_not_in_use (Err why) far cause status end over e = stop_not_in_use cause why end (sym over.1 ∙ e)
 
 -- ---- both sides
 
@@ -113,12 +115,13 @@ left_from {meeting} {talk} {hand} {first} {before} {after} {report} stood left =
   weaker told (inl stands) = inl (stands ∙ stood.stands)
   weaker told (inr stands) = inr stands
 
-both_from : {cable : Cable} {device : Device} {slots : List SlotValue} {after : Option Palm} {first before later : FolderTold} {last : LinkValue}
+both_from : {cable : Cable} {device : Device} {slots : List SlotValue} {after : Option Palm} {first before later : FolderTold} {said : Answered}
     {report : CableReport} → IsDesk (option_map finished first.contents) slots → StandsAsItDid first before
-    → LeftFor cable device slots after before later last report → BothLeft cable device after first later last report
+    → LeftFor cable device slots after before later said report → BothLeft cable device after first later said report
 both_from {device = device} {slots} desk stood left = record {
   meeting = meeting_of device slots left.wishes;
   meets = record { handheld = refl; desktop = desk; picked = refl; asked = left.asked };
+  why = left.why;
   talk = left.talk;
   told = left.told;
   palm = left.palm;
@@ -158,13 +161,13 @@ module _ {cable : Cable} {slots : List SlotValue} (before after : SyncTold) {por
         trace = talk.silent kept.silent.log ∙ opened.trace_taken;
       }
 
-  both_sync : (last : LinkValue) (told : Option Palm)
+  both_sync : (said : Answered) (told : Option Palm)
       → IfSome told (λ (palm : Palm). IsAtRest palm.hand.device
-      → LeftFor cable palm.hand.device slots after.port.palm desk after.desk last report)
+      → LeftFor cable palm.hand.device slots after.port.palm desk after.desk said report)
       → IfSome told (λ (palm : Palm). IsAtRest palm.hand.device
-      → BothLeft cable palm.hand.device after.port.palm before.desk after.desk last report)
-  both_sync last None both = tt
-  both_sync last (Some palm) both = λ rests. both_from opened.slots_are opened.stands (both rests)
+      → BothLeft cable palm.hand.device after.port.palm before.desk after.desk said report)
+  both_sync said None both = tt
+  both_sync said (Some palm) both = λ rests. both_from opened.slots_are opened.stands (both rests)
 
   session_sync : PortSession cable slots port after.port desk after.desk talk.said report → SessionRan cable before after status report
   session_sync had = record {
@@ -173,17 +176,22 @@ module _ {cable : Cable} {slots : List SlotValue} (before after : SyncTold) {por
     unsaid = opened.unsaid;
     link = had.link;
     changed = desktop_ran opened.finished_is opened.stands had.changed;
+    answer = had.answer;
     tells = record { said = talk.said; over = had.over; traced = talk.traces.stands.status_is };
+    slots = slots;
+    slots_are = opened.slots_are;
+    why = had.why;
     traced = traced_from before.trace opened.trace_taken opened.trace_later talk.traces.traced_is;
     both = subst (λ (told : Option Palm). IfSome told (λ (palm : Palm). IsAtRest palm.hand.device
-        → BothLeft cable palm.hand.device after.port.palm before.desk after.desk had.link.last report)) opened.unsaid.palm (both_sync had.link.last port.palm had.both);
+        → BothLeft cable palm.hand.device after.port.palm before.desk after.desk (answered (link_over port) had.link.last had.answer) report)) opened.unsaid.palm
+        (both_sync (answered (link_over port) had.link.last had.answer) port.palm had.both);
   }
 
   not_in_use : (end : End) → status ≡ InUse end → ⊥
   not_in_use end e =
       let same = traced_in_use talk.said status end talk.traces.stands.status_is e in
       by_end_both report.end {A = KeptSilent port after.port desk after.desk talk.said report}
-      {B = PortSession cable slots port after.port desk after.desk talk.said report} {C = ⊥} (λ kept. let memory = kept.memory in absurd cc) (λ had. over_not_in_use report.end report.cause talk.said end had.over same) talk.talked.shown
+      {B = PortSession cable slots port after.port desk after.desk talk.said report} {C = ⊥} (λ kept. let memory = kept.memory in absurd cc) (λ had. over_not_in_use had.answer report.end report.cause talk.said end had.over same) talk.talked.shown
 
   -- a call with a session
   pub by_session : HasSynced cable before after status report

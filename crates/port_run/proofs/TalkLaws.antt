@@ -1,6 +1,7 @@
 -- What is known of a session over a cable, by all that its calls answered.
 use Rattle.std.proofs.Common.{◌≡◌, ◌∙◌, ◌<◌, ◌≤◌, ◌^◌, ℕ, true, List, Option, Some, None, Vec, Global, refl, sym, subst, ap, arith}
-use Rattle.std.specs.Prelude.{IfSome, Result}
+use Rattle.std.specs.Option.{option_map}
+use Rattle.std.specs.Prelude.{IfErr, IfSome, Result, length}
 use Rattle.hs_folders.specs.Causes.{Rose}
 use Rattle.hs_folders.specs.FileMaps.{FileMap}
 use Rattle.hs_folders.specs.Moments.{Moments}
@@ -32,7 +33,9 @@ use Rattle.call_parts.proofs.SpokeLaws.{by_left, ended_ok}
 use Rattle.cmd_status.specs.declared.status.Status.{Status}
 use Rattle.cmd_status.specs.declared.status.Status.TheVariants.{NoMemory}
 use Rattle.port_run.specs.Ends.{LeftFor}
-use Rattle.port_run.specs.Links.{LinkRan, link_over, port_of}
+use Rattle.port_link.specs.Causes.{link_fault}
+use Rattle.sync_session.specs.StopCauses.{IsStopBy}
+use Rattle.port_run.specs.Links.{LinkRan, answered, fault_of_link, link_over, port_of}
 use Rattle.port_run.specs.Reports.{IsOver, IsSilent}
 use Rattle.port_run.specs.Talks.{DesktopRan, HasTalked, KeptSilent, PortSession}
 use Rattle.port_run.specs.Told.{PortTold}
@@ -80,43 +83,44 @@ desk_ran {contents = contents} {moments} {folder = folder} {outcome} is left = r
 }
 
 -- what is left of both sides, where the port told a handheld
-both_left : (fault : LinkValue → Option LinkFault) (downs : LinkValue → ℕ) {cable : Cable} {wishes : Wishes} (slots : List SlotValue) (link last : LinkValue)
+both_left : (downs : LinkValue → ℕ) {cable : Cable} {wishes : Wishes} (slots : List SlotValue) (link last : LinkValue)
     (after : PortTold) (desk desk_after : FolderTold) (report : CableReport) (answer : Result (Vec DbReport Global) Stop) → link ≡ link_over (port_of link)
     → IsFirstTold link.scene.palm → AsksFor cable wishes → AreBounded slots → wishes.date < 2 ^ 32 → report.end ≡ left_end answer
     → report.databases.items ≡ left_databases answer
     → ((told : Talk) → talk_of link ≡ Some told → IsAtRest told.device
-    → EndsOver fault downs (meeting_of told.device slots wishes) link last desk desk_after answer)
+    → EndsOver fault_of_link downs (meeting_of told.device slots wishes) link last desk desk_after answer)
     → (ran : LinkRan (port_of link) after report.cause (log_entries report.log)) → ran.last ≡ last
     → IfSome (port_of link).palm (λ (palm : Palm). IsAtRest palm.hand.device
-    → LeftFor cable palm.hand.device slots after.palm desk desk_after ran.last report)
-both_left fault downs {cable} {wishes} slots link last after desk desk_after report answer was first asked bounded date end databases ends ran same =
+    → LeftFor cable palm.hand.device slots after.palm desk desk_after (answered (link_over (port_of link)) ran.last answer) report)
+both_left downs {cable} {wishes} slots link last after desk desk_after report answer was first asked bounded date end databases ends ran same =
     go (port_of link).palm refl where
       go : (told : Option Palm) → (port_of link).palm ≡ told → IfSome told (λ (palm : Palm). IsAtRest palm.hand.device
-          → LeftFor cable palm.hand.device slots after.palm desk desk_after ran.last report)
+          → LeftFor cable palm.hand.device slots after.palm desk desk_after (answered (link_over (port_of link)) ran.last answer) report)
       go None is = tt
       go (Some palm) is = λ rests.
           let woken : is_first palm ≡ true = subst IsFirstTold is first in
           let told : talk_of link ≡ Some (fresh palm.hand.device) = ap (λ (l : LinkValue). talk_of l) was ∙ fresh-told (port_of link) palm is woken in
           let over = ends (fresh palm.hand.device) told rests in
-          left_for fault downs slots (port_of link) after palm desk desk_after report (log_entries report.log) answer is woken rests asked bounded date end databases ran
-          (subst (λ (l : LinkValue). EndsOver fault downs (meeting_of palm.hand.device slots wishes) l ran.last desk desk_after answer) was
-          (subst (λ (l : LinkValue). EndsOver fault downs (meeting_of palm.hand.device slots wishes) link l desk desk_after answer) (sym same) over))
+          left_for downs slots (port_of link) after palm desk desk_after report (log_entries report.log) answer is woken rests asked bounded date end databases ran
+          (subst (λ (l : LinkValue). EndsOver fault_of_link downs (meeting_of palm.hand.device slots wishes) l ran.last desk desk_after answer) was
+          (subst (λ (l : LinkValue). EndsOver fault_of_link downs (meeting_of palm.hand.device slots wishes) link l desk desk_after answer) (sym same) over))
 
 -- what is known of a session over a link that was fresh
 pub has_talked : {D : Type 0} {contents : D → Option FileMap} {moments : D → Moments} {paths : D → Option (List (List ℕ))} {faults : D → ℕ}
-    (fault : LinkValue → Option LinkFault) (downs : LinkValue → ℕ) {cable : Cable} {wishes : Wishes} (slots : List SlotValue) {folder : D} (link : LinkValue)
+    (downs : LinkValue → ℕ) {cable : Cable} {wishes : Wishes} (slots : List SlotValue) {folder : D} (link : LinkValue)
     {outcome : Outcome LinkValue D} {after : PortTold} {closed : Closed} {report : CableReport} → link ≡ link_over (port_of link)
     → IsFirstTold link.scene.palm → AsksFor cable wishes → AreBounded slots → wishes.date < 2 ^ 32
     → (ran : LinkRan (port_of link) after report.cause (log_entries report.log)) × (ran.last ≡ outcome.link)
     → LeavesFolder contents moments paths faults folder outcome
     → ((told : Talk) → talk_of link ≡ Some told → IsAtRest told.device
-    → EndsOver fault downs (meeting_of told.device slots wishes) link outcome.link (folder_told contents moments paths faults folder)
+    → EndsOver fault_of_link downs (meeting_of told.device slots wishes) link outcome.link (folder_told contents moments paths faults folder)
     (folder_told contents moments paths faults outcome.folder) outcome.end)
+    → IfErr outcome.end (IsStopBy (option_map link_fault report.cause) (length slots))
     → Closing report.cause outcome.end closed → report.end ≡ closed.end → report.databases.items ≡ closed.databases.items
     → HasTalked cable slots (port_of link) after (folder_told contents moments paths faults folder)
     (folder_told contents moments paths faults outcome.folder) closed.status report
-has_talked {contents = contents} {moments} {paths} {faults} fault downs {cable} {wishes} slots {folder} link {outcome} {after} {closed} {report}
-    was first asked bounded date went left ends closing is databases =
+has_talked {contents = contents} {moments} {paths} {faults} downs {cable} {wishes} slots {folder} link {outcome} {after} {closed} {report}
+    was first asked bounded date went left ends why closing is databases =
     let ran = went.0 in
     let before = folder_told contents moments paths faults folder in
     let later = folder_told contents moments paths faults outcome.folder in
@@ -124,8 +128,10 @@ has_talked {contents = contents} {moments} {paths} {faults} fault downs {cable} 
       shown = by_left outcome.end (KeptSilent (port_of link) after before later closed.status report) (is ∙ closing.end) (record {
         link = ran;
         changed = desk_ran (is ∙ closing.end) left;
-        over = subst (λ end. IsOver end report.cause closed.status) (sym is) closing.over;
-        both = both_left fault downs slots link outcome.link after before later report outcome.end was first asked bounded date (is ∙ closing.end)
+        answer = outcome.end;
+        over = subst (λ end. IsOver outcome.end end report.cause closed.status) (sym is) closing.over;
+        why = why;
+        both = both_left downs slots link outcome.link after before later report outcome.end was first asked bounded date (is ∙ closing.end)
             (databases ∙ closing.databases) ends ran went.1;
       });
       port = λ e. ran.failed (closing.port e);

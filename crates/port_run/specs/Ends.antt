@@ -1,5 +1,5 @@
 -- What a session over a port left of both sides, where the port tells its handheld.
-use Rattle.std.specs.Prelude.{◌≡◌, ◌⊎◌, ◌≤◌, ℕ, List, [], ◌∷◌, map, Option, Some, IsErr, IsSome}
+use Rattle.std.specs.Prelude.{◌≡◌, ◌⊎◌, ◌≤◌, ℕ, List, [], ◌∷◌, map, Option, Some, IfErr, IsErr, IsSome}
 use Rattle.std.specs.List.{flat_map}
 use Rattle.std.specs.Option.{option_map}
 use Rattle.hs_folders.specs.FileMaps.{FileMap}
@@ -22,11 +22,11 @@ use Rattle.session_plan.specs.Reports.{reports}
 use Rattle.session_plan.specs.Tasks.{Meeting, meeting_of, place_for}
 use Rattle.session_plan.specs.declared.wishes.Wishes.{Wishes}
 use Rattle.sync_session.specs.Fronts.{MeetingFront}
-use Rattle.sync_session.specs.Outcomes.{StandsForSlots, seat_of}
+use Rattle.sync_session.specs.Outcomes.{IsStopOf, StandsForSlots, seat_of}
 use Rattle.sync_session.specs.Sessions.{before_writes, requests, writes_before_commit}
 use Rattle.front_laws.specs.Sound.{IsSoundMeeting}
 use Rattle.port_laws.specs.Palms.{Palm}
-use Rattle.port_link.specs.Calls.{LinkValue}
+use Rattle.port_run.specs.Links.{Answered, fault_of_link}
 use Rattle.port_link.specs.Hands.{HandRan}
 use Rattle.port_link.specs.Standing.{exchanges_of, talk_of}
 use Rattle.run_words.specs.Cables.{Cable}
@@ -98,14 +98,16 @@ pub record SessionLeft (meeting : Meeting) (talk : Talk) (hand : Hand)
 -- ---- how a call has it
 
 -- a session between this handheld and these slots, for which the words ask; what the link told of
--- its talk, and the handheld that the port tells then
+-- its talk, and the handheld that the port tells then; where it stopped, why
 pub record LeftFor (cable : Cable) (device : Device) (slots : List SlotValue)
-    (after : Option Palm) (desk desk_after : FolderTold) (last : LinkValue)
+    (after : Option Palm) (desk desk_after : FolderTold) (said : Answered)
     (report : CableReport) : Type 0 where
   pub wishes : Wishes
   pub asked : AsksFor cable wishes
+  pub why : IfErr said.answer
+      (IsStopOf talk_of fault_of_link (meeting_of device slots wishes) said.first said.last)
   pub talk : Talk
-  pub told : talk_of last ≡ Some talk
+  pub told : talk_of said.last ≡ Some talk
   pub palm : Palm
   pub palm_is : after ≡ Some palm
   pub left : SessionLeft (meeting_of device slots wishes) talk palm.hand desk desk_after report
@@ -120,15 +122,17 @@ pub record Meets (cable : Cable) (device : Device) (kept : Option FileMap) (meet
   pub picked : meeting.picked ≡ place_for meeting.device meeting.slots meeting.wishes.add_user
   pub asked : AsksFor cable meeting.wishes
 
--- The session of this handheld, which the opened port told, with the desktop; what the link told of
--- its talk; and the handheld that the port tells then, which is left by it as the desktop's folder
--- is.
+-- The session of this handheld, which the opened port told, with the desktop; why it stopped, where
+-- it did; what the link told of its talk; and the handheld that the port tells then, which is left
+-- by it as the desktop's folder is.
 pub record BothLeft (cable : Cable) (device : Device) (after : Option Palm)
-    (desk desk_after : FolderTold) (last : LinkValue) (report : CableReport) : Type 0 where
+    (desk desk_after : FolderTold) (said : Answered) (report : CableReport) : Type 0 where
   pub meeting : Meeting
   pub meets : Meets cable device desk.contents meeting
+  pub why : IfErr said.answer
+      (IsStopOf talk_of fault_of_link meeting said.first said.last)
   pub talk : Talk
-  pub told : talk_of last ≡ Some talk
+  pub told : talk_of said.last ≡ Some talk
   pub palm : Palm
   pub palm_is : after ≡ Some palm
   pub left : SessionLeft meeting talk palm.hand desk desk_after report

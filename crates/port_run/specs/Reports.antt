@@ -27,8 +27,8 @@ IsClosed cause (Err stop) closed =
     (closed.status ≡ stop_status cause stop) × (closed.end ≡ Stopped)
     × (closed.databases.items ≡ [])
 
--- how far a session came, by its status
-abbrev pub IsOver : SessionEnd → Option PortCause → Status → Type 0
-IsOver NotStarted cause status = ⊥
-IsOver Ended cause status = status ≡ Done
-IsOver Stopped cause status = (stop : Stop) × (status ≡ stop_status cause stop)
+-- how far a session came by what it answered, and its status: one that stopped has that of its own
+-- stop
+abbrev pub IsOver : Result (Vec DbReport) Stop → SessionEnd → Option PortCause → Status → Type 0
+IsOver (Ok databases) end cause status = (end ≡ Ended) × (status ≡ Done)
+IsOver (Err stop) end cause status = (end ≡ Stopped) × (status ≡ stop_status cause stop)

@@ -1,15 +1,22 @@
 -- What holds of every call over a cable, whatever stands behind the port.
-use Rattle.std.specs.Prelude.{◌≡◌, ◌⊎◌, List, Option, None, Some, [], IfSome}
+use Rattle.std.specs.Prelude.{◌≡◌, ◌⊎◌, ℕ, List, length, Option, None, Some, [], IfErr, IfSome, Result, is_some, if◌then◌else◌}
+use Rattle.std.specs.Global.{Vec}
 use Rattle.std.specs.Option.{option_map}
 use Rattle.hs_folders.specs.Causes.{Rose}
 use Rattle.desk_journal.specs.Overlays.{finished}
+use Rattle.desk_store.specs.Desks.{IsDesk}
 use Rattle.desk_store.specs.Shelves.{SlotValue}
 use Rattle.port_laws.specs.Palms.{Palm}
 use Rattle.session_parts.specs.Rests.{IsAtRest}
-use Rattle.run_words.specs.Cables.{Cable}
+use Rattle.run_words.specs.Cables.{Cable, only_of}
 use Rattle.trace_text.specs.declared.frame.End.TheVariants as end
+use Rattle.port_link.specs.Causes.{link_fault}
 use Rattle.port_link.specs.Logs.{log_entries}
+use Rattle.session_parts.specs.declared.report.DbReport.{DbReport}
+use Rattle.session_parts.specs.declared.stop.Stop.{Stop}
+use Rattle.sync_session.specs.StopCauses.{IsStopBy}
 use Rattle.call_parts.specs.DoneLines.{done_lines}
+use Rattle.call_parts.specs.TouchedLines.{touched_lines}
 use Rattle.hotsync_looks.specs.Misuses.{IsMisuse}
 use Rattle.cmd_status.specs.Opening.{Opens, OpensAtMost, OpensGiven, OpensGivenAtMost}
 use Rattle.cmd_status.specs.Printed.{IsPrinted, IsPrintedStatus}
@@ -23,7 +30,7 @@ use Rattle.call_parts.specs.Stays.{StaysAsItWas}
 use Rattle.call_parts.specs.Traces.{TakesTrace, TracesFrames}
 use Rattle.call_parts.specs.declared.report.SessionEnd.{SessionEnd}
 use Rattle.port_run.specs.Ends.{BothLeft}
-use Rattle.port_run.specs.Links.{LinkRan}
+use Rattle.port_run.specs.Links.{LinkRan, answered, link_over}
 use Rattle.port_run.specs.LogTexts.{cable_text}
 use Rattle.port_run.specs.Refusals.{IsRefused}
 use Rattle.port_run.specs.Reports.{IsOver, IsSilent}
@@ -46,14 +53,16 @@ pub record SentNothing (cable : Cable) (before after : SyncTold) (status : Statu
 
 -- ---- a session
 
--- the status of a session over a cable, once its trace was to be written
-pub record TellsSession (report : CableReport) (status : Status) : Type 0 where
+-- the status of a session over a cable that answered this, once its trace was to be written
+pub record TellsSession (answer : Result (Vec DbReport) Stop) (report : CableReport)
+    (status : Status) : Type 0 where
   pub said : Status
-  pub over : IsOver report.end report.cause said
+  pub over : IsOver answer report.end report.cause said
   pub traced : IsTracedStatus said status
 
 -- What was said over the port once it was opened, what became of the desktop's folder, what the
--- status says of both, and what the trace took; and where the port tells a handheld on which nothing
+-- session answered, whose status is told, why it stopped, where it did, and what the trace took; and
+-- where the port tells a handheld on which nothing
 -- is open, what is left of both sides.
 pub record SessionRan (cable : Cable) (before after : SyncTold) (status : Status)
     (report : CableReport) : Type 0 where
@@ -63,11 +72,16 @@ pub record SessionRan (cable : Cable) (before after : SyncTold) (status : Status
   pub link : LinkRan opened after.port report.cause (log_entries report.log)
   pub changed : DesktopRan (option_map finished before.desk.contents) before.desk after.desk
       report.end
-  pub tells : TellsSession report status
+  pub answer : Result (Vec DbReport) Stop
+  pub tells : TellsSession answer report status
+  pub slots : List SlotValue
+  pub slots_are : IsDesk (option_map finished before.desk.contents) slots
+  pub why : IfErr answer (IsStopBy (option_map link_fault report.cause) (length slots))
   pub traced : TakesTrace cable.trace (cable_text (log_entries report.log)) before.trace after.trace
       status
   pub both : IfSome before.port.palm (λ (palm : Palm). IsAtRest palm.hand.device
-      → BothLeft cable palm.hand.device after.port.palm before.desk after.desk link.last report)
+      → BothLeft cable palm.hand.device after.port.palm before.desk after.desk
+      (answered (link_over opened) link.last answer) report)
 
 -- a session over opened objects, with a desktop of these slots, whose trace was to be written then
 pub record TracesTalk (cable : Cable) (slots : List SlotValue) (opened after : SyncTold)
@@ -105,6 +119,12 @@ pub record HasSynced (cable : Cable) (before after : SyncTold) (status : Status)
   pub blames : BlamesByCount before after status
   pub opened : OpensNamed cable before after report.end
 
+-- the lines of a session that was done: where the words leave all databases alone but some, those of
+-- these and how many others there are
+abbrev pub synced_lines : Cable → List DbReport → List ℕ
+synced_lines cable databases =
+    if is_some (only_of cable) then touched_lines databases else done_lines databases
+
 -- What is known of a call: this of a status, and that standard output took exactly the lines of the
 -- one that stands once they were to be printed.
 pub record IsSync (cable : Cable) (before after : SyncTold) (out out_after : SinkTold)
@@ -112,7 +132,8 @@ pub record IsSync (cable : Cable) (before after : SyncTold) (out out_after : Sin
   pub found : Status
   pub ran : HasSynced cable before after found report
   pub status_is : IsPrintedStatus found status
-  pub printed : IsPrinted (λ text. text ≡ done_lines report.databases.items) out out_after status
+  pub printed : IsPrinted (λ text. text ≡ synced_lines cable report.databases.items) out out_after
+      status
 
 -- words out of the form give the usage line, with the word at fault behind it where it is named,
 -- and nothing is done

@@ -1,5 +1,6 @@
 -- A session over a cable, whatever is written of it.
-use Rattle.std.specs.Prelude.{◌≡◌, ◌⊎◌, ℕ, List, Option, IfSome}
+use Rattle.std.specs.Prelude.{◌≡◌, ◌⊎◌, ℕ, List, length, Option, IfErr, IfSome, Result}
+use Rattle.std.specs.Global.{Vec}
 use Rattle.std.specs.List.{AllByRecursion}
 use Rattle.std.specs.Option.{option_map}
 use Rattle.hs_folders.specs.Causes.{Rose}
@@ -20,7 +21,11 @@ use Rattle.call_parts.specs.Told.{FolderTold}
 use Rattle.call_parts.specs.declared.report.SessionEnd.{SessionEnd}
 use Rattle.call_parts.specs.declared.report.SessionEnd.TheVariants.{Ended}
 use Rattle.port_run.specs.Ends.{LeftFor}
-use Rattle.port_run.specs.Links.{LinkRan}
+use Rattle.port_run.specs.Links.{LinkRan, answered, link_over}
+use Rattle.port_link.specs.Causes.{link_fault}
+use Rattle.session_parts.specs.declared.report.DbReport.{DbReport}
+use Rattle.session_parts.specs.declared.stop.Stop.{Stop}
+use Rattle.sync_session.specs.StopCauses.{IsStopBy}
 use Rattle.port_run.specs.Reports.{IsOver, IsSilent}
 use Rattle.port_run.specs.Told.{PortTold}
 use Rattle.port_run.specs.declared.synced.CableReport.{CableReport}
@@ -57,15 +62,18 @@ pub record KeptSilent (before after : PortTold) (desk desk_after : FolderTold) (
   pub port : after ≡ before
   pub desktop : desk_after ≡ desk
 
--- What was said and heard, what became of the desktop's folder, and what the status says of both;
--- and where the port tells a handheld on which nothing is open, what is left of both sides.
+-- What was said and heard, what became of the desktop's folder, what the session answered, and the
+-- status, which is that of this answer; why it stopped, where it did; and where the port tells a handheld on which nothing is open, what is left of both sides.
 pub record PortSession (cable : Cable) (slots : List SlotValue) (before after : PortTold)
     (desk desk_after : FolderTold) (status : Status) (report : CableReport) : Type 0 where
   pub link : LinkRan before after report.cause (log_entries report.log)
   pub changed : DesktopRan desk.contents desk desk_after report.end
-  pub over : IsOver report.end report.cause status
+  pub answer : Result (Vec DbReport) Stop
+  pub over : IsOver answer report.end report.cause status
+  pub why : IfErr answer (IsStopBy (option_map link_fault report.cause) (length slots))
   pub both : IfSome before.palm (λ (palm : Palm). IsAtRest palm.hand.device
-      → LeftFor cable palm.hand.device slots after.palm desk desk_after link.last report)
+      → LeftFor cable palm.hand.device slots after.palm desk desk_after
+      (answered (link_over before) link.last answer) report)
 
 -- what is known of a session over an opened port, with a desktop of these slots: it kept silent, or
 -- it had the session

@@ -13,6 +13,7 @@ mod closing;
 mod dock_program;
 mod dock_report;
 mod docking;
+mod hints;
 mod laws;
 mod log_text;
 mod opening;

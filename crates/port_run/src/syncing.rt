@@ -1,12 +1,14 @@
 // A session over a cable: what comes before it, and what it prints.
-ghost use Rattle.std.specs.Prelude.{◌≡◌, ◌≢◌, IfSome, None, map, string_bytes};
+ghost use Rattle.std.specs.Prelude.{◌≡◌, ◌≢◌, ◌≤◌, IfSome, None, is_some, map, string_bytes};
 ghost use Rattle.desk_store.specs.Bounds.{AreBounded};
 ghost use Rattle.desk_store.specs.Shelves.{AreInOrder};
+ghost use Rattle.cmd_status.specs.Printed.{IsPrinted, IsPrintedStatus};
+ghost use Rattle.cmd_status.specs.Told.{sink_told};
 ghost use Rattle.hotsync_looks.specs.Misuses.{TellsFault};
 ghost use Rattle.port_laws.specs.Palms.{IsFirstTold};
-ghost use Rattle.port_run.specs.Syncs.{HasSynced, IsSyncCall, TracesTalk};
+ghost use Rattle.port_run.specs.Syncs.{HasSynced, IsSyncCall, TracesTalk, synced_lines};
 ghost use Rattle.port_run.specs.Told.{OfSync, OfSyncCall};
-ghost use Rattle.run_words.specs.Cables.{sync_of};
+ghost use Rattle.run_words.specs.Cables.{only_of, sync_of};
 ghost use Rattle.run_words.specs.Faults.{fault_of as fault_in_words};
 ghost use Rattle.run_words.specs.Views.{cable_view};
 
@@ -14,16 +16,18 @@ use crate::opening::open_port;
 use crate::synced::Synced;
 use crate::talk::talk;
 use crate::tracing::trace_log;
-use call_parts::{open_desktop, open_trace, print_status};
+use call_parts::{open_desktop, open_trace, print_status, print_touched};
 use cmd_status::Status;
 use desk_store::Desk;
 use hotsync_looks::print_misuse;
 use hs_folders::{Folder, Sink};
 use port_line::Port;
 use run_words::{CableWords, fault_of, sync_words};
+use session_parts::DbReport;
 use std::alloc::Global;
 
-/// Has the session over a cable that the words ask for, and prints the lines of its status on `out`.
+/// Has the session over a cable that the words ask for, and prints the lines of its status on `out`. Where the words leave all
+/// databases alone but some, one line tells how many others there are.
 ///
 /// `now` are the seconds of the date now, if it can be told, and `words` those after the program's name, `sync` first. The
 /// port and the desktop's folder are handed back with every status.
@@ -61,13 +65,41 @@ pub fn sync<P: Port, D: Folder, T: Sink, O: Sink>(
         port,
         desk,
     } = synced;
-    let status = print_status(alloc, status, &report.databases, out);
+    let status = print_synced(alloc, &cable, status, &report.databases, out);
     Synced {
         status,
         report,
         port,
         desk,
     }
+}
+
+// Prints the lines of a status.
+#[tactic(auto, using(crate::proofs::PrintedLaws::printed_some, crate::proofs::PrintedLaws::printed_all))]
+fn print_synced<O: Sink>(
+    alloc: Global,
+    words: &CableWords<'_>,
+    status: Status,
+    databases: &[DbReport],
+    out: &mut O,
+) -> Status
+    requires { status ≢ Status.OutWrite }
+    ensures status { IsPrintedStatus status result }
+    ensures printed { IsPrinted (λ text. text ≡ synced_lines (cable_view words.now) databases.now)
+        (sink_told O.Sink out.old) (sink_told O.Sink out.new) result }
+    ensures count { O.faults out.old ≤ O.faults out.new }
+{
+    if names_some(words) {
+        return print_touched(alloc, status, databases, out);
+    }
+    print_status(alloc, status, databases, out)
+}
+
+// Whether the words leave all databases alone but some.
+fn names_some(words: &CableWords<'_>) -> bool
+    ensures { result ≡ is_some (only_of (cable_view words.now)) }
+{
+    words.only.is_some() || words.actions.is_none()
 }
 
 // Opens the port, judges the desktop's folder, opens the trace, in this order, and has the session.

@@ -74,12 +74,14 @@ sync_of now (command ∷ words) =
 
 -- ---- which databases it touches
 
--- the four databases of a handheld's own applications, where the words name none
+-- the databases of a handheld's own applications, where the words name none: those of the first
+-- four, and those of the four that followed them
 abbrev pub own_stems : List ℕ
-own_stems = codes "MemoDB,AddressDB,DatebookDB,ToDoDB"
+own_stems =
+    codes "MemoDB,AddressDB,DatebookDB,ToDoDB,ContactsDB-PAdd,CalendarDB-PDat,TasksDB-PTod,MemosDB-PMem"
 
 -- the stems of those that are touched: those of `--only`; without it all, where there are actions,
--- and else those four
+-- and else these
 abbrev pub only_of : Cable → Option (List ℕ)
 only_of cable =
     option_or cable.only (if is_none cable.actions then Some own_stems else None)

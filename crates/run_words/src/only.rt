@@ -15,8 +15,9 @@ use crate::stem::name_of;
 use pdb_values::DbName;
 use std::alloc::{AllocError, Global};
 
-/// The stems of the databases of a handheld's own applications.
-const OWN_STEMS: &str = "MemoDB,AddressDB,DatebookDB,ToDoDB";
+/// The stems of the databases of a handheld's own applications: those of the first four, and those of their successors.
+const OWN_STEMS: &str =
+    "MemoDB,AddressDB,DatebookDB,ToDoDB,ContactsDB-PAdd,CalendarDB-PDat,TasksDB-PTod,MemosDB-PMem";
 
 /// Whether a text is that of stems, with one comma between them.
 pub(crate) fn are_stems(text: &str) -> bool

@@ -19,6 +19,7 @@ pub mod RunLaws
 pub mod SaidLaws
 pub mod SeatLaws
 pub mod SessionJoins
+pub mod StopLaws
 pub mod SwapLaws
 pub mod TakenLaws
 pub mod ViewLaws

@@ -11,5 +11,6 @@ pub mod PlannedTasks
 pub mod Readings
 pub mod Reads
 pub mod Sessions
+pub mod StopCauses
 pub mod Stopping
 pub mod Unseen

@@ -1,5 +1,5 @@
 // A session of both sides, from the greeting to the end.
-ghost use Rattle.std.specs.Prelude.{◌≡◌, ◌≤◌, false, length};
+ghost use Rattle.std.specs.Prelude.{◌≡◌, ◌≤◌, IfErr, false, length};
 ghost use Rattle.folder_files.specs.Slots.{AreSlots, users_of};
 ghost use Rattle.desk_store.specs.Shelves.{AreInOrder, marks_of};
 ghost use Rattle.desk_store.specs.Views.{marks_in, shelves_in};
@@ -12,6 +12,7 @@ ghost use Rattle.session_parts.specs.Leaving.{Leaves};
 ghost use Rattle.session_parts.specs.Rests.{WhereAtRest};
 ghost use Rattle.sync_session.specs.Leaving.{LeavesFolder};
 ghost use Rattle.sync_session.specs.Outcomes.{EndsSo};
+ghost use Rattle.sync_session.specs.StopCauses.{IsStopBy};
 ghost use Rattle.session_plan.specs.PlannedLimits.{unskipped};
 ghost use Rattle.session_plan.specs.Takes.{each_of};
 ghost use Rattle.session_plan.specs.Tasks.{meeting_of};
@@ -191,6 +192,8 @@ pub fn run_session<L: Link, D: Folder>(
     requires { L.begun link ≡ false }
     ensures link { Leaves L.since L.fault L.downs link result.link }
     ensures folder { LeavesFolder D.contents D.moments D.paths D.faults desk.folder result }
+    // Over any link it stops by the link's fault, or where there is none.
+    ensures cause { IfErr result.end (IsStopBy (L.fault result.link) (length desk.slots)) }
     // Over a link that tells a handheld on which nothing is open it is the session of both sides.
     ensures ends { WhereAtRest L.talk link (AreInOrder desk.slots) (λ device. EndsSo L.talk L.since L.fault
         L.downs D.contents D.moments (meeting_of device desk.slots wishes.now) link desk.folder

@@ -12,4 +12,4 @@ finish-requires-in-Some-None-clause-rows c =
 pub finish-requires-in-None-Some-clause-handheld : goal.finish-requires-in-None-Some-clause-handheld
 finish-requires-in-None-Some-clause-handheld c =
     let old = subst (λ h. passes holds_resources (head_of h) ≡ false) c.in-None-Some.is-1 c.requires.rows in
-    rw c.in_ok-handheld.ensures (new_records c.in-None-Some.rows.head old)
+    rw c.in_ok-handheld-in-None-Some.ensures (new_records c.in-None-Some.rows.head old)

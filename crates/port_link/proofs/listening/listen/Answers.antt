@@ -1,12 +1,15 @@
-use Rattle.std.proofs.Common.{ℕ, ◌+◌, [], ◌∷◌, ◌++◌, sym, ap, ◌∙◌}
+use Rattle.std.proofs.Common.{ℕ, ◌+◌, [], ◌∷◌, ◌++◌, refl, sym, ap, ◌∙◌}
 use Rattle.std.proofs.lemmas.List.{length-append}
 use Rattle.hs_folders.proofs.CauseLaws.{ok_is_no_fault}
 use Rattle.port_link.specs.declared.desk.Desk.{Desk}
 use Rattle.port_link.specs.declared.turn.Turn.{Turn}
 use Rattle.port_link.specs.Desks.{reacts}
 use Rattle.port_link.specs.Listening.{is_over}
-use Rattle.port_link.proofs.CourseLaws.{course-then, through-then}
+use Rattle.port_link.proofs.CourseLaws.{course-none, course-then, through-then}
 use Rattle.port_link.proofs.listening.listen.Goals as goal
+
+pub loop-count-init : goal.loop-count-init
+loop-count-init g c = record { course = ([], course-none _, tt, refl); paths = refl; faults = refl }
 
 pub loop-count-preserved : goal.loop-count-preserved
 loop-count-preserved g c =

@@ -85,6 +85,7 @@ returns-clause-goes g c =
           (record {
             said = [];
             step = (refl, refl);
+            on = tt;
             tells = subst (λ (t : Option (List ℕ)). Tells None taken t log log []) (sym c.read.ensures.taken) (tells-nothing taken log);
           }),
     )

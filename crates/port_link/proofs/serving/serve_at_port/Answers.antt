@@ -1,4 +1,4 @@
-use Rattle.std.proofs.Common.{◌≡◌, [], map, sym, ap, subst, ◌∙◌}
+use Rattle.std.proofs.Common.{[], map, sym, ap, subst, ◌∙◌}
 use Rattle.device_stream.proofs.CourseLaws.{any-itself, same-hand}
 use Rattle.device_stream.proofs.ListenLaws.{kept-for}
 use Rattle.device_stream.specs.Courses.{PerformsAny}

@@ -1,4 +1,4 @@
-use Rattle.std.proofs.Common.{◌≡◌, refl, ap, subst, sym, ◌∙◌}
+use Rattle.std.proofs.Common.{refl, ap, subst, sym, ◌∙◌}
 use Rattle.device_stream.proofs.CourseLaws.{any-itself}
 use Rattle.device_stream.specs.Courses.{PerformsAny}
 use Rattle.port_link.specs.Vigils.{vigil}

@@ -1,4 +1,4 @@
-use Rattle.std.proofs.Common.{◌≡◌, ◌-◌, List, ℕ, [], ◌∷◌, rules, true, refl, sym, subst, ◌∙◌}
+use Rattle.std.proofs.Common.{◌≡◌, ◌-◌, List, ℕ, [], ◌∷◌, rules, true, refl, subst, ◌∙◌}
 use Rattle.std.specs.Prelude.{None, Some}
 use Rattle.padp_end.specs.Ends.{is_spent}
 use Rattle.device_stream.specs.Hands.{waited_by}
