@@ -7,8 +7,7 @@ use Rattle.std.specs.Option.{option_map}
 use Rattle.hs_folders.specs.FileMaps.{FileMap}
 use Rattle.hs_folders.specs.Moments.{EachMomentSince, Moments}
 use Rattle.hs_folders.proofs.MomentLaws.{moments_weaken, no_moment}
-use Rattle.folder_files.specs.Slots.{users_of}
-use Rattle.pdb_values.specs.Slots.{slot_for}
+use Rattle.desktop_session.specs.Seats.{no_wish, seat_for}
 use Rattle.pdb_values.specs.declared.head.DbHead.{DbHead}
 use Rattle.desk_journal.specs.Entries.{EntryValue}
 use Rattle.desk_journal.specs.Overlays.{FinishesAs, finished, put_all}
@@ -43,7 +42,7 @@ use Rattle.category_mirror.specs.Blocks.{MergeValue}
 use Rattle.category_mirror.specs.Changes.{CommitsFiled, changes_filed, entries_filed, slots_filed}
 use Rattle.category_mirror.specs.Courses.{AfterCommit, AfterFiling, AfterMark, AfterMeeting, Files, FilingRan, Marks, closed, picked_for, reports_filed, report_filed, stopped}
 use Rattle.category_mirror.specs.FilingActs.{SaysFiled, files_under, marks_for}
-use Rattle.category_mirror.specs.FilingEnds.{FilingEnds, IsCommitted, IsFilingStop, IsUncommitted, StandsFiled, StopsFor, seat_of, users_in}
+use Rattle.category_mirror.specs.FilingEnds.{FilingEnds, IsCommitted, IsFilingStop, IsUncommitted, StandsFiled, StopsFor, marks_in, seat_of}
 use Rattle.session_plan.specs.Jobs.{names_with}
 use Rattle.pdb_values.specs.declared.user.UserInfo.{UserInfo}
 use Rattle.category_mirror.specs.Jobs.{filing_job, filing_jobs}
@@ -222,7 +221,7 @@ module _ {L F : Type 0} (talk : L → Option Talk) (since : L → L → Type 0) 
             (stops_more talk since fault downs (map text (before_mark filing)) (map text (mark_acts filing)) old new stops)
 
         -- what begins the meeting begins it all
-        meets_stop : {answer : Result (Met L) (Halted L)} {new : L} (meets : Meets talk since fault downs (users_in filing) false old answer)
+        meets_stop : {answer : Result (Met L) (Halted L)} {new : L} (meets : Meets talk since fault downs (marks_in filing) no_wish old answer)
             → Stops talk since fault downs (map text (meeting_acts meets.count)) old new → Stops talk since fault downs (map text (before_end filing)) old new
         meets_stop {new = new} meets stops =
             let lead = meets_lead filing rests tells meets in
@@ -233,7 +232,7 @@ module _ {L F : Type 0} (talk : L → Option Talk) (since : L → L → Type 0) 
             (stops_more talk since fault downs (map text first) (map text (lead.rest ++ all_files)) old new stops)))
 
         -- both sides did not meet
-        unmet_ends : (folder : F) (halted : Halted L) {left : Outcome L F} → MeetsOrNot talk since fault downs (users_in filing) false old (Err halted)
+        unmet_ends : (folder : F) (halted : Halted L) {left : Outcome L F} → MeetsOrNot talk since fault downs (marks_in filing) no_wish old (Err halted)
             → IsByLastReply (talk halted.link) halted.cause → left ≡ stopped halted.link folder (stop.Session halted.cause) → Ends folder left
         unmet_ends folder halted (inl meets) last is =
             ends_before folder is (meets_stop meets meets.stops) (met_stop filing rests tells halted.cause meets.unseated meets.cause last)
@@ -247,8 +246,8 @@ module _ {L F : Type 0} (talk : L → Option Talk) (since : L → L → Type 0) 
 
         -- they met
         module _ (folder : F) (desk_is : IsDesk (contents folder) filing.slots) (ordered : AreInOrder filing.slots) {met : Met L}
-            (meets : Meets talk since fault downs (users_in filing) false old (Ok met))
-            (picked_is : filing.picked ≡ place_of (length filing.slots) (slot_for (users_in filing) filing.device.user.user false)) where
+            (meets : Meets talk since fault downs (marks_in filing) no_wish old (Ok met))
+            (picked_is : filing.picked ≡ place_of (length filing.slots) (seat_for (marks_in filing) no_wish filing.device.user)) where
           abbrev here : DeskValue F
           here = record { folder = folder; slots = filing.slots; picked = filing.picked }
 
@@ -270,12 +269,12 @@ module _ {L F : Type 0} (talk : L → Option Talk) (since : L → L → Type 0) 
 
           picked_within : filing.picked < length filing.slots
           picked_within =
-              let count : length (users_in filing) ≡ length filing.slots = length-map (marks_of filing.slots) (λ marks. marks.user) ∙ marks-length filing.slots in
+              let count : length (marks_in filing) ≡ length filing.slots = marks-length filing.slots in
               let more = desk_is.formed.some in
               let marks = marks-length filing.slots in
-              let sat : IsSeated (slot_for (users_in filing) filing.device.user.user false) =
-              rw joined.user at (greeted_seated (users_in filing) false (talk old) met.linked.user meets.user) in
-              let below = seat_within (users_in filing) filing.device.user.user (length filing.slots) (omega (arith, count, more, marks)) sat in
+              let sat : IsSeated (seat_for (marks_in filing) no_wish filing.device.user) =
+              rw joined.user at (greeted_seated (marks_in filing) no_wish (talk old) met.linked.user meets.user) in
+              let below = seat_within (marks_in filing) filing.device.user (length filing.slots) (omega (arith, count, more, marks)) sat in
               rw picked_is (omega (arith, count, below))
 
           own_ordered : AreOrdered (shelves_of filing)
@@ -377,16 +376,15 @@ module _ {L F : Type 0} {talk : L → Option Talk} {since : L → L → Type 0} 
     {contents : F → Option FileMap} {moments : F → Moments} {paths : F → Option (List (List ℕ))} {faults : F → ℕ} (itself : (a : L) → since a a)
     (since_more : (a b c : L) → since a b → since b c → since a c) {old : L} (desk : DeskValue F) {left : Outcome L F} (told : Talk)
     (desk_is : IsDesk (contents desk.folder) desk.slots) (is : talk old ≡ Some told) (rests : IsAtRest told.device) where
-  met_ends : {met : Met L} → MeetsOrNot talk since fault downs (users_of (marks_of desk.slots)) false old (Ok met)
-      → AfterMeeting talk since fault downs contents moments paths faults (users_of (marks_of desk.slots)) desk (Ok met) left
+  met_ends : {met : Met L} → MeetsOrNot talk since fault downs (marks_of desk.slots) no_wish old (Ok met)
+      → AfterMeeting talk since fault downs contents moments paths faults (marks_of desk.slots) desk (Ok met) left
       → FilingEnds talk since fault downs contents moments (filing_of told.device desk.slots) old desk.folder left
   met_ends {met} (inr none) goes = absurd none
   met_ends {met} (inl meets) goes =
       let filing = filing_of told.device desk.slots in
       let tells : Tells told.device (talk old) = record { talk = told; is = is; same = refl } in
       let joined = meets_join filing rests tells meets in
-      let user : met.linked.user.user ≡ told.device.user.user = ap (λ (u : UserInfo). u.user) joined.user in
-      let own = subst (λ (n : ℕ). Files talk since fault downs contents moments paths faults met (picked_for (users_in filing) n desk) left) user goes in
+      let own = subst (λ (n : UserInfo). Files talk since fault downs contents moments paths faults met (picked_for (marks_in filing) n desk) left) joined.user goes in
       let same = jobs_are filing met.heads.items joined.heads in
       files_ends talk since fault downs contents moments filing old since_more paths faults itself rests tells desk.folder desk_is desk_is.ordered meets refl
       own.now own.answer (rw same at own.files) (rw same at own.goes)
@@ -395,9 +393,9 @@ module _ {L F : Type 0} {talk : L → Option Talk} {since : L → L → Type 0} 
       → FilingEnds talk since fault downs contents moments (filing_of told.device desk.slots) old desk.folder left
   ran_ends ran = by ran.answer ran.meets ran.last ran.goes
     where
-      by : (answer : Result (Met L) (Halted L)) → MeetsOrNot talk since fault downs (users_of (marks_of desk.slots)) false old answer
+      by : (answer : Result (Met L) (Halted L)) → MeetsOrNot talk since fault downs (marks_of desk.slots) no_wish old answer
           → IfErr answer (λ halted. IsByLastReply (talk halted.link) halted.cause)
-          → AfterMeeting talk since fault downs contents moments paths faults (users_of (marks_of desk.slots)) desk answer left
+          → AfterMeeting talk since fault downs contents moments paths faults (marks_of desk.slots) desk answer left
           → FilingEnds talk since fault downs contents moments (filing_of told.device desk.slots) old desk.folder left
       by (Ok met) meets last goes = met_ends meets goes
       by (Err halted) meets last goes =

@@ -8,7 +8,8 @@ use Rattle.hs_folders.proofs.MomentLaws.{no_moment}
 use Rattle.session_parts.proofs.LinkWords.{LinkFault, Talk, SessionValue, Act, text, link_ended, Does, Stops, Ended, Halted, SessionFault}
 use Rattle.desk_journal.specs.Entries.{EntryValue}
 use Rattle.desk_journal.specs.Overlays.{FinishesAs, finished, put_all}
-use Rattle.folder_files.specs.Slots.{users_of}
+use Rattle.desktop_session.specs.Seats.{no_wish}
+use Rattle.pdb_values.specs.declared.user.Marks.{Marks as SlotMarks}
 use Rattle.desk_store.specs.Shelves.{SlotValue, marks_of}
 use Rattle.desk_store.specs.Views.{DeskValue, shelves_in}
 use Rattle.desk_store.specs.declared.change.DbChange.{DbChange}
@@ -154,14 +155,14 @@ module _ {L F : Type 0} (talk : L → Option Talk) (since : L → L → Type 0) 
       after_filing jobs desk (Ok merges) files (inr is) = both_stopped files.stops is (λ other. cc)
       after_filing jobs desk (Err cause) files is = both_stopped files.stops is (λ other. cc)
 
-      after_meeting : (users : List ℕ) {old : L} (desk : DeskValue F) (answer : Result (Met L) (Halted L)) {left : Outcome L F}
-          → MeetsOrNot talk since fault downs users false old answer
-          → AfterMeeting talk since fault downs contents moments paths faults users desk answer left → LeavesBoth old desk.folder left
-      after_meeting users desk (Ok met) (inl meets) goes =
-          both_behind meets.stops meets.does (after_filing _ (picked_for users met.linked.user.user desk) goes.answer goes.files goes.goes)
-      after_meeting users desk (Ok met) (inr none) goes = absurd none
-      after_meeting users desk (Err halted) (inl meets) goes = both_stopped meets.stops goes (λ is. cc)
-      after_meeting users desk (Err halted) (inr none) goes = both_stopped (nothing_said none.0) goes (λ is. cc)
+      after_meeting : (marks : List SlotMarks) {old : L} (desk : DeskValue F) (answer : Result (Met L) (Halted L)) {left : Outcome L F}
+          → MeetsOrNot talk since fault downs marks no_wish old answer
+          → AfterMeeting talk since fault downs contents moments paths faults marks desk answer left → LeavesBoth old desk.folder left
+      after_meeting marks desk (Ok met) (inl meets) goes =
+          both_behind meets.stops meets.does (after_filing _ (picked_for marks met.linked.user desk) goes.answer goes.files goes.goes)
+      after_meeting marks desk (Ok met) (inr none) goes = absurd none
+      after_meeting marks desk (Err halted) (inl meets) goes = both_stopped meets.stops goes (λ is. cc)
+      after_meeting marks desk (Err halted) (inr none) goes = both_stopped (nothing_said none.0) goes (λ is. cc)
 
 -- ---- the whole
 
@@ -171,7 +172,7 @@ module _ {L F : Type 0} {talk : L → Option Talk} {since : L → L → Type 0} 
     (ran : FilingRan talk since fault downs contents moments paths faults old desk left) where
   ran_both : LeavesBoth talk since fault downs contents moments paths faults old desk.folder left
   ran_both =
-      after_meeting talk since fault downs contents moments paths faults itself since_more (users_of (marks_of desk.slots)) desk ran.answer ran.meets ran.goes
+      after_meeting talk since fault downs contents moments paths faults itself since_more (marks_of desk.slots) desk ran.answer ran.meets ran.goes
 
   pub ran_link : Leaves since fault downs old left.link
   ran_link = record { later = ran_both.stops.later; fell = ran_both.stops.fell }

@@ -24,5 +24,6 @@ pub mod ShelfLaws
 pub mod SwapLaws
 pub mod ToldLaws
 pub mod TurnLaws
+pub mod TwiceLaws
 pub mod WholeLaws
 pub mod WrittenLaws

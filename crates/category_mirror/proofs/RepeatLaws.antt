@@ -1,36 +1,21 @@
 -- Sessions that are run again, over all databases of both sides.
-use Rattle.std.proofs.lemmas.List.{length-map, length-set, set-set}
-use Rattle.std.proofs.Math.Seq.{map-set_same}
+use Rattle.std.proofs.lemmas.List.{set-set}
 use Rattle.std.proofs.lemmas.Simd.{map-map}
 use Rattle.std.proofs.Common.{arith, ◌≡◌, ◌∙◌, ◌<◌, ◌+◌, ap, refl, sym, subst, ℕ, zero, suc, Bool, true, false, List, [], ◌∷◌, ◌++◌, length, map}
-use Rattle.std.specs.Prelude.{IsOk, Option, Some, None, flat_map, is_some, max, not, option_and_then, slice_set, ◌&&◌, if◌then◌else◌}
+use Rattle.std.specs.Prelude.{Option, Some, None, flat_map, is_some, max, not, option_and_then, slice_set, ◌&&◌, if◌then◌else◌}
 use Rattle.std.specs.List.{AllByRecursion}
 use Rattle.std.specs.Option.{option_map}
 use Rattle.pdb_values.specs.Databases.{DatabaseValue}
 use Rattle.pdb_values.specs.NamedDatabases.{NamesRise, database_of}
 use Rattle.pdb_values.specs.declared.head.DbHead.{DbHead}
-use Rattle.pdb_values.specs.declared.record.Record.{Record}
 use Rattle.pdb_values.proofs.NamedLaws.{AllByRecursion-database_of, database_of-name, database_of-same}
-use Rattle.palm_device.specs.Bounds.{IsBoundedDatabase, IsBoundedRecord}
-use Rattle.palm_device.specs.Devices.{Device}
-use Rattle.folder_files.specs.Slots.{users_of}
-use Rattle.pdb_values.specs.Slots.{slot_for}
-use Rattle.pdb_values.specs.declared.slot.Slot.{Slot}
-use Rattle.pdb_values.specs.declared.slot.Slot.TheVariants as slot
-use Rattle.pdb_values.specs.declared.user.UserInfo.{UserInfo}
-use Rattle.desk_store.specs.Desks.{place_of}
-use Rattle.desk_store.specs.Shelves.{AreOrdered, ShelvesValue, SlotValue, marks_of, new_slot, number_of, slot_at}
-use Rattle.desk_store.proofs.BoundLaws.{bounded_at}
+use Rattle.desk_store.specs.Shelves.{ShelvesValue, SlotValue, slot_at}
 use Rattle.desk_store.specs.declared.change.DbChange.{DbChange}
-use Rattle.desk_store.proofs.SlotListLaws.{marks-length, ordered_at, slot_at-set_same}
-use Rattle.desktop_session.specs.Greetings.{user_with}
-use Rattle.session_parts.specs.Meets.{IsSeated, greeting}
-use Rattle.category_mirror.specs.FilingEnds.{IsFileable, users_in}
-use Rattle.category_mirror.proofs.MeetLaws.{seat_within}
+use Rattle.desk_store.proofs.SlotListLaws.{slot_at-set_same}
+use Rattle.session_parts.specs.Meets.{greeting}
 use Rattle.desktop_session.specs.Acts.{Act}
 use Rattle.desktop_session.specs.Lists.{listings}
 use Rattle.desktop_session.specs.Requests.{listing}
-use Rattle.session_parts.specs.Rests.{IsAtRest}
 use Rattle.session_parts.specs.declared.skip.Skip.{Skip}
 use Rattle.conduit_rules.specs.declared.action.Action.TheVariants as action
 use Rattle.session_plan.specs.Skips.{head_of, reason}
@@ -43,17 +28,16 @@ use Rattle.category_mirror.specs.Filings as one
 use Rattle.category_mirror.specs.Filings.{AreOfCategories, block_by, rows_by}
 use Rattle.category_mirror.specs.Jobs.{filing_job, filing_reason, or_missing}
 use Rattle.category_mirror.specs.Refiled.{is_refiled, refiled_base, refiled_rows}
-use Rattle.category_mirror.specs.Sides.{Filing, archive_by, before_end, before_mark, block_writes, change_by, device_among, filed_archive, filed_base, filed_database, filed_device, filed_rows, filed_shelves, filed_slots, filing_changes, filing_of, heads_of, job_acts, job_named, jobs, mark_acts, merge_named, names, shelves_of, slot_of, with_merge, write_count}
+use Rattle.category_mirror.specs.Sides.{Filing, archive_by, before_end, before_mark, block_writes, change_by, filed_archive, filed_base, filed_database, filed_device, filed_rows, filed_shelves, filed_slots, filing_changes, heads_of, job_acts, job_named, jobs, mark_acts, merge_named, names, shelves_of, slot_of, with_merge, write_count}
 use Rattle.category_mirror.proofs.AgainLaws.{IsMade, IsStill, made, still}
 use Rattle.category_mirror.proofs.AlongLaws.{count-append, count-is, count_of}
 use Rattle.category_mirror.proofs.BaseLaws.{base-head, base-quiet}
 use Rattle.category_mirror.proofs.OneLaws.{acts_with}
-use Rattle.category_mirror.proofs.DoneLaws.{among_all}
 use Rattle.category_mirror.proofs.EvolveLaws.{acts_are, acts_none, jobs_named, merge_none, own_written, skipped_same, whole}
 use Rattle.category_mirror.proofs.NamedMaps.{KeepsNames, NamesRise-map, database_of-map}
 use Rattle.category_mirror.proofs.WholeLaws.{IsWhole}
-use Rattle.category_mirror.proofs.MadeAgain.{heads-map, map-same, merge_kept, next, next_device, next_slots}
-use Rattle.category_mirror.proofs.MarkLaws.{marked-user, marked_twice, marks-none}
+use Rattle.category_mirror.proofs.MadeAgain.{heads-map, map-same, merge_kept}
+use Rattle.category_mirror.proofs.MarkLaws.{marks-none}
 
 -- ---- behind the commit: both sides have the merged tables
 
@@ -432,99 +416,3 @@ module _ (filing : Filing) (within : filing.picked < length filing.slots) where
         let two_none = listings_quiet (max 1 (length behind.device.databases)) in
         let three_none = jobs_quiet (names behind) in
         omega (arith, both, last, first, second, one_none, two_none, three_none)
-
--- ---- two sessions of the same sides
-
-seat_ok : (users : List ℕ) (user : UserInfo) (found : Slot) → IsOk (user_with users user found) → IsSeated found
-seat_ok users user (slot.Old place) is = tt
-seat_ok users user slot.New is = tt
-seat_ok users user slot.Refused is = absurd (let never : ⊥ = cc in never)
-seat_ok users user slot.Full is = absurd (let never : ⊥ = cc in never)
-
-module _ (device : Device) (slots : List SlotValue) where
-  pub stopped_device : (done : List (List ℕ))
-      → filed_device (filing_of (device_among (filing_of device slots) done) slots) ≡ filed_device (filing_of device slots)
-  unfolding device_among
-  stopped_device done = next_device (filing_of device slots) done device.user refl
-
-  pub stopped_slots : (done : List (List ℕ))
-      → filed_slots (filing_of (device_among (filing_of device slots) done) slots) ≡ filed_slots (filing_of device slots)
-  unfolding device_among
-  stopped_slots done = next_slots (filing_of device slots) done device.user
-
-  -- behind its mark
-  module _ (rests : IsAtRest device) where
-    abbrev own : Filing
-    own = filing_of device slots
-
-    abbrev marked : UserInfo
-    marked = marked_user (filing_changes own) device.user
-
-    marked_next : filing_of (filed_device own) slots ≡ next own (names own) marked
-    unfolding filed_device device_among
-    marked_next = λ k. record {
-      device = record device { databases = (sym (among_all own rests)) k; user = marked };
-      slots = slots;
-      picked = place_of (length slots) (slot_for (users_of (marks_of slots)) (marked-user (filing_changes own) device.user k) false);
-    }
-
-    pub marked_device : filed_device (filing_of (filed_device own) slots) ≡ filed_device own
-    marked_device = ap filed_device marked_next ∙ next_device own (names own) marked (marked_twice (filing_changes own) device.user)
-
-    pub marked_slots : filed_slots (filing_of (filed_device own) slots) ≡ filed_slots own
-    marked_slots = ap filed_slots marked_next ∙ next_slots own (names own) marked
-
-  module _ (may : IsFileable device slots) where
-    abbrev first : Filing
-    first = filing_of device slots
-
-    picked_within : first.picked < length slots
-    picked_within =
-        let count : length (users_in first) ≡ length slots = length-map (marks_of slots) (λ marks. marks.user) ∙ marks-length slots in
-        let more = may.formed.some in
-        let marks = marks-length slots in
-        let below = seat_within (users_in first) device.user.user (length slots) (omega (arith, count, more, marks))
-        (seat_ok (users_in first) device.user (slot_for (users_in first) device.user.user false) may.seated) in
-        omega (arith, count, below)
-
-    marks_same : marks_of (filed_slots first) ≡ marks_of slots
-    unfolding filed_slots
-    marks_same = map-set_same (λ (s : SlotValue). s.marks) slots first.picked _ (new_slot (number_of slots)) refl
-
-    count_same : length (filed_slots first) ≡ length slots
-    unfolding filed_slots
-    count_same = length-set slots first.picked _
-
-    picked_same : place_of (length (filed_slots first)) (slot_for (users_of (marks_of (filed_slots first))) (filed_device first).user.user false)
-        ≡ first.picked
-    unfolding filed_device
-    picked_same = λ k. place_of (count_same k) (slot_for (users_of (marks_same k)) (marked-user (filing_changes first) device.user k) false)
-
-    second_is : filing_of (filed_device first) (filed_slots first) ≡ behind first picked_within
-    second_is = λ k. record { device = filed_device first; slots = filed_slots first; picked = picked_same k }
-
-    own_ordered : AreOrdered (shelves_of first)
-    own_ordered = ordered_at slots first.picked may.ordered
-
-    own_fileable : AreFileable (shelves_of first).rows
-    own_fileable = all_rows (shelves_of first).rows (bounded_at slots first.picked may.bounded).shelves.rows
-      where
-        all_records : (items : List Record) → AllByRecursion IsBoundedRecord items → AreOfCategories items
-        all_records [] bounded = tt
-        all_records (item ∷ items) bounded = (let small = bounded.0.category in omega (arith, small), all_records items bounded.1)
-
-        all_rows : (rows : List DatabaseValue) → AllByRecursion IsBoundedDatabase rows → AreFileable rows
-        all_rows [] bounded = tt
-        all_rows (d ∷ rows) bounded = (all_records d.records bounded.0.records, all_rows rows bounded.1)
-
-    pub second_device : filed_device (filing_of (filed_device first) (filed_slots first)) ≡ filed_device first
-    second_device = ap filed_device second_is ∙ device_again first picked_within own_fileable may.rests.proper.sound.names
-
-    pub second_slots : filed_slots (filing_of (filed_device first) (filed_slots first)) ≡ filed_slots first
-    second_slots = ap filed_slots second_is ∙ slots_again first picked_within own_fileable own_ordered.rows
-
-    pub second_changes : filing_changes (filing_of (filed_device first) (filed_slots first)) ≡ []
-    second_changes = ap filing_changes second_is ∙ changes_none first picked_within own_fileable
-
-    pub second_writes : block_writes (filing_of (filed_device first) (filed_slots first)) ≡ 0
-    second_writes = ap (λ (filing : Filing). block_writes filing) second_is ∙ writes_none first picked_within own_fileable

@@ -1,13 +1,14 @@
 -- How a session that brings categories together went over any link, call by call: each record tells
 -- what one call answered, and how it went on then.
-use Rattle.std.specs.Prelude.{◌≡◌, ◌⊎◌, ℕ, false, List, [], ◌∷◌, length, Option, None, Some, IfErr, IfOk, Result, Ok, Err}
+use Rattle.std.specs.Prelude.{◌≡◌, ◌⊎◌, ℕ, List, [], ◌∷◌, length, Option, None, Some, IfErr, IfOk, Result, Ok, Err}
 use Rattle.std.specs.Global.{Vec}
 use Rattle.hs_folders.specs.FileMaps.{FileMap}
 use Rattle.hs_folders.specs.Moments.{Moments}
 use Rattle.pdb_values.specs.Databases.{DatabaseValue}
 use Rattle.pdb_values.specs.NamedDatabases.{database_of}
-use Rattle.pdb_values.specs.Slots.{slot_for}
-use Rattle.folder_files.specs.Slots.{users_of}
+use Rattle.pdb_values.specs.declared.user.Marks.{Marks as SlotMarks}
+use Rattle.pdb_values.specs.declared.user.UserInfo.{UserInfo}
+use Rattle.desktop_session.specs.Seats.{no_wish, seat_for}
 use Rattle.dlp_commands.specs.declared.link.LinkFault.{LinkFault}
 use Rattle.dlp_commands.specs.Talks.{Talk}
 use Rattle.desk_store.specs.declared.change.DbChange.{DbChange}
@@ -171,10 +172,10 @@ AfterFiling talk since fault downs contents moments paths faults jobs now desk (
 
 -- ---- the whole
 
--- the slot of a user is picked
-abbrev pub picked_for : {F : Type 0} → List ℕ → ℕ → DeskValue F → DeskValue F
-picked_for users user desk =
-    record desk { picked = place_of (length desk.slots) (slot_for users user false) }
+-- the slot of a handheld is picked
+abbrev pub picked_for : {F : Type 0} → List SlotMarks → UserInfo → DeskValue F → DeskValue F
+picked_for marks user desk =
+    record desk { picked = place_of (length desk.slots) (seat_for marks no_wish user) }
 
 -- Both sides have met: the categories of each database were brought together on the handheld, one
 -- after another.
@@ -194,12 +195,12 @@ pub record Files {L F : Type 0} (talk : L → Option Talk) (since : L → L → 
 -- both sides have met, or they have not
 abbrev pub AfterMeeting : {L F : Type 0} → (L → Option Talk) → (L → L → Type 0)
     → (L → Option LinkFault) → (L → ℕ) → (F → Option FileMap) → (F → Moments) →
-    (F → Option (List (List ℕ))) → (F → ℕ) → List ℕ → DeskValue F → Result (Met L) (Halted L)
+    (F → Option (List (List ℕ))) → (F → ℕ) → List SlotMarks → DeskValue F → Result (Met L) (Halted L)
     → Outcome L F → Type 0
-AfterMeeting talk since fault downs contents moments paths faults users desk (Ok met) left =
+AfterMeeting talk since fault downs contents moments paths faults marks desk (Ok met) left =
     Files talk since fault downs contents moments paths faults met
-    (picked_for users met.linked.user.user desk) left
-AfterMeeting talk since fault downs contents moments paths faults users desk (Err halted) left =
+    (picked_for marks met.linked.user desk) left
+AfterMeeting talk since fault downs contents moments paths faults marks desk (Err halted) left =
     left ≡ stopped halted.link desk.folder (stop.Session halted.cause)
 
 -- A session from its beginning: both sides meet, where the handheld's user has a slot.
@@ -209,7 +210,7 @@ pub record FilingRan {L F : Type 0} (talk : L → Option Talk) (since : L → L 
     (faults : F → ℕ)
     (old : L) (desk : DeskValue F) (left : Outcome L F) : Type 0 where
   pub answer : Result (Met L) (Halted L)
-  pub meets : MeetsOrNot talk since fault downs (users_of (marks_of desk.slots)) false old answer
+  pub meets : MeetsOrNot talk since fault downs (marks_of desk.slots) no_wish old answer
   pub last : IfErr answer (λ halted. IsByLastReply (talk halted.link) halted.cause)
   pub goes : AfterMeeting talk since fault downs contents moments paths faults
-      (users_of (marks_of desk.slots)) desk answer left
+      (marks_of desk.slots) desk answer left

@@ -1,14 +1,14 @@
 -- How a session that brings categories together ends, over a link that tells a handheld on which
 -- nothing is open.
-use Rattle.std.specs.Prelude.{◌≡◌, ◌⊎◌, ℕ, false, List, [], ◌∷◌, map, Option, IfErr, IfOk, IsOk, OnErr, Result, Ok, Err}
+use Rattle.std.specs.Prelude.{◌≡◌, ◌⊎◌, ℕ, List, [], ◌∷◌, map, Option, IfErr, IfOk, IsOk, OnErr, Result, Ok, Err}
 use Rattle.std.specs.Global.{Vec}
 use Rattle.std.specs.Option.{option_map}
 use Rattle.hs_folders.specs.FileMaps.{FileMap}
 use Rattle.hs_folders.specs.Moments.{EachMomentSince, Moments}
-use Rattle.pdb_values.specs.Slots.{slot_for}
+use Rattle.pdb_values.specs.declared.user.Marks.{Marks}
 use Rattle.pdb_values.specs.declared.user.UserInfo.{UserInfo}
 use Rattle.palm_device.specs.Devices.{Device}
-use Rattle.folder_files.specs.Slots.{AreSlots, users_of}
+use Rattle.folder_files.specs.Slots.{AreSlots}
 use Rattle.dlp_commands.specs.declared.link.LinkFault.{LinkFault}
 use Rattle.dlp_commands.specs.Talks.{Talk}
 use Rattle.desk_journal.specs.Overlays.{FinishesAs, finished}
@@ -20,6 +20,7 @@ use Rattle.desktop_session.specs.declared.fault.SessionFault.TheVariants as sess
 use Rattle.desktop_session.specs.Acts.{text}
 use Rattle.desktop_session.specs.Greetings.{user_with}
 use Rattle.desktop_session.specs.Requests.{ending, reading_user}
+use Rattle.desktop_session.specs.Seats.{no_wish, seat_for}
 use Rattle.desktop_session.specs.Stops.{Does, Stops}
 use Rattle.session_parts.specs.Causes.{IsLater}
 use Rattle.session_parts.specs.Rests.{IsAtRest}
@@ -64,15 +65,15 @@ pub record IsCommitted {L : Type 0} (talk : L → Option Talk) (since : L → L 
 
 -- ---- why it stopped
 
--- the users that the desktop's slots have
-abbrev pub users_in : Filing → List ℕ
-users_in filing = users_of (marks_of filing.slots)
+-- the marks that the desktop's slots have
+abbrev pub marks_in : Filing → List Marks
+marks_in filing = marks_of filing.slots
 
 -- the handheld's user, where it has a slot, and else why a session stops
 abbrev pub seat_of : Filing → Result UserInfo SessionFault
 seat_of filing =
-    user_with (users_in filing) filing.device.user
-    (slot_for (users_in filing) filing.device.user.user false)
+    user_with (marks_in filing) filing.device.user
+    (seat_for (marks_in filing) no_wish filing.device.user)
 
 -- A handheld on which nothing is open meets a desktop whose slots are in their form and keep the
 -- bounds of their types, and one of which is that of the handheld's user.

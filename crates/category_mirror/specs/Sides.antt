@@ -19,6 +19,7 @@ use Rattle.session_parts.specs.Meets.{greeting}
 use Rattle.session_parts.specs.Spans.{within}
 use Rattle.session_parts.specs.declared.skip.Skip.{Skip}
 use Rattle.session_plan.specs.Jobs.{names_with}
+use Rattle.desktop_session.specs.Seats.{no_wish}
 use Rattle.session_plan.specs.Tasks.{place_for}
 use Rattle.category_mirror.specs.declared.job.FilingJob.{FilingJob}
 use Rattle.session_parts.specs.declared.report.DbReport.{DbReport}
@@ -44,7 +45,7 @@ abbrev pub filing_of : Device → List SlotValue → Filing
 filing_of device slots = record {
   device = device;
   slots = slots;
-  picked = place_for device slots false;
+  picked = place_for device slots no_wish;
 }
 
 -- the picked slot, and its databases

@@ -6,6 +6,7 @@ ghost use Rattle.desk_store.specs.Views.{shelves_in};
 ghost use Rattle.category_mirror.specs.Jobs as jobs;
 
 use desk_store::Desk;
+use desktop_session::UserWish;
 use hs_folders::Folder;
 use pdb_values::{Database, DbHead, DbName, PalmDate};
 use session_parts::Skip;
@@ -81,7 +82,7 @@ pub fn filing_jobs<D: Folder>(
     let wishes = Wishes {
         date: PalmDate::of_seconds(0),
         slow: false,
-        add_user: false,
+        user: UserWish::none(),
         actions: Vec::new(alloc),
     };
     let jobs = jobs_of(alloc, heads, desk, false, &wishes)?;

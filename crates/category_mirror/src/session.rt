@@ -2,7 +2,7 @@
 ghost use Rattle.std.specs.Prelude.{◌≡◌, ◌≤◌, ◌⊎◌, IfErr, IfOk, false, length};
 ghost use Rattle.desk_store.specs.Desks.{IsDesk};
 ghost use Rattle.desk_store.specs.Views.{shelves_in};
-ghost use Rattle.pdb_values.specs.Slots.{slot_for as slot_of};
+ghost use Rattle.desktop_session.specs.Seats.{no_wish, seat_for as seat_of};
 ghost use Rattle.desktop_session.specs.declared.fault.SessionFault.TheVariants as session;
 ghost use Rattle.session_parts.specs.declared.stop.Stop.TheVariants as stops;
 ghost use Rattle.mirrors.specs.Asks.{Asks};
@@ -12,7 +12,7 @@ ghost use Rattle.session_parts.specs.Meets.{IsSeated};
 ghost use Rattle.session_parts.specs.Rests.{WhereAtRest};
 ghost use Rattle.session_plan.specs.Fits.{Rise};
 ghost use Rattle.category_mirror.specs.Changes.{AreCommittable, KeepsParted, changes_filed as changes_of};
-ghost use Rattle.category_mirror.specs.Courses.{Carries, Files, FilingRan, Finishes, Marks, Turns, picked_for};
+ghost use Rattle.category_mirror.specs.Courses.{Carries, Files, FilingRan, Finishes, Marks as MarksAndCommits, Turns, picked_for};
 ghost use Rattle.category_mirror.specs.Courses.{reports_filed as reports_of, stopped as left_by};
 ghost use Rattle.category_mirror.specs.FilingActs.{marks_for, marks_unless};
 ghost use Rattle.category_mirror.specs.FilingEnds.{FilingEnds};
@@ -27,11 +27,11 @@ use crate::job::{FilingJob, filing_jobs};
 use crate::merge::Merge;
 use crate::telling::reports_filed;
 use desk_store::{DbChange, Desk};
-use desktop_session::{Halted, Linked, SessionFault};
+use desktop_session::{Halted, Linked, SessionFault, UserWish, seat_for};
 use dlp_commands::Link;
 use folder_files::{Parted, same_parted};
 use hs_folders::Folder;
-use pdb_values::slot_for;
+use pdb_values::Marks;
 use session_parts::{DbReport, Met, Outcome, Stop, meet_over};
 use session_plan::begun_user;
 use std::alloc::{AllocError, Global};
@@ -172,7 +172,7 @@ fn mark_and_commit<L: Link, D: Folder>(
     requires open { linked.abandoned ≡ false }
     requires fit { AreCommittable prepared.changes.items desk }
     requires kept { KeepsParted prepared.parted.items desk }
-    ensures { Marks L.talk L.since L.fault L.downs D.contents D.moments D.paths D.faults
+    ensures { MarksAndCommits L.talk L.since L.fault L.downs D.contents D.moments D.paths D.faults
         prepared.changes.items prepared.reports linked desk result }
 {
     let mut linked = linked;
@@ -208,20 +208,20 @@ fn file_met<L: Link, D: Folder>(
     alloc: Global,
     met: Met<L>,
     desk: Desk<D>,
-    users: &[u32],
+    marks: &[Marks],
 ) -> Outcome<L, D>
     requires open { met.linked.abandoned ≡ false }
-    requires some { 1 ≤ length users.now }
-    requires room { length users.now ≤ 16 }
-    requires count { length users.now ≡ length desk.slots }
-    requires seated { IsSeated (slot_of users.now met.linked.user.user false) }
+    requires some { 1 ≤ length marks.now }
+    requires room { length marks.now ≤ 16 }
+    requires count { length marks.now ≡ length desk.slots }
+    requires seated { IsSeated (seat_of marks.now no_wish met.linked.user) }
     ensures { Files L.talk L.since L.fault L.downs D.contents D.moments D.paths D.faults met
-        (picked_for users.now met.linked.user.user desk) result }
+        (picked_for marks.now met.linked.user desk) result }
 {
     let Met { linked, heads } = met;
     let mut linked = linked;
     let mut desk = desk;
-    desk.pick(slot_for(users, linked.user().user, false));
+    desk.pick(seat_for(marks, &UserWish::none(), linked.user()));
     match filing_jobs(alloc, &heads, &desk) {
         Ok(jobs) => match file_all(alloc, &mut linked, &desk, &jobs) {
             Ok(merges) => turn(alloc, linked, desk, &jobs, &merges),
@@ -237,9 +237,9 @@ fn run<L: Link, D: Folder>(alloc: Global, link: L, desk: Desk<D>) -> Outcome<L, 
     ensures { FilingRan L.talk L.since L.fault L.downs D.contents D.moments D.paths D.faults
         link desk result }
 {
-    match desk.users(alloc) {
-        Ok(users) => match meet_over(alloc, link, &users, false) {
-            Ok(met) => file_met(alloc, met, desk, &users),
+    match desk.all_marks(alloc) {
+        Ok(marks) => match meet_over(alloc, link, &marks, &UserWish::none()) {
+            Ok(met) => file_met(alloc, met, desk, &marks),
             Err(Halted { link, cause }) => stopped(link, desk, Stop::Session(cause)),
         },
         Err(AllocError) => stopped(link, desk, Stop::Session(SessionFault::NoMemory)),

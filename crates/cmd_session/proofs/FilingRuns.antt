@@ -54,6 +54,7 @@ as_run words = record {
   trace = words.trace;
   choice = record { only = None; actions = None };
   slow = false;
+  user = None;
   add_user = false;
 }
 

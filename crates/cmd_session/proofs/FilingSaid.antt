@@ -5,7 +5,7 @@ use Rattle.std.specs.Prelude.{IfErr, IfOk, OnOk, Option, None, Some, Result, Ok,
 use Rattle.std.specs.Global.{Vec}
 use Rattle.std.proofs.lemmas.List.{length-append, map-append}
 use Rattle.hs_folders.specs.FileMaps.{FileMap}
-use Rattle.pdb_values.specs.Slots.{slot_for}
+use Rattle.desktop_session.specs.Seats.{no_wish, seat_for}
 use Rattle.pdb_values.specs.declared.user.UserInfo.{UserInfo}
 use Rattle.dlp_commands.specs.declared.link.LinkFault.{LinkFault}
 use Rattle.line_world.specs.Worlds.{WorldValue, world_talk}
@@ -18,7 +18,7 @@ use Rattle.desktop_session.specs.declared.fault.SessionFault.TheVariants as sess
 use Rattle.session_parts.specs.declared.report.DbReport.{DbReport}
 use Rattle.session_parts.specs.declared.stop.Stop.{Stop}
 use Rattle.session_parts.specs.declared.stop.Stop.TheVariants as stop
-use Rattle.category_mirror.specs.FilingEnds.{IsEnded, IsFilingStop, StopsFor, seat_of, users_in}
+use Rattle.category_mirror.specs.FilingEnds.{IsEnded, IsFilingStop, StopsFor, marks_in, seat_of}
 use Rattle.category_mirror.specs.Sides.{Filing, before_end, before_mark, filing_acts}
 use Rattle.call_parts.specs.Causes.{IsCutShort, down_status, fault_status, stop_status}
 use Rattle.call_parts.specs.Closings.{left_status}
@@ -116,7 +116,7 @@ module _ (filing : Filing) (cause : Option Down) where
   unseated_told (Ok made) (inl is) unseated stops = absurd stops
   unseated_told (Err stopped) (inl is) unseated (inl same) =
       inl (is ∙ ap (stop_status cause) same
-      ∙ unseated_status (users_in filing) filing.device.user (slot_for (users_in filing) filing.device.user.user false) cause unseated)
+      ∙ unseated_status (marks_in filing) filing.device.user (seat_for (marks_in filing) no_wish filing.device.user) cause unseated)
   unseated_told (Err stopped) (inl is) unseated (inr (inl down)) =
       inr (subst IsCutShort (sym (is ∙ ap (stop_status cause) down)) (down_cut cause))
   unseated_told (Err stopped) (inl is) unseated (inr (inr memory)) =

@@ -1,6 +1,7 @@
 -- What a session between made folders tells of its one database, and that it passes no limit.
+use Rattle.std.proofs.lemmas.Bool.Decides.{nat_tests}
 use Rattle.std.proofs.lemmas.Grind.{common_steps}
-use Rattle.std.proofs.Common.{◌≡◌, ◌∙◌, true, false, refl, ap, arith, List, [], ◌∷◌, length, map, filter}
+use Rattle.std.proofs.Common.{◌≡◌, ◌∙◌, Bool, true, false, refl, ap, arith, List, [], ◌∷◌, length, map, filter}
 use Rattle.std.specs.Prelude.{None, Some, codes}
 use Rattle.conduit_rules.specs.Choices.{choice_for}
 use Rattle.conduit_rules.specs.Plans.{kept_rows}
@@ -10,6 +11,10 @@ use Rattle.conduit_rules.specs.declared.view.SeenState.{SeenState}
 use Rattle.palm_device.specs.Devices.{Device}
 use Rattle.palm_device.specs.Handles.{no_handles}
 use Rattle.desk_store.specs.Shelves.{SlotValue}
+use Rattle.desktop_session.specs.Seats.{is_empty, seat_for}
+use Rattle.desktop_session.specs.declared.seat.UserWish.{UserWish}
+use Rattle.pdb_values.specs.declared.slot.Slot.TheVariants.{Old}
+use Rattle.pdb_values.specs.declared.user.Marks.{Marks}
 use Rattle.session_plan.specs.Choosing.{agrees, choice, is_fast, sides, view}
 use Rattle.session_plan.specs.Reports.{counts_of, did_of, is_received, read_count, report_of, reports}
 use Rattle.session_plan.specs.Skips.{skip_of}
@@ -38,12 +43,21 @@ made_slot items = record {
 unfoldable pub made_meeting : List Item → Wishes → Meeting
 made_meeting items wishes = record { device = made_device items; slots = made_slot items ∷ []; picked = 0; wishes = wishes }
 
+-- the one slot is the handheld's, whatever name is asked for
+pub made_seat : (slot : Marks) (wish : UserWish) → slot.user ≡ 0 → seat_for (slot ∷ []) wish made_user ≡ Old 0
+made_seat slot wish none = by (is_empty wish.name) refl
+  where
+    by : (b : Bool) → is_empty wish.name ≡ b → seat_for (slot ∷ []) wish made_user ≡ Old 0
+    by true is = grind (arith, common_steps, nat_tests)
+    by false is = grind (arith, common_steps, nat_tests)
+
 -- the made sides meet so
 pub made_meets : {items : List Item} (device : Device) {slots : List SlotValue} {slot : SlotValue} (wishes : Wishes)
     → device.databases ≡ made_database Handheld items ∷ [] → device.user ≡ made_user → device.handles ≡ no_handles → slots ≡ slot ∷ []
     → MadeSlot items slot → meeting_of device slots wishes ≡ made_meeting items wishes
 unfolding made_meeting made_device made_slot
-made_meets {items} device wishes databases user handles one made = grind (arith, made_device items, made_slot items, [])
+made_meets {items} device {slot = slot} wishes databases user handles one made =
+    grind (arith, made_device items, made_slot items, [], made_seat slot.marks wishes.user)
 
 -- ---- their one database
 

@@ -14,7 +14,7 @@ use Rattle.desk_store.specs.Shelves.{SlotValue}
 use Rattle.trace_text.specs.Proper.{AreNumbered}
 use Rattle.line_script.specs.Rules.{RuleValue}
 use Rattle.line_script.specs.Scripts.{fate_by}
-use Rattle.pdb_values.specs.declared.slot.Slot.TheVariants.{Full}
+use Rattle.pdb_values.specs.declared.slot.Slot.TheVariants as slot
 use Rattle.line_world.specs.Causes.{BearsOut}
 use Rattle.run_words.specs.Runs.{Run}
 use Rattle.sync_session.specs.Outcomes.{IsOtherUser, slot_in}
@@ -39,12 +39,12 @@ use Rattle.call_parts.specs.declared.report.Report.{Report}
 use Rattle.cmd_status.specs.declared.status.Status.{Status}
 use Rattle.cmd_status.specs.declared.status.Status.TheVariants.{Done, Usage, BadWord, BadScript, TooLong, BadFile, TooMany, HandheldFolder, DesktopFolder, SourceRead}
 use Rattle.cmd_status.specs.declared.status.Status.TheVariants.{TraceWrite, OutWrite, NoMemory, LineDown, Unplugged, Aborted, Undetected, OtherUser}
-use Rattle.cmd_status.specs.declared.status.Status.TheVariants.{TooManyUsers, Limit, NewHandheld, WrongSide, InUse, CannotExport, BadRecord, BadText, Overfull, BadTrace, NotProper, CannotInstall, NotBackupFolder, SameDatabase}
+use Rattle.cmd_status.specs.declared.status.Status.TheVariants.{TooManyUsers, Limit, NewHandheld, WrongSide, InUse, CannotExport, BadRecord, BadText, Overfull, BadTrace, NotProper, BadCategories, CannotInstall, NotBackupFolder, SameDatabase}
 use Rattle.cmd_status.specs.declared.status.Status.TheVariants.{StreamEnded, StreamAborted, BadHello, Refused, BadReply}
-use Rattle.cmd_status.specs.declared.status.Status.TheVariants.{PortFailed, NoHandheld, LineSilent, LineEndless, PeerAborted}
+use Rattle.cmd_status.specs.declared.status.Status.TheVariants.{PortFailed, NoHandheld, LineSilent, LineEndless, PeerAborted, PeerBeganAnew}
 use Rattle.cmd_session.proofs.MadeItems.{drawn_short}
 use Rattle.cmd_session.proofs.MadeLimits.{none_lost, none_over}
-use Rattle.cmd_session.proofs.MadeReports.{AsksNothing, made_device, made_meeting, made_meets, made_slot, reports_are}
+use Rattle.cmd_session.proofs.MadeReports.{AsksNothing, made_device, made_meeting, made_meets, made_seat, made_slot, reports_are}
 use Rattle.cmd_session.proofs.MadeSides.{AreItems, made_desktop, made_finished, made_handheld, made_user_is}
 use Rattle.cmd_session.proofs.MakeLines.{made_fair, never_stops}
 use Rattle.call_parts.proofs.RetoldLaws.{by_end_both, by_end_then, retold_printed}
@@ -120,14 +120,16 @@ made_talk {items} {device} {slots} after {status} {report} are merged holds clos
 no_rise : Rose 0 0 → ⊥
 no_rise rose = omega (arith, rose)
 
--- the users agree
-not_other : (items : List Item) (wishes : Wishes) {handheld desktop : ℕ} → IsOtherUser (made_meeting items wishes) handheld desktop → ⊥
+-- the handheld has the one slot
+own_slot : (items : List Item) (wishes : Wishes) → slot_in (made_meeting items wishes) ≡ slot.Old 0
 unfolding made_meeting made_device made_slot
-not_other items wishes is = let slot = is.slot in absurd cc
+own_slot items wishes = made_seat (record { pc = 1; user = 0; last = 0; name = [] }) wishes.user refl
 
-not_full : (items : List Item) (wishes : Wishes) → slot_in (made_meeting items wishes) ≡ Full → ⊥
-unfolding made_meeting made_device made_slot
-not_full items wishes is = absurd cc
+not_other : (items : List Item) (wishes : Wishes) {handheld desktop : ℕ} → IsOtherUser (made_meeting items wishes) handheld desktop → ⊥
+not_other items wishes is = let refused : slot.Refused ≡ slot.Old 0 = sym is.slot ∙ own_slot items wishes in cc
+
+not_full : (items : List Item) (wishes : Wishes) → slot_in (made_meeting items wishes) ≡ slot.Full → ⊥
+not_full items wishes is = let full : slot.Full ≡ slot.Old 0 = sym is ∙ own_slot items wishes in cc
 
 -- it was done, or memory ran out
 module _ {items : List Item} (after : SidesTold) (report : Report) (are : AreItems items) (merged : IsMadeMerge items)
@@ -153,6 +155,7 @@ module _ {items : List Item} (after : SidesTold) (report : Report) (are : AreIte
   by_status (Overfull what) asks ends unsaid up caused numbered shows palm desk = absurd ends
   by_status (BadTrace line) asks ends unsaid up caused numbered shows palm desk = absurd ends
   by_status (NotProper rule) asks ends unsaid up caused numbered shows palm desk = absurd ends
+  by_status (BadCategories name) asks ends unsaid up caused numbered shows palm desk = absurd ends
   by_status (CannotInstall name) asks ends unsaid up caused numbered shows palm desk = absurd ends
   by_status NotBackupFolder asks ends unsaid up caused numbered shows palm desk = absurd ends
   by_status (SameDatabase first second) asks ends unsaid up caused numbered shows palm desk = absurd ends
@@ -164,6 +167,7 @@ module _ {items : List Item} (after : SidesTold) (report : Report) (are : AreIte
   by_status LineSilent asks ends unsaid up caused numbered shows palm desk = absurd ends
   by_status LineEndless asks ends unsaid up caused numbered shows palm desk = absurd ends
   by_status PeerAborted asks ends unsaid up caused numbered shows palm desk = absurd ends
+  by_status PeerBeganAnew asks ends unsaid up caused numbered shows palm desk = absurd ends
   by_status (Refused function code) asks ends unsaid up caused numbered shows palm desk = absurd ends
   by_status (BadReply function) asks ends unsaid up caused numbered shows palm desk = absurd ends
   by_status HandheldFolder asks ends unsaid up caused numbered shows palm desk = absurd (no_rise (subst (Rose 0) calm (palm refl)))

@@ -10,10 +10,10 @@ use Rattle.desktop_session.specs.Acts.{Act, text}
 use Rattle.desktop_session.specs.Greetings.{user_with}
 use Rattle.desktop_session.specs.declared.fault.SessionFault.{SessionFault}
 use Rattle.desktop_session.specs.declared.fault.SessionFault.TheVariants as session_fault
-use Rattle.folder_files.specs.Slots.{users_of}
 use Rattle.desk_store.specs.Shelves.{marks_of}
 use Rattle.pdb_values.specs.declared.slot.Slot.{Slot}
 use Rattle.pdb_values.specs.declared.slot.Slot.TheVariants.{Full}
+use Rattle.pdb_values.specs.declared.user.Marks.{Marks}
 use Rattle.pdb_values.specs.declared.user.UserInfo.{UserInfo}
 use Rattle.desktop_session.specs.Stops.{Does}
 use Rattle.line_world.specs.declared.down.Down.{Down}
@@ -83,9 +83,9 @@ module _ (meeting : Meeting) {palm_after : FolderTold} {report : Report} (cause 
 -- ---- a session that both sides refuse
 
 -- the status of a user without a slot, whatever the line's cause is
-pub unseated_status : (users : List ℕ) (user : UserInfo) (found : Slot) (cause : Option Down) {why : SessionFault} → user_with users user found ≡ Err why
+pub unseated_status : (marks : List Marks) (user : UserInfo) (found : Slot) (cause : Option Down) {why : SessionFault} → user_with marks user found ≡ Err why
     → fault_status cause why ≡ fault_status None why
-unseated_status users user found cause is = grind (arith, common_steps)
+unseated_status marks user found cause is = grind (arith, common_steps)
 
 other_unseated : (meeting : Meeting) (handheld desktop : ℕ) → IsOtherUser meeting handheld desktop → IsOk (seat_of meeting) → ⊥
 other_unseated meeting handheld desktop other seated = grind (arith, common_steps)
@@ -99,7 +99,7 @@ module _ (meeting : Meeting) (cause : Option Down) {status : Status} where
   unseated_told answer (inr memory) unseated stops = inr (subst IsCutShort (sym memory) tt)
   unseated_told (Ok made) (inl is) unseated stops = absurd stops
   unseated_told (Err stopped) (inl is) unseated stops =
-      grind (arith, unseated_status (users_of (marks_of meeting.slots)) meeting.device.user (slot_in meeting) cause unseated, down_cut cause)
+      grind (arith, unseated_status (marks_of meeting.slots) meeting.device.user (slot_in meeting) cause unseated, down_cut cause)
 
   -- where the user has a slot, a call of the session stops it for the line, the handheld's folder or memory alone
   session_cut : {F : Type 0} (fault : WorldValue F → Option LinkFault) (old new : WorldValue F) (why : SessionFault)

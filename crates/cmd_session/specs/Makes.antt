@@ -46,6 +46,7 @@ made_run = record {
   trace = None;
   choice = every_database;
   slow = false;
+  user = None;
   add_user = false;
 }
 

@@ -18,5 +18,5 @@ pub record Meets (run : Run) (before : CallTold) (meeting : Meeting) : Type 0 wh
       (λ held. HoldsAll held meeting.device.databases meeting.device.user)
   pub closed : meeting.device.handles ≡ no_handles
   pub desktop : IsDesk (option_map finished before.desk.contents) meeting.slots
-  pub picked : meeting.picked ≡ place_for meeting.device meeting.slots meeting.wishes.add_user
+  pub picked : meeting.picked ≡ place_for meeting.device meeting.slots meeting.wishes.user
   pub asked : AsksFor run meeting.wishes

@@ -142,6 +142,7 @@ fn made_words(choice: ChoiceWords<'static>) -> RunWords<'static>
         trace: None,
         choice,
         slow: false,
+        user: None,
         add_user: false,
     }
 }

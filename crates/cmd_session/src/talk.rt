@@ -1,6 +1,7 @@
 // The session between both sides.
-ghost use Rattle.std.specs.Prelude.{◌≡◌, ◌<◌, ◌^◌, None, false, true};
+ghost use Rattle.std.specs.Prelude.{◌≡◌, None, false, true};
 ghost use Rattle.desk_store.specs.Bounds.{AreBounded};
+ghost use Rattle.front_laws.specs.Sound.{AreSoundWishes};
 ghost use Rattle.desk_store.specs.Shelves.{AreInOrder};
 ghost use Rattle.handheld_files.specs.Openings.{AreKept, Stands, opened_device};
 ghost use Rattle.line_world.specs.Logs.{no_log};
@@ -81,7 +82,7 @@ fn speak<H: Folder, D: Folder>(
     requires closed { world.server.device.handles ≡ no_handles }
     requires ordered { AreInOrder desk.slots }
     requires bounded { AreBounded desk.slots }
-    requires date { wishes.now.date < 2 ^ 32 }
+    requires sound { AreSoundWishes wishes.now }
     requires silent { world.log ≡ no_log }
     requires begun { world.begun ≡ false }
     requires cause { world.cause ≡ None }

@@ -7,7 +7,7 @@ ghost use Rattle.hs_folders.specs.Moments.{EachMomentSince};
 ghost use Rattle.pdb_values.specs.NamedDatabases.{NamesRise, database_of};
 ghost use Rattle.folder_files.specs.Partings as partings;
 ghost use Rattle.folder_files.specs.Partings.{PartedRise};
-ghost use Rattle.folder_files.specs.Slots.{AreSlots, users_of as users_in};
+ghost use Rattle.folder_files.specs.Slots.{AreSlots};
 ghost use Rattle.desk_journal.specs.Overlays.{FinishesAs, StandsAs, finished};
 ghost use Rattle.desk_journal.specs.Steps.{GoesThrough, GoesThroughAll};
 ghost use Rattle.desk_store.specs.Bounds.{AreBounded};
@@ -23,7 +23,7 @@ use crate::commit::write_change;
 use crate::fault::{CommitFault, DeskOpenFault};
 use crate::opening::open_files;
 use crate::role::Role;
-use crate::slot::{DeskSlot, users_of};
+use crate::slot::{DeskSlot, all_marks};
 use folder_files::{Parted, Parting, parting_of};
 use hs_folders::Folder;
 use pdb_values::{Database, DbName, Marks, Slot};
@@ -213,13 +213,13 @@ impl<F: Folder> Desk<F> {
         }
     }
 
-    /// The users of the slots, in the order of their numbers: 1 to 16, all different, and only the first may be 0.
-    pub fn users(&self, alloc: Global) -> Result<Vec<u32>, AllocError>
-        ensures users { IfOk result (λ users. users.items ≡ users_in (marks_of self.now.slots)) }
-        ensures count { IfOk result (λ users. vec_len users ≡ length self.now.slots) }
+    /// The marks of the slots, in the order of their numbers: 1 to 16, whose users all differ, and only the first may be 0.
+    pub fn all_marks(&self, alloc: Global) -> Result<Vec<Marks>, AllocError>
+        ensures marks { IfOk result (λ marks. marks.items ≡ marks_of self.now.slots) }
+        ensures count { IfOk result (λ marks. vec_len marks ≡ length self.now.slots) }
         ensures formed { AreSlots (marks_of self.now.slots) }
     {
-        users_of(alloc, &self.slots)
+        all_marks(alloc, &self.slots)
     }
 
     // The picked slot.

@@ -2,7 +2,6 @@
 ghost use Rattle.std.specs.Prelude.{◌≡◌, [], IfOk, length, map, slice_get, vec_len};
 ghost use Rattle.std.specs.Option.{option_copied, option_map};
 ghost use Rattle.folder_files.specs.InfoFiles.{plain_info};
-ghost use Rattle.folder_files.specs.Slots.{users_of as users_in};
 ghost use Rattle.std.specs.List.{AllByRecursion};
 ghost use Rattle.desk_store.specs.Bounds.{AreBoundedMarks};
 ghost use Rattle.desk_store.specs.Shelves.{bare_slot, infos_of as infos_in, marks_of as marks_in, new_slot};
@@ -121,16 +120,16 @@ pub(crate) fn infos_of(alloc: Global, slots: &[DeskSlot]) -> Result<Vec<SlotInfo
     Ok(infos)
 }
 
-// The users of slots.
-pub(crate) fn users_of(alloc: Global, slots: &[DeskSlot]) -> Result<Vec<u32>, AllocError>
-    ensures users { IfOk result (λ users. users.items ≡ users_in (marks_in slots.now)) }
-    ensures count { IfOk result (λ users. vec_len users ≡ length slots.now) }
+// What is known of the users of slots.
+pub(crate) fn all_marks(alloc: Global, slots: &[DeskSlot]) -> Result<Vec<Marks>, AllocError>
+    ensures marks { IfOk result (λ marks. marks.items ≡ marks_in slots.now) }
+    ensures count { IfOk result (λ marks. vec_len marks ≡ length slots.now) }
 {
-    let mut users = Vec::new(alloc);
+    let mut marks = Vec::new(alloc);
     for slot in slots {
-        users.push(slot.marks.user)?;
+        marks.push(same_marks(&slot.marks))?;
     }
-    Ok(users)
+    Ok(marks)
 }
 
 // What is known of a user, once more.

@@ -15,6 +15,7 @@ pub mod Puts
 pub mod Replies
 pub mod Requests
 pub mod Says
+pub mod Seats
 pub mod Sessions
 pub mod Starts
 pub mod Stops

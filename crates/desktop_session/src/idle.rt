@@ -10,7 +10,9 @@ ghost use Rattle.desktop_session.specs.Stops.{Does, Stops};
 use crate::ending::Halted;
 use crate::fault::{SessionFault, of_link};
 use crate::linked::Linked;
+use crate::seat::UserWish;
 use dlp_commands::{Link, Message};
+use pdb_values::Marks;
 use std::alloc::{AllocError, Global};
 
 /// A link over which nothing was said, with room for a request and a reply.
@@ -42,13 +44,12 @@ impl<L: Link> Idle<L> {
         }
     }
 
-    /// Waits for the handheld's wake, reads its user, finds the slot for it among the desktop's
-    /// users, and says that the
-    /// conduits begin. `add` says whether a user that the desktop does not know may get a slot.
-    pub fn hello(self, users: &[u32], add: bool) -> Result<Linked<L>, Halted<L>>
+    /// Waits for the handheld's wake, reads its user, finds the slot for it by the marks of the
+    /// desktop's slots, and says that the conduits begin. `wish` is what is asked of the user.
+    pub fn hello(self, marks: &[Marks], wish: &UserWish) -> Result<Linked<L>, Halted<L>>
         requires begun { L.begun self.link ≡ false }
-        requires some { 1 ≤ length users.now }
-        requires room { length users.now ≤ 16 }
+        requires some { 1 ≤ length marks.now }
+        requires room { length marks.now ≤ 16 }
         // What went out, and where it stopped.
         ensures stops { Stops L.talk L.since L.fault L.downs (text reading_user ∷ text beginning
             ∷ [])
@@ -57,12 +58,12 @@ impl<L: Link> Idle<L> {
             self.link linked.link) }
 
         // The user, or the cause of the refusal.
-        ensures greeted { AnswersGreeting users.now add (L.talk self.link) (L.fault (link_begun result))
+        ensures greeted { AnswersGreeting marks.now wish.now (L.talk self.link) (L.fault (link_begun result))
             (user_begun result) }
         ensures last { IfErr result (λ halted. IsByLastReply (L.talk halted.link) halted.cause) }
         // Nothing but the user is asked for unless the handheld's has a slot.
         ensures unseated { AsksUser L.talk L.since L.fault L.downs self.link (link_begun result)
-            ⊎ HasSlot users.now add (L.talk self.link) }
+            ⊎ HasSlot marks.now wish.now (L.talk self.link) }
         ensures open { IfOk result (λ linked. linked.abandoned ≡ false) }
     {
         let Idle {
@@ -78,7 +79,7 @@ impl<L: Link> Idle<L> {
             });
         }
         let mut linked = Linked::begin(link, request, reply);
-        match linked.greet(users, add) {
+        match linked.greet(marks, wish) {
             Ok(user) => {
                 linked.set_user(user);
                 Ok(linked)

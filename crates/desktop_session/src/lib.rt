@@ -21,6 +21,7 @@ mod open_db;
 mod order;
 mod reading;
 mod replies;
+mod seat;
 mod writing;
 
 pub use ending::{Ended, Halted};
@@ -37,3 +38,4 @@ pub use order::{
     databases_are_made, kept_lists_are_never_refused, kept_order_is_never_refused,
     possible_requests_are_answered, users_are_marked,
 };
+pub use seat::{UserWish, seat_for, unclaimed};

@@ -21,8 +21,8 @@ use Rattle.session_plan.specs.Merges.{merged_databases}
 use Rattle.sync_session.specs.News.{purge_acts}
 use Rattle.sync_session.specs.Sessions.{after_commit, end_mark}
 use Rattle.session_plan.specs.Skips.{active}
-use Rattle.session_plan.specs.Tasks.{Meeting, Task, slot_of}
-use Rattle.session_plan.specs.Users.{begun_user, done_user}
+use Rattle.session_plan.specs.Tasks.{Meeting, Task}
+use Rattle.session_plan.specs.Users.{begun_user, done_of, done_user}
 use Rattle.front_laws.proofs.MergedLaws.{NotNamed}
 use Rattle.front_laws.specs.Given.{ids_in}
 use Rattle.front_laws.specs.Sound.{IsSoundMeeting}
@@ -216,7 +216,7 @@ pub record BehindPart (m : Meeting) (given : List ℕ) (ready : AreReady m (acti
   pub counts : List ℕ
   pub cleared : AreCleared m (active m) ready given counts x.databases
   pub others : (name : List ℕ) → NotNamed name (active m) → database_of name x.databases ≡ database_of name m.device.databases
-  pub marked : (x.user ≡ begun_user m.device.user) ⊎ ((x.user ≡ done_user m.wishes.date m.device.user (slot_of m).marks)
+  pub marked : (x.user ≡ begun_user m.device.user) ⊎ ((x.user ≡ done_user m.device.user (done_of m))
       × (x.databases ≡ merged_databases m (active m) given m.device.databases))
 
 pub respects-behind : (m : Meeting) (given : List ℕ) (ready : AreReady m (active m)) (ids : List ℕ) → Respects (BehindPart m given ready ids)
@@ -245,7 +245,7 @@ behind-along {m} given sound ids dealt =
     let then_ids : List ℕ = ids ++ ids_in purging in
     let does = purges_all m (active m) ready given news user (have-names m) changed in
     let last : P then_ids (all_closed whole user) = subst (P then_ids) does (along-last P ids purging (all_closed news user) purged free) in
-    let end = done_user m.wishes.date m.device.user (slot_of m).marks in
+    let end = done_user m.device.user (done_of m) in
     let over : P then_ids (all_closed whole end) =
     record { same = last.same; counts = last.counts; cleared = last.cleared; others = last.others; marked = inr (refl, both m given sound dealt) } in
     subst (Along P then_ids (end_mark m ∷ ending ∷ [])) (sym does) (

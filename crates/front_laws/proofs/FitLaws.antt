@@ -34,7 +34,10 @@ use Rattle.sync_session.specs.Reads.{opened, read_acts, reads}
 use Rattle.sync_session.specs.Sessions.{after_commit, before_commit, before_writes, listing_all, session, begin_mark, end_mark}
 use Rattle.session_plan.specs.Skips.{active}
 use Rattle.session_plan.specs.Tasks.{Meeting, Task, records_of, slot_of}
-use Rattle.session_plan.specs.Users.{agreed_user, begun_user, done_user, slots_user_stays}
+use Rattle.desktop_session.specs.Seats.{numbers_of}
+use Rattle.session_plan.proofs.NumberLaws.{number_is_below}
+use Rattle.desk_store.specs.Shelves.{marks_of}
+use Rattle.session_plan.specs.Users.{agreed_name, begun_user, done_of, done_user, gets_number, other_user, slots_user_stays}
 use Rattle.front_laws.specs.Sound.{IsSoundMeeting}
 use Rattle.front_laws.proofs.MergeActs.{name_of_both}
 use Rattle.front_laws.proofs.PutActs.{IsReplacement}
@@ -261,17 +264,22 @@ module _ {m : Meeting} (sound : IsSoundMeeting m) where
       let user = sound.device.bounded.user in
       mark_fits (begun_user m.device.user) 0x40 user.number user.viewer (lit< tt) (lit< tt) user.short user.no_zero
 
-  user_of_both : agreed_user m.device.user (slot_of m).marks < 2 ^ 32
-  user_of_both = by (slots_user_stays m.device.user (slot_of m).marks)
+  user_of_both : (done_of m).user < 2 ^ 32
+  user_of_both = by (gets_number (marks_of m.slots) m.wishes.user.name m.device.user (slot_of m).marks) (slots_user_stays m.device.user (slot_of m).marks)
     where
-      by : (stays : Bool) → (if stays then (slot_of m).marks.user else m.device.user.user) < 2 ^ 32
-      by true = sound.slot.number
-      by false = sound.device.bounded.user.number
+      new : ℕ
+      new = other_user m.wishes.date m.wishes.user.name (marks_of m.slots) m.device.user (slot_of m).marks
+
+      by : (gets stays : Bool) → (if gets then new else if stays then (slot_of m).marks.user else m.device.user.user) < 2 ^ 32
+      by true stays = number_is_below m.wishes.date (agreed_name m.wishes.user.name m.device.user (slot_of m).marks) (slot_of m).marks.user
+          (m.device.user.user ∷ numbers_of (marks_of m.slots))
+      by false true = sound.slot.number
+      by false false = sound.device.bounded.user.number
 
   fit-end : FitsOne (end_mark m)
   fit-end =
       let name = name_of_both sound in
-      mark_fits (done_user m.wishes.date m.device.user (slot_of m).marks) 0xF0 user_of_both sound.device.bounded.user.viewer sound.slot.pc (lit< tt)
+      mark_fits (done_user m.device.user (done_of m)) 0xF0 user_of_both sound.device.bounded.user.viewer sound.slot.pc (lit< tt)
       name.0 name.1
 
   pub fit-before : Fit (before_writes m)

@@ -1,3 +1,4 @@
+pub mod AgainPlaces
 pub mod AlongLaws
 pub mod AmongActs
 pub mod AnsweredLaws
@@ -16,6 +17,7 @@ pub mod EventLaws
 pub mod FilledLaws
 pub mod FirstLaws
 pub mod FitLaws
+pub mod FoundPlaces
 pub mod FrontLaws
 pub mod GivenLaws
 pub mod HandheldLaws

@@ -24,7 +24,7 @@ use Rattle.sync_session.specs.Reads.{read_acts}
 use Rattle.sync_session.specs.Sessions.{after_commit, before_commit, before_writes, listing_all, session, begin_mark, end_mark}
 use Rattle.session_plan.specs.Skips.{active}
 use Rattle.session_plan.specs.Tasks.{Meeting, Task, records_of, slot_of}
-use Rattle.session_plan.specs.Users.{agreed_name, begun_user, done_user}
+use Rattle.session_plan.specs.Users.{begun_user, done_of, done_user, is_named_first, slots_user_stays}
 use Rattle.front_laws.specs.Given.{GetFreeIds}
 use Rattle.front_laws.specs.Sound.{IsSoundMeeting}
 use Rattle.front_laws.proofs.EachLaws.{changed-each, others-each, put_each, rise-each, same-each}
@@ -36,6 +36,9 @@ use Rattle.front_laws.proofs.TaskActs.{AreGiven, with_news}
 use Rattle.desktop_session.proofs.ListLaws.{after_append}
 
 -- ---- before the first write
+
+abbrev IsName : List ℕ → Type 0
+IsName name = (length name ≤ 40) × (list_any (λ byte. byte == 0) name ≡ false)
 
 module _ {m : Meeting} (sound : IsSoundMeeting m) where
   pub closed_device : m.device ≡ all_closed m.device.databases m.device.user
@@ -63,18 +66,23 @@ module _ {m : Meeting} (sound : IsSoundMeeting m) where
       → (acted (begin_mark m) (all_closed databases m.device.user)).1 ≡ all_closed databases (begun_user m.device.user)
   begun databases = marked_does (all_closed databases m.device.user) (begun_user m.device.user) 0x40 begin_is
 
-  pub name_of_both : (length (agreed_name m.device.user (slot_of m).marks) ≤ 40) ×
-      (list_any (λ byte. byte == 0) (agreed_name m.device.user (slot_of m).marks) ≡ false)
-  name_of_both = grind arith
+  pub name_of_both : (length (done_of m).name ≤ 40) × (list_any (λ byte. byte == 0) (done_of m).name ≡ false)
+  name_of_both = by (is_named_first m.wishes.user.name m.device.user (slot_of m).marks) (slots_user_stays m.device.user (slot_of m).marks)
+    where
+      by : (first stays : Bool)
+          → IsName (if first then m.wishes.user.name else if stays then (slot_of m).marks.name else m.device.user.name)
+      by true stays = (sound.asked.short, sound.asked.no_zero)
+      by false true = (sound.slot.short, sound.slot.no_zero)
+      by false false = (sound.device.bounded.user.short, sound.device.bounded.user.no_zero)
 
-  pub end_is : IsMark (done_user m.wishes.date m.device.user (slot_of m).marks)
+  pub end_is : IsMark (done_user m.device.user (done_of m))
   end_is = grind (arith, name_of_both)
 
   pub done : (databases : List DatabaseValue)
       → (acted (end_mark m) (all_closed databases (begun_user m.device.user))).1 ≡ all_closed databases
-      (done_user m.wishes.date m.device.user (slot_of m).marks)
+      (done_user m.device.user (done_of m))
   done databases =
-      marked_does (all_closed databases (begun_user m.device.user)) (done_user m.wishes.date m.device.user (slot_of m).marks) 0xF0 end_is
+      marked_does (all_closed databases (begun_user m.device.user)) (done_user m.device.user (done_of m)) 0xF0 end_is
 
 pub ended : (databases : List DatabaseValue) (user : UserInfo) → (acted ending (all_closed databases user)).1 ≡ all_closed databases user
 unfolding acted tried
@@ -162,5 +170,5 @@ merged m given sound none free =
     ∙ after_append purges last (all_closed news user)
     ∙ ap (device_after last) gone
     ∙ ap (λ (d : Device). (acted ending d).1) (done sound whole)
-    ∙ ended whole (done_user m.wishes.date m.device.user (slot_of m).marks)
-    ∙ ap (λ (ds : List DatabaseValue). all_closed ds (done_user m.wishes.date m.device.user (slot_of m).marks)) (both m given sound first.dealt)
+    ∙ ended whole (done_user m.device.user (done_of m))
+    ∙ ap (λ (ds : List DatabaseValue). all_closed ds (done_user m.device.user (done_of m))) (both m given sound first.dealt)

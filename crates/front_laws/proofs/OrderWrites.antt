@@ -34,8 +34,8 @@ use Rattle.sync_session.specs.News.{all_news, block_act, block_acts, made, news_
 use Rattle.sync_session.specs.Reads.{opened}
 use Rattle.sync_session.specs.Sessions.{after_commit, before_commit, before_writes, session, begin_mark, end_mark}
 use Rattle.session_plan.specs.Skips.{active}
-use Rattle.session_plan.specs.Tasks.{Meeting, Task, slot_of}
-use Rattle.session_plan.specs.Users.{begun_user, done_user}
+use Rattle.session_plan.specs.Tasks.{Meeting, Task}
+use Rattle.session_plan.specs.Users.{begun_user, done_of, done_user}
 use Rattle.front_laws.specs.Given.{GetFreeIds}
 use Rattle.front_laws.specs.Sound.{IsSoundMeeting}
 use Rattle.front_laws.proofs.EachLaws.{AreChanged, AreReady, HaveNames, changed-each, changed-other, put_at_task, put_each}
@@ -302,7 +302,7 @@ end_orderly : (m : Meeting) → IsSoundMeeting m → (databases : List DatabaseV
     → Orderly (end_mark m ∷ ending ∷ []) (all_closed databases (begun_user m.device.user))
 unfolding IsPossible
 end_orderly m sound databases =
-    grind (arith, mark_possible (all_closed databases (begun_user m.device.user)) (done_user m.wishes.date m.device.user (slot_of m).marks) 0xF0 (end_is sound))
+    grind (arith, mark_possible (all_closed databases (begun_user m.device.user)) (done_user m.device.user (done_of m)) 0xF0 (end_is sound))
 
 session_orderly : (m : Meeting) (given : List ℕ) → IsSoundMeeting m → first_over m ≡ None → Orderly (session m given) m.device
 unfolding session after_commit
@@ -340,7 +340,7 @@ session-closed m given sound none free =
     let gone = flat_map (purge_acts m) (active m) in
     let last : List Act = end_mark m ∷ [] in
     let changed = changed-each m (with_news m) (news-keep m) (active m) ready given m.device.databases (have-names m) in
-    let does : device_after (first ++ (gone ++ last)) m.device ≡ all_closed whole (done_user m.wishes.date m.device.user (slot_of m).marks) =
+    let does : device_after (first ++ (gone ++ last)) m.device ≡ all_closed whole (done_user m.device.user (done_of m)) =
     after_append first (gone ++ last) m.device
     ∙ ap (device_after (gone ++ last)) (committed given sound none (free-front first (gone ++ end_mark m ∷ ending ∷ []) m.device free)).does
     ∙ after_append gone last (all_closed news user)

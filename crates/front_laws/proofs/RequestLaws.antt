@@ -1,5 +1,5 @@
 -- The requests of a session, up to its commit and behind it, and both sides before it.
-use Rattle.std.proofs.Common.{◌≡◌, ◌⊎◌, ◌∙◌, ◌^◌, ◌≤◌, ◌<◌, ap, append_assoc, refl, sym, arith, ℕ, List, ◌∷◌, ◌++◌, length}
+use Rattle.std.proofs.Common.{◌≡◌, ◌⊎◌, ◌∙◌, ◌≤◌, ◌<◌, ap, append_assoc, refl, sym, arith, ℕ, List, ◌∷◌, ◌++◌, length}
 use Rattle.std.specs.Prelude.{Option, Some, None, IsSome, filter, map, replicate}
 use Rattle.std.proofs.lemmas.List.{length-append, map-append}
 use Rattle.hs_folders.specs.FileMaps.{FileMap}
@@ -22,7 +22,7 @@ use Rattle.sync_session.specs.Sessions.{adds_of, after_commit, before_commit, be
 use Rattle.session_parts.specs.Rests.{IsAtRest}
 use Rattle.session_plan.specs.Tasks.{Meeting, meeting_of, place_for}
 use Rattle.session_plan.specs.declared.wishes.Wishes.{Wishes}
-use Rattle.front_laws.specs.Sound.{IsSoundMeeting}
+use Rattle.front_laws.specs.Sound.{AreSoundWishes, IsSoundMeeting}
 
 -- ---- the session's requests
 
@@ -73,6 +73,6 @@ stood_or_merged meeting given files before after since = grind (arith, moments_w
 -- ---- both sides before it
 
 -- with an opened desktop it can have a session
-pub sound_meeting : {device : Device} (slots : List SlotValue) (wishes : Wishes) → IsAtRest device → AreBounded slots → wishes.date < 2 ^ 32
+pub sound_meeting : {device : Device} (slots : List SlotValue) (wishes : Wishes) → IsAtRest device → AreBounded slots → AreSoundWishes wishes
     → IsSoundMeeting (meeting_of device slots wishes)
-sound_meeting {device} slots wishes rests bounded date = grind (arith, bounded_at slots (place_for device slots wishes.add_user) bounded)
+sound_meeting {device} slots wishes rests bounded asked = grind (arith, bounded_at slots (place_for device slots wishes.user) bounded)

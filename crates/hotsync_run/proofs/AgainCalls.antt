@@ -4,6 +4,7 @@ use Rattle.std.specs.Prelude.{Option, IfSome}
 use Rattle.std.specs.Option.{option_map}
 use Rattle.hs_folders.specs.FileMaps.{FileMap}
 use Rattle.run_words.specs.Runs.{run_actions}
+use Rattle.run_words.specs.UserNames.{wished_name}
 use Rattle.handheld_files.specs.Openings.{HoldsAll}
 use Rattle.desk_journal.specs.Overlays.{FinishesAs, finished}
 use Rattle.desk_store.specs.Desks.{IsDesk}
@@ -30,7 +31,6 @@ abbrev pub ran-of : (call : RunCall) → SessionRan call.run call.before call.af
 ran-of call ran = record {
   rules = ran.rules;
   meeting = ran.meeting;
-  add = ran.meeting.wishes.add_user;
   before = call.before;
   after = call.after;
   report = call.report;
@@ -57,6 +57,7 @@ record AreSessions (call : RunCall) (later : List RunCall) : Type 0 where
   desk : FinishesAs call.before.desk.contents ran.before.desk.contents
   actions : run_actions first.run ≡ run_actions call.run
   slow : first.run.slow ≡ call.run.slow
+  user : first.run.user ≡ call.run.user
   last_given : given_in (last_ran ran others) ≡ (log_in (last_call call later).report).given
   last_after : (last_ran ran others).after ≡ (last_call call later).after
 
@@ -80,6 +81,7 @@ last-session call all =
       desk = refl;
       actions = refl;
       slow = refl;
+      user = refl;
       last_given = refl;
       last_after = refl;
     }
@@ -113,6 +115,7 @@ module _ (call next : RunCall) (later : List RunCall) (did : DidRun call) (repea
         desk = behind.desk ∙ desk;
         actions = behind.actions ∙ repeat.actions;
         slow = behind.slow ∙ repeat.slow;
+        user = behind.user ∙ repeat.user;
         last_given = behind.last_given;
         last_after = behind.last_after;
       }
@@ -140,6 +143,7 @@ module _ (call next : RunCall) (later : List RunCall) (did : DidRun call) (repea
               actions = asked.actions ∙ behind.actions ∙ repeat.actions ∙ sym session.meets.asked.actions;
               slow = asked.slow ∙ behind.slow ∙ repeat.slow ∙ sym session.meets.asked.slow;
             };
+            names = asked.user ∙ ap wished_name (behind.user ∙ repeat.user) ∙ sym session.meets.asked.user;
             palm = behind.palm ∙ repeat.palm;
             desk = behind.desk ∙ ap (λ (told : Option FileMap). option_map finished told) repeat.desk;
             stopped = stopped;
@@ -154,6 +158,7 @@ module _ (call next : RunCall) (later : List RunCall) (did : DidRun call) (repea
         desk = refl;
         actions = refl;
         slow = refl;
+        user = refl;
         last_given = behind.last_given;
         last_after = behind.last_after;
       }

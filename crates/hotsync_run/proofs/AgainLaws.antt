@@ -1,6 +1,6 @@
 -- What a run left is what the next one meets: so the last one takes up all that came before.
-use Rattle.std.proofs.Common.{◌≡◌, ◌⊎◌, ◌∙◌, ◌≤◌, ◌<◌, ap, refl, sym, subst, arith, inl, inr, ℕ, Bool, List, [], ◌∷◌, length, map}
-use Rattle.std.specs.Prelude.{Option, Some, None, IfSome, IsSome, filter, replicate}
+use Rattle.std.proofs.Common.{◌≡◌, ◌⊎◌, ◌∙◌, ◌≤◌, ◌<◌, ap, refl, sym, subst, arith, inl, inr, ℕ, List, [], ◌∷◌, length, map}
+use Rattle.std.specs.Prelude.{Option, Some, None, IfSome, IsErr, IsSome, is_err, filter, replicate}
 use Rattle.std.specs.Option.{option_map}
 use Rattle.std.proofs.lemmas.List.{length-append, map-append}
 use Rattle.hs_folders.specs.FileMaps.{FileMap}
@@ -10,7 +10,7 @@ use Rattle.dlp_commands.proofs.StepLaws.{changes-text}
 use Rattle.handheld_files.specs.Openings.{HoldsAll, Stands}
 use Rattle.desk_journal.specs.Overlays.{FinishesAs, finished}
 use Rattle.desk_store.specs.Desks.{IsDesk}
-use Rattle.desk_store.specs.Shelves.{slot_at}
+use Rattle.desk_store.specs.Shelves.{marks_of, slot_at}
 use Rattle.desk_store.proofs.OpenLaws.{picked_number}
 use Rattle.desktop_session.specs.Acts.{text}
 use Rattle.line_script.specs.Rules.{RuleValue}
@@ -22,7 +22,13 @@ use Rattle.sync_session.proofs.OutcomeLaws.{desk_stands}
 use Rattle.sync_session.specs.Sessions.{adds_of, after_commit, before_commit, before_writes, requests, writes_before_commit, begin_mark}
 use Rattle.session_plan.specs.Skips.{active}
 use Rattle.session_plan.specs.Tasks.{Meeting, place_for, slot_of}
-use Rattle.session_plan.specs.Users.{agreed_user}
+use Rattle.session_plan.specs.Users.{done_of}
+use Rattle.desktop_session.specs.Greetings.{user_with}
+use Rattle.desktop_session.specs.Seats.{seat_for}
+use Rattle.session_parts.specs.Meets.{IsSeated}
+use Rattle.pdb_values.specs.declared.slot.Slot.{Slot}
+use Rattle.pdb_values.specs.declared.slot.Slot.TheVariants as slot
+use Rattle.sync_session.specs.Outcomes.{seat_of}
 use Rattle.front_laws.specs.Meetings.{AsksTheSame, IsActive, action_at, found_of, ids_at}
 use Rattle.front_laws.specs.Repeats.{GotAllIds}
 use Rattle.front_laws.specs.Again.{AllRunAgain, HasSlot, Later, RunsAgain, last_run}
@@ -43,7 +49,7 @@ use Rattle.front_laws.proofs.RequestLaws.{no-limit, parts-are, writes-before}
 use Rattle.hotsync_run.proofs.OneLaws.{IsOne, same_handheld, same_slots, told_slots}
 use Rattle.hotsync_run.proofs.OverLaws.{MeetsTheSame, over-same}
 use Rattle.cmd_files.proofs.QuietRuns.{IsKept, quiet-run}
-use Rattle.hotsync_run.proofs.SkippedLaws.{no-changes}
+use Rattle.hotsync_run.proofs.SkippedLaws.{asked-none, no-changes}
 use Rattle.front_laws.proofs.SlotLaws.{merged-picked, merged-place, picked-near, same-place}
 
 -- ---- a session
@@ -52,11 +58,10 @@ use Rattle.front_laws.proofs.SlotLaws.{merged-picked, merged-place, picked-near,
 pub record Ran : Type 0 where
   pub rules : List RuleValue
   pub meeting : Meeting
-  pub add : Bool
   pub before : CallTold
   pub after : CallTold
   pub report : Report
-  pub picked : meeting.picked ≡ place_for meeting.device meeting.slots add
+  pub picked : meeting.picked ≡ place_for meeting.device meeting.slots meeting.wishes.user
   pub handheld : IfSome before.palm.contents (λ held. HoldsAll held meeting.device.databases meeting.device.user)
   pub desktop : IsDesk (option_map finished before.desk.contents) meeting.slots
   pub line : LineRan rules meeting.device before.palm after.palm report
@@ -102,14 +107,36 @@ pub record WroteNone (ran : Ran) : Type 0 where
   pub kept : IsKept ran.meeting.device ran.line.last
   pub none : ran.report.writes ≡ 0
 
+-- no request that was performed changes anything
+wrote_by : (ran : Ran) → filter changes (log_in ran.report).performed ≡ [] → WroteNone ran
+unfolding write_count
+wrote_by ran none =
+    let log = log_in ran.report in
+    record {
+      kept = quiet-run log.performed log.replies ran.meeting.device ran.line.last none ran.line.ran.ran;
+      none = ran.line.writes ∙ ap length none;
+    }
+
 -- which is so where a limit would be passed
 pub wrote_none : (ran : Ran) → IsSome (first_over ran.meeting) → WroteNone ran
-unfolding write_count
-wrote_none ran over =
-    let m = ran.meeting in
-    let log = log_in ran.report in
-    let none = no-changes ran.line m (ran.left.over over) in
-    record { kept = quiet-run log.performed log.replies m.device ran.line.last none ran.line.ran.ran; none = ran.line.writes ∙ ap length none }
+wrote_none ran over = wrote_by ran (no-changes ran.line ran.meeting (ran.left.over over))
+
+-- and where the handheld has no slot
+pub wrote-unseated : (ran : Ran) → IsErr (seat_of ran.meeting) → WroteNone ran
+wrote-unseated ran unseated = wrote_by ran (asked-none ran.line (ran.left.unseated unseated))
+
+-- it has one, or not
+abbrev pub HasSeat : Meeting → Type 0
+HasSeat m = IsSeated (seat_for (marks_of m.slots) m.wishes.user m.device.user)
+
+pub seated_or : (m : Meeting) → HasSeat m ⊎ IsErr (seat_of m)
+seated_or m = by (seat_for (marks_of m.slots) m.wishes.user m.device.user) refl
+  where
+    by : (found : Slot) → seat_for (marks_of m.slots) m.wishes.user m.device.user ≡ found → IsSeated found ⊎ IsErr (seat_of m)
+    by (slot.Old place) is = inl tt
+    by slot.New is = inl tt
+    by slot.Refused is = inr (ap (λ f. is_err (user_with (marks_of m.slots) m.device.user f)) is)
+    by slot.Full is = inr (ap (λ f. is_err (user_with (marks_of m.slots) m.device.user f)) is)
 
 -- ---- what the next one meets
 
@@ -124,6 +151,7 @@ pub record Precedes (ran next : Ran) : Type 0 where
   pub told : AreTold ran.before
   pub next_told : AreTold next.before
   pub asks : AsksTheSame ran.meeting next.meeting
+  pub names : next.meeting.wishes.user.name ≡ ran.meeting.wishes.user.name
   pub palm : next.before.palm.contents ≡ ran.after.palm.contents
   pub desk : FinishesAs ran.after.desk.contents next.before.desk.contents
   pub stopped : StoppedBefore ran.meeting ran.before.desk ran.after.desk ran.report ⊎ StoppedBehind ran.meeting ran.after.desk ran.report
@@ -176,7 +204,8 @@ first-none ran next is none_next = by (first_over ran.meeting) refl
           databases = one.databases ∙ wrote.kept.databases;
           user = user;
           slots = slots;
-          picked = same-place ran.meeting next.meeting ran.add next.add ran.picked next.picked slots (ap (λ (u : UserInfo). u.user) user);
+          picked = same-place ran.meeting next.meeting ran.picked next.picked is.names slots
+              (ap (λ (u : UserInfo). u.user) user, ap (λ (u : UserInfo). u.name) user);
           actions = is.asks.actions;
           slow = is.asks.slow;
         } in
@@ -195,13 +224,28 @@ first-none ran next is none_next = by (first_over ran.meeting) refl
 pub number-of : {told : Option FileMap} (m : Meeting) → IsDesk told m.slots → 0 < (slot_of m).marks.pc
 number-of {told} m is = subst (λ n. 0 < n) (sym (picked_number told m.slots m.picked is)) is.formed.number
 
-pub user-begun : {m : Meeting} (next : Meeting) {given : List ℕ} → StandsAmongNews m given next.device → next.device.user.user ≡ m.device.user.user
-user-begun next stands = grind arith
+pub user-begun : {m : Meeting} (next : Meeting) {given : List ℕ} → StandsAmongNews m given next.device
+    → (next.device.user.user ≡ m.device.user.user) × (next.device.user.name ≡ m.device.user.name)
+user-begun next stands = elim stands.begun [
+  | inl begun ↦ (ap (λ (u : UserInfo). u.user) begun, ap (λ (u : UserInfo). u.name) begun)
+  | inr same ↦ (ap (λ (u : UserInfo). u.user) same.0, ap (λ (u : UserInfo). u.name) same.0)
+]
 
 pub user-done : {m : Meeting} (next : Meeting) {given : List ℕ} → StandsBehindCommit m given next.device
-    → (next.device.user.user ≡ m.device.user.user) ⊎ (next.device.user.user ≡ agreed_user m.device.user (slot_of m).marks)
+    → ((next.device.user.user ≡ m.device.user.user) × (next.device.user.name ≡ m.device.user.name))
+    ⊎ ((next.device.user.user ≡ (done_of m).user) × (next.device.user.name ≡ (done_of m).name))
 unfolding merged_device
-user-done next stands = grind arith
+user-done next stands = elim stands.ended [
+  | inl begun ↦ inl (ap (λ (u : UserInfo). u.user) begun, ap (λ (u : UserInfo). u.name) begun)
+  | inr merged ↦ inr (ap (λ (u : UserInfo). u.user) merged.0, ap (λ (u : UserInfo). u.name) merged.0)
+]
+
+-- a session that came to the commit had a slot for the handheld: else it asked for the user alone
+pub seated-behind : (ran : Ran) → StoppedBehind ran.meeting ran.after.desk ran.report → HasSeat ran.meeting
+seated-behind ran b = elim (seated_or ran.meeting) [
+  | inl seated ↦ seated
+  | inr unseated ↦ absurd (let some = some_writes ran.meeting in let wrote = wrote-unseated ran unseated in omega (arith, some, b.writes, wrote.none))
+]
 
 -- where the one stopped, as the next one finds it
 pub record IsFound (m next : Meeting) (writes : ℕ) (given : List ℕ) : Type 0 where
@@ -215,7 +259,7 @@ module _ {ran next : Ran} (is : Precedes ran next) (none : first_over ran.meetin
       let m = ran.meeting in
       let stands = front-among m ran.report.writes (given_in ran) next.meeting.device ran.left.sound none (met-front is) b.writes in
       let slots = slots-before is b in
-      let picked = same-place m next.meeting ran.add next.add ran.picked next.picked slots (user-begun next.meeting stands) in
+      let picked = same-place m next.meeting ran.picked next.picked is.names slots (user-begun next.meeting stands) in
       let slot : slot_of next.meeting ≡ slot_of m = (λ k. slot_at (slots k) (picked k)) in
       record { picked = picked; slot = inl (slot, b.writes); kept = λ name active. active-among m next.meeting (given_in ran) stands name active is.asks slot }
 
@@ -224,9 +268,10 @@ module _ {ran next : Ran} (is : Precedes ran next) (none : first_over ran.meetin
       let m = ran.meeting in
       let stands = front-behind m ran.report.writes (given_in ran) next.meeting.device ran.left.sound none (met-front is) b.writes in
       let slots = slots-behind ran next is b in
-      let picked = merged-place m next.meeting (given_in ran) ran.add next.add ran.picked next.picked slots (user-done next.meeting stands) in
+      let picked = merged-place m next.meeting (given_in ran) ran.desktop.formed (seated-behind ran b) ran.picked next.picked (inl is.names) slots
+      (user-done next.meeting stands) in
       let slot : slot_of next.meeting ≡ merged_slot m (given_in ran) =
-      (λ k. slot_at (slots k) (picked k)) ∙ merged-picked m (given_in ran) (picked-near m ran.add ran.picked) in
+      (λ k. slot_at (slots k) (picked k)) ∙ merged-picked m (given_in ran) (picked-near m m.wishes.user ran.picked) in
       record { picked = picked; slot = inr (slot, b.writes); kept = λ name active. active-behind m next.meeting (given_in ran) stands name active is.asks slot }
 
   pub is-found : IsFound ran.meeting next.meeting ran.report.writes (given_in ran)
@@ -305,7 +350,7 @@ taken-up ran later all =
       desktop = subst (λ (m : Meeting). IsDesk last.after.desk.contents (merged_slots m given)) now ended.desktop;
       slot = subst (λ (m : Meeting). slot_at (merged_slots m given) ran.meeting.picked ≡ merged_slot m given) now
           (subst (λ k. slot_at (merged_slots last.meeting given) k ≡ merged_slot last.meeting given) on.picked
-          (merged-picked last.meeting given (picked-near last.meeting last.add last.picked)));
+          (merged-picked last.meeting given (picked-near last.meeting last.meeting.wishes.user last.picked)));
       kept = λ name active. subst (λ (m : Meeting). IsActive m name) now (on.kept name active);
       each = λ name new active fresh can.
           (all-run_again ran.meeting (laters ran later) given new name ran.left.sound (runs-all ran later all) active fresh

@@ -27,6 +27,6 @@ ends-equal call is end =
       handheld = whole.handheld;
       desktop = whole.desktop;
       each = λ name active shown. subst (λ (slot : SlotValue). HasEqualSides (holding (merged_device m given) slot name))
-          (sym (merged-picked m given (picked-near m ran.add ran.picked)))
+          (sym (merged-picked m given (picked-near m m.wishes.user ran.picked)))
           (holds-equal m given name ran.left.sound active shown (got-of ran whole name active));
     }

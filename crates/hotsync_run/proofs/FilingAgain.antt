@@ -1,16 +1,16 @@
 -- Categories that were brought together stay as they are, and those of a session that stopped are made up for.
 use Rattle.std.proofs.Math.Seq.{map-set_same}
-use Rattle.std.proofs.Common.{◌≡◌, ◌∙◌, ◌⊎◌, ap, arith, inl, inr, refl, subst, sym, ℕ, false, List, [], ◌∷◌, length, take}
+use Rattle.std.proofs.Common.{◌≡◌, ◌∙◌, ◌⊎◌, ap, arith, inl, inr, refl, subst, sym, ℕ, List, [], ◌∷◌, length, take}
 use Rattle.std.specs.Prelude.{IsErr, IsOk, Option, None, Some, Result, Ok, Err}
 use Rattle.std.specs.Option.{option_map}
 use Rattle.hs_folders.specs.FileMaps.{FileMap}
-use Rattle.pdb_values.specs.Slots.{slot_for}
+use Rattle.pdb_values.specs.declared.user.Marks.{Marks}
+use Rattle.desktop_session.specs.Seats.{no_wish, seat_for}
 use Rattle.pdb_values.specs.declared.slot.Slot.{Slot}
 use Rattle.pdb_values.specs.declared.slot.Slot.TheVariants as slot
 use Rattle.desk_store.specs.declared.change.DbChange.{DbChange}
 use Rattle.pdb_values.specs.declared.user.UserInfo.{UserInfo}
 use Rattle.palm_device.specs.Devices.{Device}
-use Rattle.folder_files.specs.Slots.{users_of}
 use Rattle.handheld_files.specs.Openings.{Stands}
 use Rattle.desk_journal.specs.Overlays.{FinishesAs, finished}
 use Rattle.desk_store.specs.Desks.{IsDesk}
@@ -21,12 +21,12 @@ use Rattle.desktop_session.specs.Greetings.{user_with}
 use Rattle.desktop_session.specs.Requests.{reading_user}
 use Rattle.desktop_session.specs.Says.{IsPrefix}
 use Rattle.desktop_session.specs.declared.fault.SessionFault.{SessionFault}
-use Rattle.category_mirror.specs.FilingEnds.{IsFileable, StandsFiled, seat_of, users_in}
+use Rattle.category_mirror.specs.FilingEnds.{IsFileable, StandsFiled, marks_in, seat_of}
 use Rattle.category_mirror.specs.Sides.{Filing, StandsBehind, StandsMarked, StandsUnmarked, block_writes, device_among, filed_device, filed_slots, filing_changes, filing_of, names}
 use Rattle.category_mirror.specs.FilingActs.{marked_user}
-use Rattle.category_mirror.proofs.MarkLaws.{marked-user}
+use Rattle.category_mirror.proofs.TwiceLaws.{marked-seat}
 use Rattle.category_mirror.proofs.DoneLaws.{among_all, filed_closed}
-use Rattle.category_mirror.proofs.RepeatLaws.{marked_device, marked_slots, second_changes, second_device, second_slots, stopped_device, stopped_slots}
+use Rattle.category_mirror.proofs.TwiceLaws.{marked_device, marked_slots, second_changes, second_device, second_slots, stopped_device, stopped_slots}
 use Rattle.run_words.specs.Betweens.{Between}
 use Rattle.cmd_status.specs.declared.status.Status.{Status}
 use Rattle.hotsync_run.specs.Calls.{Call}
@@ -53,25 +53,25 @@ still : (told : Option FileMap) {slots : List SlotValue} → IsDesk told slots �
 still None desk = desk
 still (Some held) {slots} desk = subst (λ (f : FileMap). IsDesk (Some f) slots) (sym (plain_finished held desk.stands.no_journal)) desk
 
--- a session leaves the users of the slots as they are
-filed_users : (filing : Filing) → users_in (record { device = filed_device filing; slots = filed_slots filing; picked = filing.picked }) ≡ users_in filing
+-- a session leaves the marks of the slots as they are
+filed_marks : (filing : Filing) → marks_in (record { device = filed_device filing; slots = filed_slots filing; picked = filing.picked }) ≡ marks_in filing
 unfolding filed_slots
-filed_users filing = ap users_of (map-set_same (λ (s : SlotValue). s.marks) filing.slots filing.picked _ (new_slot (number_of filing.slots)) refl)
+filed_marks filing = map-set_same (λ (s : SlotValue). s.marks) filing.slots filing.picked _ (new_slot (number_of filing.slots)) refl
 
 -- a mark leaves a user a slot, or none
-ok_with : (users : List ℕ) (changes : List DbChange) (user : UserInfo) (found : Slot)
-    → IsOk (user_with users (marked_user changes user) found) → IsOk (user_with users user found)
-ok_with users changes user (slot.Old place) is = refl
-ok_with users changes user slot.New is = refl
-ok_with users changes user slot.Refused is = absurd (let never : ⊥ = cc in never)
-ok_with users changes user slot.Full is = absurd (let never : ⊥ = cc in never)
+ok_with : (marks : List Marks) (changes : List DbChange) (user : UserInfo) (found : Slot)
+    → IsOk (user_with marks (marked_user changes user) found) → IsOk (user_with marks user found)
+ok_with marks changes user (slot.Old place) is = refl
+ok_with marks changes user slot.New is = refl
+ok_with marks changes user slot.Refused is = absurd (let never : ⊥ = cc in never)
+ok_with marks changes user slot.Full is = absurd (let never : ⊥ = cc in never)
 
-err_with : (users : List ℕ) (changes : List DbChange) (user : UserInfo) (found : Slot)
-    → IsErr (user_with users user found) → IsErr (user_with users (marked_user changes user) found)
-err_with users changes user (slot.Old place) is = absurd (let never : ⊥ = cc in never)
-err_with users changes user slot.New is = absurd (let never : ⊥ = cc in never)
-err_with users changes user slot.Refused is = refl
-err_with users changes user slot.Full is = refl
+err_with : (marks : List Marks) (changes : List DbChange) (user : UserInfo) (found : Slot)
+    → IsErr (user_with marks user found) → IsErr (user_with marks (marked_user changes user) found)
+err_with marks changes user (slot.Old place) is = absurd (let never : ⊥ = cc in never)
+err_with marks changes user slot.New is = absurd (let never : ⊥ = cc in never)
+err_with marks changes user slot.Refused is = refl
+err_with marks changes user slot.Full is = refl
 
 -- ---- a session that ended
 
@@ -151,21 +151,21 @@ module _ (first second : Call) (is : IsSecondCall first second)
     known = marked_user (filing_changes filing) one.device.user
 
     -- both have the same users, and the same slot for the handheld's
-    again_seat : seat_of again ≡ user_with (users_in filing) known (slot_for (users_in filing) one.device.user.user false)
+    again_seat : seat_of again ≡ user_with (marks_in filing) known (seat_for (marks_in filing) no_wish one.device.user)
     unfolding filed_device
     again_seat =
         ap seat_of again_is
-        ∙ ap (λ (users : List ℕ). user_with users known (slot_for users known.user false)) (filed_users filing)
-        ∙ ap (λ n. user_with (users_in filing) known (slot_for (users_in filing) n false)) (marked-user (filing_changes filing) one.device.user)
+        ∙ ap (λ (marks : List Marks). user_with marks known (seat_for marks no_wish known)) (filed_marks filing)
+        ∙ ap (λ found. user_with (marks_in filing) known found) (marked-seat (filing_changes filing) one.device.user (marks_in filing))
 
     ok_seat : IsOk (seat_of again) → IsOk (seat_of filing)
     ok_seat is =
-        ok_with (users_in filing) (filing_changes filing) one.device.user (slot_for (users_in filing) one.device.user.user false) (subst IsOk again_seat is)
+        ok_with (marks_in filing) (filing_changes filing) one.device.user (seat_for (marks_in filing) no_wish one.device.user) (subst IsOk again_seat is)
 
     err_seat : IsErr (seat_of filing) → IsErr (seat_of again)
     err_seat is =
         subst IsErr (sym again_seat)
-        (err_with (users_in filing) (filing_changes filing) one.device.user (slot_for (users_in filing) one.device.user.user false) is)
+        (err_with (marks_in filing) (filing_changes filing) one.device.user (seat_for (marks_in filing) no_wish one.device.user) is)
 
     -- no row changes any more
     no_changes : filing_changes again ≡ []

@@ -164,7 +164,7 @@ rows-few {before} {slots} good desk =
 
 module _ (ran : Ran) (good : IsGoodDesktop ran.before.desk.contents) where
   few-merged : (given : List ℕ) → first_over ran.meeting ≡ None → all_rows (merged_slots ran.meeting given) ≤ 200
-  few-merged given none = merged-few ran.meeting given none (picked-near ran.meeting ran.add ran.picked) (rows-few good ran.desktop)
+  few-merged given none = merged-few ran.meeting given none (picked-near ran.meeting ran.meeting.wishes.user ran.picked) (rows-few good ran.desktop)
 
   good-behind : {now : Option FileMap} (given : List ℕ) → first_over ran.meeting ≡ None
       → ((files : FileMap) × (now ≡ Some files) × (finmap.get files device_info_file ≡ finmap.get good.held device_info_file))

@@ -6,6 +6,7 @@ use Rattle.palm_device.specs.Handles.{no_handles}
 use Rattle.desk_store.specs.Desks.{all_rows}
 use Rattle.desk_store.specs.Shelves.{SlotValue}
 use Rattle.run_words.specs.declared.action.NamedAction.{NamedAction}
+use Rattle.desktop_session.specs.Seats.{no_wish}
 use Rattle.session_plan.specs.Choosing.{agrees, choice, is_fast, sides, view}
 use Rattle.session_plan.specs.Limits.{first_behind, first_over, sizes_of, with_one}
 use Rattle.session_plan.specs.Skips.{active}
@@ -30,7 +31,7 @@ bare user slots picked slow actions = record {
   device = record { databases = []; user = user; handles = no_handles };
   slots = slots;
   picked = picked;
-  wishes = record { date = 0; slow = slow; add_user = false; actions = actions };
+  wishes = record { date = 0; slow = slow; user = no_wish; actions = actions };
 }
 
 sizes-bare : (meeting : Meeting) (actions : Vec NamedAction) (h d : ℕ) (task : Task)

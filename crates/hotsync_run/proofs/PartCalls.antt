@@ -10,10 +10,10 @@ use Rattle.desk_store.specs.Desks.{IsDesk}
 use Rattle.desk_store.specs.Shelves.{SlotValue, slot_at}
 use Rattle.session_plan.specs.Merges.{merged_device, merged_slot, merged_slots}
 use Rattle.session_plan.specs.Tasks.{Meeting, slot_of}
-use Rattle.session_plan.specs.Users.{agreed_user}
+use Rattle.session_plan.specs.Users.{done_of}
 use Rattle.front_laws.specs.Parts.{IsReadAnew, TakesNoPart}
 use Rattle.front_laws.proofs.PartLaws.{read-anew}
-use Rattle.front_laws.proofs.SlotLaws.{merged-picked, merged-place, picked-near}
+use Rattle.front_laws.proofs.SlotLaws.{merged-picked, merged-seated, picked-near}
 use Rattle.call_parts.specs.Causes.{ByEnd}
 use Rattle.call_parts.specs.SessionCalls.{SentNothing}
 use Rattle.call_parts.specs.Undisturbed.{AreGood}
@@ -26,7 +26,7 @@ use Rattle.hotsync_run.specs.Again.{AreTold}
 use Rattle.hotsync_run.specs.Headline.{IsAnsweredRun, RunCall}
 use Rattle.hotsync_run.specs.Lives.{BeginsAnew, LiveCall, RanBetween, RunsBehind, Sides, StandForSides}
 use Rattle.hotsync_run.proofs.AgainCalls.{ran-of, session_in}
-use Rattle.hotsync_run.proofs.AgainLaws.{Ran, ended-behind, given_in}
+use Rattle.hotsync_run.proofs.AgainLaws.{Ran, ended-behind, given_in, seated-behind}
 use Rattle.hotsync_run.proofs.LeftGoodLaws.{left-good, rows-few}
 use Rattle.hotsync_run.proofs.LifeCalls.{ended-life, has-few}
 use Rattle.hotsync_run.proofs.OneLaws.{same_handheld, told_slots}
@@ -34,9 +34,9 @@ use Rattle.hotsync_run.proofs.OneLaws.{same_handheld, told_slots}
 some_told : {told : Option FileMap} {held : FileMap} → told ≡ Some held → IsSome told
 some_told is = subst IsSome (sym is) refl
 
-user-merged : (m : Meeting) (given : List ℕ) → (merged_device m given).user.user ≡ agreed_user m.device.user (slot_of m).marks
+merged-user : (m : Meeting) (given : List ℕ) → ((merged_device m given).user.user ≡ (done_of m).user) × ((merged_device m given).user.name ≡ (done_of m).name)
 unfolding merged_device
-user-merged m given = refl
+merged-user m given = (refl, refl)
 
 module _ (call : RunCall) (did : IsAnsweredRun call) (good : AreGood call.before)
     (session : SessionRan call.run call.before call.after call.status call.report) (is : call.report.end ≡ Ended) where
@@ -57,10 +57,15 @@ module _ (call : RunCall) (did : IsAnsweredRun call) (good : AreGood call.before
       let desk = subst (λ (told : Option FileMap). IsDesk (option_map finished told) second.slots) behind.desk behind.meets.desktop in
       let stands = ended-behind ran ended in
       let slots : second.slots ≡ merged_slots m given = told_slots call.after.desk.contents (some_told after.desktop.is) stands.stands desk in
-      let user = ap (λ (u : UserInfo). u.user) one.user_is ∙ user-merged m given in
-      let picked = merged-place m second given m.wishes.add_user second.wishes.add_user session.meets.picked behind.meets.picked slots (inr user) in
+      let merged = merged-user m given in
+      let user : (second.device.user.user ≡ (done_of m).user) × (second.device.user.name ≡ (done_of m).name) =
+      (ap (λ (u : UserInfo). u.user) one.user_is ∙ merged.0, ap (λ (u : UserInfo). u.name) one.user_is ∙ merged.1) in
+      let asks : second.device.user.user ≡ 0 → second.wishes.user.name ≡ m.wishes.user.name =
+      λ none. behind.meets.asked.user ∙ behind.asks none ∙ sym session.meets.asked.user in
+      let picked = merged-seated m second given session.meets.desktop.formed (seated-behind ran stands) behind.seated session.meets.picked
+      behind.meets.picked asks slots (inr user) in
       let slot : slot_of second ≡ merged_slot m given =
-      (λ k. slot_at (slots k) (picked k)) ∙ merged-picked m given (picked-near m m.wishes.add_user session.meets.picked) in
+      (λ k. slot_at (slots k) (picked k)) ∙ merged-picked m given (picked-near m m.wishes.user session.meets.picked) in
       read-anew m second given name ran.left.sound (has-few m (rows-few good.desktop session.meets.desktop)) none (ap (λ (s : SlotValue). s.parted) slot)
 
 pub parted-next : (call : RunCall) → IsAnsweredRun call → AreGood call.before → call.report.end ≡ Ended
@@ -75,17 +80,18 @@ pub life-anew : (one : LiveCall) → RanBetween one → one.call.report.end ≡ 
 life-anew one ran is =
     let session = session_in one.call is ran.answered in
     let own = ran-of one.call session in
-    (session.meeting, session.meets, record { each = ended-life one ran session (own.left.ended is) })
+    let ended = own.left.ended is in
+    (session.meeting, session.meets, record { each = ended-life one ran session (seated-behind own (ended-behind own ended)) ended })
 
 -- ---- what a call leaves
 
 -- a session leaves the handheld behind its last step, and the slots as they were, or merged
-session-sides : (call : RunCall) → AreGood call.after → (session : SessionRan call.run call.before call.after call.status call.report)
+session-sides : (call : RunCall) (name : List ℕ) → AreGood call.after → (session : SessionRan call.run call.before call.after call.status call.report)
     → StoppedBefore session.meeting call.before.desk call.after.desk call.report ⊎ StoppedBehind session.meeting call.after.desk call.report
     → (after : Sides) × StandForSides call.after after
-session-sides call good session ends = elim ends [
+session-sides call name good session ends = elim ends [
   | inl before ↦ (
-    record { device = (ran-of call session).line.last; slots = session.meeting.slots },
+    record { device = (ran-of call session).line.last; slots = session.meeting.slots; name = name },
     record {
       tells = tells;
       handheld = (ran-of call session).line.stands;
@@ -93,7 +99,7 @@ session-sides call good session ends = elim ends [
     },
   )
   | inr behind ↦ (
-    record { device = (ran-of call session).line.last; slots = merged_slots session.meeting (given_in (ran-of call session)) },
+    record { device = (ran-of call session).line.last; slots = merged_slots session.meeting (given_in (ran-of call session)); name = name },
     record { tells = tells; handheld = (ran-of call session).line.stands; desktop = behind.stands },
   )
 ]
@@ -121,5 +127,5 @@ sides-left call before did good stands = by call.report.end refl (session_in cal
         desktop = subst (λ (told : Option FileMap). IsDesk told before.slots) (sym sent.desktop.stands.stands) stands.desktop;
       },
     )
-    by Stopped is session = session-sides call after session ((ran-of call session).left.stopped is)
-    by Ended is session = let ran = ran-of call session in session-sides call after session (inr (ended-behind ran (ran.left.ended is)))
+    by Stopped is session = session-sides call before.name after session ((ran-of call session).left.stopped is)
+    by Ended is session = let ran = ran-of call session in session-sides call before.name after session (inr (ended-behind ran (ran.left.ended is)))

@@ -10,6 +10,8 @@ use Rattle.palm_device.specs.Devices.{Device}
 use Rattle.dlp_commands.specs.Changes.{changes}
 use Rattle.dlp_commands.specs.DeviceRuns.{Exchange, Ran}
 use Rattle.desktop_session.specs.Acts.{text}
+use Rattle.desktop_session.specs.Requests.{reading_user}
+use Rattle.dlp_commands.proofs.StepLaws.{changes-text}
 use Rattle.desktop_session.specs.Says.{IsPrefix}
 use Rattle.line_script.specs.Rules.{RuleValue}
 use Rattle.sync_session.specs.Fronts.{MeetingFront}
@@ -60,6 +62,15 @@ module _ {rules : List RuleValue} {device : Device} {before after : FolderTold} 
   no-changes meeting over =
       let few = prefix-count (performed-prefix line.log over) in
       let count : length (filter changes (map text (before_writes meeting))) ≡ 0 = ap length (quiet-before_writes meeting) in
+      none-of (filter changes (log_in report).performed) (omega (arith, few, count))
+
+  -- nor were any where the user alone was asked for
+  pub asked-none : IsPrefix (log_in report).issued (text reading_user ∷ []) → filter changes (log_in report).performed ≡ []
+  unfolding text
+  asked-none asked =
+      let few = prefix-count (performed-prefix line.log asked) in
+      let quiet = changes-text reading_user.asks in
+      let count : length (filter changes (text reading_user ∷ [])) ≡ 0 = grind (arith, quiet) in
       none-of (filter changes (log_in report).performed) (omega (arith, few, count))
 
   none-front : (front back : List Exchange) → exchanges_in report ≡ front ++ back → filter changes (log_in report).performed ≡ []

@@ -37,10 +37,11 @@ abbrev pub DidRun : RunCall → Type 0
 DidRun call = AreTold call.before × IsAnsweredRun call
 
 -- nothing is edited between two calls, and the words ask the same, but for date, script, trace and
--- whether a user may be added
+-- whether a user may be added; a name that is asked for is the same
 pub record IsRepeat (call next : RunCall) : Type 0 where
   pub actions : run_actions next.run ≡ run_actions call.run
   pub slow : next.run.slow ≡ call.run.slow
+  pub user : next.run.user ≡ call.run.user
   pub palm : next.before.palm.contents ≡ call.after.palm.contents
   pub desk : next.before.desk.contents ≡ call.after.desk.contents
 

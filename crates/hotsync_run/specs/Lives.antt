@@ -1,6 +1,6 @@
 -- The life of a database over calls of `run` on one pair of folders, with edits of both sides between
 -- them.
-use Rattle.std.specs.Prelude.{◌≡◌, ◌⊎◌, ◌||◌, ℕ, Bool, true, false, List, [], ◌∷◌}
+use Rattle.std.specs.Prelude.{◌≡◌, ◌⊎◌, ◌==◌, ◌||◌, ℕ, Bool, true, false, List, [], ◌∷◌, if◌then◌else◌}
 use Rattle.std.specs.Option.{option_map}
 use Rattle.pdb_values.specs.Contents.{ContentValue}
 use Rattle.palm_device.specs.Devices.{Device}
@@ -8,9 +8,13 @@ use Rattle.conduit_rules.specs.declared.action.Action.{Action}
 use Rattle.handheld_files.specs.Openings.{Stands}
 use Rattle.desk_journal.specs.Overlays.{finished}
 use Rattle.desk_store.specs.Desks.{IsDesk}
-use Rattle.desk_store.specs.Shelves.{SlotValue, infos_of, slot_at}
+use Rattle.desk_store.specs.Shelves.{SlotValue, infos_of, marks_of, slot_at}
+use Rattle.desktop_session.specs.Seats.{seat_for}
+use Rattle.desktop_session.specs.declared.seat.UserWish.{UserWish}
 use Rattle.run_words.specs.Actions.{action_for}
 use Rattle.run_words.specs.Runs.{run_actions}
+use Rattle.run_words.specs.UserNames.{wished_name}
+use Rattle.session_parts.specs.Meets.{IsSeated}
 use Rattle.session_plan.specs.Choosing.{action_or_sync}
 use Rattle.session_plan.specs.Tasks.{Meeting, action_of_word, place_for}
 use Rattle.session_plan.specs.Users.{begun_user}
@@ -26,10 +30,12 @@ use Rattle.call_parts.specs.Undisturbed.{AreGood}
 
 -- ---- both sides
 
--- a handheld, and the slots of a desktop
+-- a handheld, the slots of a desktop, and the name of the user: while the handheld has no number it
+-- is asked for by this one
 pub record Sides : Type 0 where
   pub device : Device
   pub slots : List SlotValue
+  pub name : List ℕ
 
 -- two folders tell what they hold, and stand for these sides, once a journal that was left is
 -- finished
@@ -38,9 +44,16 @@ pub record StandForSides (told : CallTold) (sides : Sides) : Type 0 where
   pub handheld : Stands told.palm.contents sides.device.databases sides.device.user
   pub desktop : IsDesk (option_map finished told.desk.contents) sides.slots
 
+-- what is asked of the user by which the handheld's slot is found: the name, where it has no number
+abbrev pub own_wish : Sides → UserWish
+own_wish sides = record {
+  name = if sides.device.user.user == 0 then sides.name else [];
+  add = false;
+}
+
 -- the slot of the handheld's user
 abbrev pub own_slot : Sides → SlotValue
-own_slot sides = slot_at sides.slots (place_for sides.device sides.slots false)
+own_slot sides = slot_at sides.slots (place_for sides.device sides.slots (own_wish sides))
 
 -- what both sides hold of the database of a name
 abbrev pub held_of : Sides → List ℕ → Ending
@@ -55,9 +68,11 @@ pub record LiveCall : Type 0 where
   pub after : Sides
 
 -- whatever became of it: its folders could be opened, and stood for the first, and then for the
--- second
+-- second; a handheld that has a number may be asked for by any name
 pub record RanBetween (one : LiveCall) : Type 0 where
   pub answered : IsAnsweredRun one.call
+  pub asks : one.before.device.user.user ≡ 0 → wished_name one.call.run.user ≡ one.before.name
+  pub name : one.after.name ≡ one.before.name
   pub good : AreGood one.call.before
   pub before : StandForSides one.call.before one.before
   pub after : StandForSides one.call.after one.after
@@ -87,6 +102,7 @@ IsToldEdit name left found =
 -- desktop knows of its slots, the base rows and the archive of the database stay as they are; and
 -- all else may be edited too.
 pub record IsEdit (name : List ℕ) (left found : Sides) : Type 0 where
+  pub user : found.name ≡ left.name
   pub told : IsToldEdit name left found
   pub infos : infos_of found.slots ≡ infos_of left.slots
   pub base : (held_of found name).base ≡ (held_of left name).base
@@ -136,8 +152,11 @@ pub record BeginsAnew (one : LiveCall) (meeting : Meeting) : Type 0 where
 
 -- ---- two calls
 
--- a run over both folders as a call left them, whatever its words
+-- a run over both folders as a call left them, whatever its words: the handheld has a slot, and where
+-- it has no number the same name is asked for
 pub record RunsBehind (call next : RunCall) (meeting : Meeting) : Type 0 where
   pub palm : next.before.palm.contents ≡ call.after.palm.contents
   pub desk : next.before.desk.contents ≡ call.after.desk.contents
   pub meets : Meets next.run next.before meeting
+  pub seated : IsSeated (seat_for (marks_of meeting.slots) meeting.wishes.user meeting.device.user)
+  pub asks : meeting.device.user.user ≡ 0 → wished_name next.run.user ≡ wished_name call.run.user

@@ -133,7 +133,8 @@ pub fn stopped_runs_end_as_one()
 {}
 
 /// A database that took no part in a run that ended is read whole by the next one over both folders as it left them, whatever the words
-/// of both, and its gone rows count there.
+/// of both, and its gone rows count there. The handheld has a slot by the words of the next one, which ask for the same name where it has no
+/// number.
 pub fn what_took_no_part_is_read_whole_next()
     ensures { (call : RunCall) → IsAnsweredRun call → AreGood call.before → call.report.end ≡ Ended
         → (first : Meeting) × Meets call.run call.before first × ((next : RunCall)
@@ -143,8 +144,9 @@ pub fn what_took_no_part_is_read_whole_next()
 
 /// A lifetime loses nothing: over any list of runs of one pair of folders, whatever their words and whatever became of each, with edits of
 /// both sides between them that mark what they change on the handheld, a content of a database that was on a side before one of them, and
-/// that no edit and no action of one side let go, is live on a side or archived behind the last. A life begins where both sides never met,
-/// and anew behind each run that ended, for what is live there. Folders that could be opened before a run stand for both sides behind it.
+/// that no edit and no action of one side let go, is live on a side or archived behind the last. A handheld that has no number yet is asked
+/// for by one name, or by none. A life begins where both sides never met, and anew behind each run that ended, for what is live there. Folders
+/// that could be opened before a run stand for both sides behind it.
 pub fn a_life_of_runs_loses_nothing()
     ensures life { (c : ContentValue) (name : List ℕ) (one : LiveCall) (later : List LiveCall)
         → BeginsLife c name one.before → AllLetBe c name one later

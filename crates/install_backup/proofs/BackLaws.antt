@@ -3,20 +3,15 @@ use Rattle.std.proofs.lemmas.Grind.{common_steps}
 use Rattle.std.proofs.lemmas.Bool.Decides.{nat_tests}
 use Rattle.std.proofs.lemmas.List.{append-nil, map-append}
 use Rattle.std.proofs.Common.{arith, ltb-true, ◌≡◌, ◌≢◌, ◌∙◌, ◌<◌, ◌≤◌, ◌+◌, ◌-◌, ap, refl, sym, subst, inl, inr, ◌⊎◌, ℕ, zero, suc, true, false, List, [], ◌∷◌, ◌++◌, length, map, append_assoc}
-use Rattle.std.specs.Prelude.{Option, Some, None, IfErr, IfOk, IfSome, IsErrOf, OnOk, Result, Ok, Err, flat_map, max}
+use Rattle.std.specs.Prelude.{Option, Some, IfErr, IfOk, IfSome, IsErrOf, OnOk, Result, Ok, Err, flat_map, max}
 use Rattle.std.specs.Global.{Vec}
 use Rattle.std.specs.Option.{option_map}
 use Rattle.hs_folders.specs.FileMaps.{FileMap}
 use Rattle.hs_folders.specs.Moments.{EachMomentSince, Moments}
 use Rattle.hs_folders.proofs.MomentLaws.{no_moment}
 use Rattle.pdb_values.specs.Databases.{DatabaseValue}
-use Rattle.pdb_values.specs.Slots.{slot_for}
+use Rattle.desktop_session.specs.Seats.{no_wish, unclaimed}
 use Rattle.pdb_values.specs.declared.head.DbHead.{DbHead}
-use Rattle.pdb_values.specs.declared.slot.Slot.TheVariants as slot
-use Rattle.pdb_values.specs.declared.user.UserInfo.{UserInfo}
-use Rattle.dlp_replies.specs.declared.fault.ReplyFault.{ReplyFault}
-use Rattle.dlp_replies.specs.ReplyReading.{reply_at}
-use Rattle.dlp_replies.specs.ReplyValues.{ReplyValue}
 use Rattle.dlp_commands.specs.Links.{WentDown}
 use Rattle.dlp_commands.specs.declared.link.LinkFault.TheVariants as link_fault
 use Rattle.desk_journal.specs.Entries.{EntryValue}
@@ -24,15 +19,12 @@ use Rattle.desk_journal.specs.Overlays.{put_all}
 use Rattle.palm_device.specs.Devices.{Device}
 use Rattle.desktop_session.proofs.StopLaws.{does_then, fell_none, stops_more, stops_none, stops_then}
 use Rattle.desktop_session.proofs.WholeListLaws.{count_is, heads_are, more_is, head_of}
-use Rattle.desktop_session.specs.Answers.{answer_by, no_more, said_in, user_of}
-use Rattle.desktop_session.specs.Faults.{fault_of}
-use Rattle.desktop_session.specs.Greetings.{AnswersGreeting, begun_by, user_by, user_with}
 use Rattle.desktop_session.specs.Lists.{has_more, heads_listed, list_reply, listings}
 use Rattle.desktop_session.specs.Requests.{listing}
 use Rattle.desktop_session.specs.Tellings.{IsTellable, device_after}
 use Rattle.desktop_session.specs.declared.fault.SessionFault.TheVariants as session
 use Rattle.session_parts.specs.Causes.{IsLater}
-use Rattle.session_parts.specs.Meets.{IsUnlisted, Meets, MeetsOrNot, greeting, meeting_acts}
+use Rattle.session_parts.specs.Meets.{Meets, MeetsOrNot, greeting, meeting_acts}
 use Rattle.session_parts.specs.Leaving.{Leaves}
 use Rattle.session_parts.specs.Rests.{IsAtRest}
 use Rattle.session_parts.specs.Stretches.{AreFirst, EachSays, each_acts}
@@ -40,7 +32,6 @@ use Rattle.session_parts.specs.declared.meeting.Met.{Met}
 use Rattle.session_parts.specs.declared.stop.Stop.{Stop}
 use Rattle.session_parts.specs.declared.stop.Stop.TheVariants as stop
 use Rattle.desktop_session.specs.Lasts.{IsByLastReply}
-use Rattle.session_parts.proofs.CauseLaws.{later_by, later_said}
 use Rattle.session_parts.proofs.LinkWords.{Act, Does, Halted, LinkFault, SessionFault, Stops, Talk, ending, saying, text}
 use Rattle.session_parts.proofs.RestLaws.{greeting_same}
 use Rattle.session_parts.proofs.StretchLaws.{Leads, Tells, first_is, tells_on}
@@ -49,43 +40,10 @@ use Rattle.install_backup.specs.declared.moved.Moved.{Moved}
 use Rattle.install_backup.specs.BackupActs.{backup_acts, backup_of}
 use Rattle.install_backup.specs.BackupEnds.{BackupEnds, BackupWent, Finishes, backup_front, next_of, read_of}
 use Rattle.install_backup.specs.Backups.{HasSome, IsBackupCause, KeepsSome, SaysCopied, backups_under, file_of, kept_moved, next_acts}
+use Rattle.install_backup.proofs.HelloLaws.{unmet_later}
 use Rattle.install_backup.proofs.ReadWhole.{AreHeld, ReadsAll, acts_are, held_all, held_first, held_last, reads_all}
 use Rattle.desk_journal.proofs.StepLaws.{none_put}
 use Rattle.desktop_session.proofs.ListLaws.{after_append, listings_same}
-
--- ---- the user of a handheld, whoever that is, has the slot
-
-zero_slot : (user : ℕ) → slot_for (0 ∷ []) user false ≡ slot.Old 0
-zero_slot user = grind (arith, common_steps, nat_tests)
-
-retype : {A B : Type 0} (fault : Option LinkFault) (f cause : SessionFault) → ◌≡◌ {A = Result A SessionFault} (Err cause) (answer_by fault (Err f))
-    → ◌≡◌ {A = Result B SessionFault} (Err cause) (answer_by fault (Err f))
-retype None f cause is = let same : cause ≡ f = cc in ap (λ c. Err c) same
-retype (Some x) f cause is = let same : cause ≡ fault_of x = cc in ap (λ c. Err c) same
-
-unbegun : (talk : Option Talk) (fault : Option LinkFault) (read : Result ReplyValue ReplyFault) (user : UserInfo) (cause : SessionFault) (second : Result (Unit {0}) SessionFault)
-    → said_in 0x2E no_more read ≡ second → Err cause ≡ answer_by fault (begun_by (Ok user) second) → IsByLastReply talk cause → IsLater talk fault cause
-unbegun talk fault read user cause (Err f) said is last =
-    later_said 0x2E talk fault no_more read cause (retype fault f cause is ∙ ap (answer_by fault) (sym said)) last
-unbegun talk None read user cause (Ok done) said is last = absurd cc
-unbegun talk (Some x) read user cause (Ok done) said is last =
-    let same : cause ≡ fault_of x = cc in
-    later_said 0x2E talk (Some x) no_more read cause (ap (λ c. Err c) same) last
-
-greeted_by : (talk : Option Talk) (fault : Option LinkFault) (one two : Result ReplyValue ReplyFault) (cause : SessionFault) (first : Result UserInfo SessionFault)
-    → said_in 0x10 user_of one ≡ first → Err cause ≡ answer_by fault (begun_by (user_by (0 ∷ []) false first) (said_in 0x2E no_more two))
-    → IsByLastReply talk cause → IsLater talk fault cause
-greeted_by talk fault one two cause (Err f) said is last = later_said 0x10 talk fault user_of one cause (is ∙ ap (answer_by fault) (sym said)) last
-greeted_by talk fault one two cause (Ok user) said is last =
-    unbegun talk fault two user cause (said_in 0x2E no_more two) refl
-    (is ∙ ap (λ s. answer_by fault (begun_by (user_with (0 ∷ []) user s) (said_in 0x2E no_more two))) (zero_slot user.user)) last
-
-pub unmet_later : (told talk : Option Talk) (fault : Option LinkFault) (cause : SessionFault)
-    → AnswersGreeting (0 ∷ []) false told fault (Err cause) ⊎ IsUnlisted (0 ∷ []) false told fault cause → IsByLastReply talk cause
-    → IsLater talk fault cause
-unmet_later told talk fault cause (inl said) last =
-    greeted_by talk fault (reply_at 0x10 said.first) (reply_at 0x2E said.second) cause (said_in 0x10 user_of (reply_at 0x10 said.first)) refl said.is last
-unmet_later told talk fault cause (inr said) last = later_by talk fault (reply_at 0x16 said.reply) cause said.is last
 
 -- ---- lists
 
@@ -181,7 +139,7 @@ module _ {L F : Type 0} {talk : L → Option Talk} {since : L → L → Type 0} 
   }
 
   -- both sides did not meet
-  pub unmet_ends : {halted : Halted L} → MeetsOrNot talk since fault downs (0 ∷ []) false old (Err halted)
+  pub unmet_ends : {halted : Halted L} → MeetsOrNot talk since fault downs (unclaimed ∷ []) no_wish old (Err halted)
       → IsByLastReply (talk halted.link) halted.cause
       → BackupEnds talk since fault downs contents moments told.device old halted.link folder folder (Err (stop.Session halted.cause))
   unmet_ends {halted} (inl meets) last =
@@ -197,7 +155,7 @@ module _ {L F : Type 0} {talk : L → Option Talk} {since : L → L → Type 0} 
       (stops_none talk since fault downs (map text (backup_front told.device ++ next_of told.device.databases)) old halted.link (ap talk lost.0)
       (rw lost.0 (since_itself old)) (rw lost.0 (fell_none fault downs old))) tt)
 
-  module _ {met : Met L} (meets : Meets talk since fault downs (0 ∷ []) false old (Ok met)) {left : MoveOutcome L F}
+  module _ {met : Met L} (meets : Meets talk since fault downs (unclaimed ∷ []) no_wish old (Ok met)) {left : MoveOutcome L F}
       (went : BackupWent talk since fault downs contents moments met.heads.items met.linked folder left) where
     abbrev link : L
     link = met.linked.link
@@ -384,7 +342,7 @@ module _ {L F : Type 0} {talk : L → Option Talk} {since : L → L → Type 0} 
     pub met_ends : BackupEnds talk since fault downs contents moments told.device old left.link folder left.folder left.end
     met_ends = by went.answer left.end some.unkept some.all some.told some.cause went.finishes
 
-  pub over_ends : {met : Met L} → MeetsOrNot talk since fault downs (0 ∷ []) false old (Ok met) → {left : MoveOutcome L F}
+  pub over_ends : {met : Met L} → MeetsOrNot talk since fault downs (unclaimed ∷ []) no_wish old (Ok met) → {left : MoveOutcome L F}
       → BackupWent talk since fault downs contents moments met.heads.items met.linked folder left
       → BackupEnds talk since fault downs contents moments told.device old left.link folder left.folder left.end
   over_ends (inl meets) went = met_ends meets went
@@ -418,7 +376,7 @@ finish_left {L} talk {since} {fault} {downs} since_more old now new (Err why) to
 
 pub over_leaves : {L F : Type 0} {talk : L → Option Talk} {since : L → L → Type 0} {fault : L → Option LinkFault} {downs : L → ℕ}
     {contents : F → Option FileMap} {moments : F → Moments} (since_more : (a b c : L) → since a b → since b c → since a c) {old : L} {folder : F}
-    {met : Met L} → MeetsOrNot talk since fault downs (0 ∷ []) false old (Ok met) → {left : MoveOutcome L F}
+    {met : Met L} → MeetsOrNot talk since fault downs (unclaimed ∷ []) no_wish old (Ok met) → {left : MoveOutcome L F}
     → BackupWent talk since fault downs contents moments met.heads.items met.linked folder left → Leaves since fault downs old left.link
 over_leaves {talk = talk} since_more {old} {met = met} (inl meets) {left} went =
     let some = went.keeps in

@@ -13,6 +13,7 @@ pub mod EndLaws
 pub mod EvolveLaws
 pub mod FillLaws
 pub mod GoneLaws
+pub mod HelloLaws
 pub mod InstallOrder
 pub mod InstalledLaws
 pub mod KeepLaws

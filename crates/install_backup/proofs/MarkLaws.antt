@@ -4,8 +4,9 @@ use Rattle.std.proofs.lemmas.Bool.{and_parts, eqb-true}
 use Rattle.std.proofs.lemmas.List.{map-append}
 use Rattle.std.specs.Prelude.{◌==◌, ◌&&◌, Option, Some, None, IfOk, IfSome, Result, Ok, Err}
 use Rattle.std.specs.List.{AllByRecursion}
-use Rattle.pdb_values.specs.Slots.{slot_for}
 use Rattle.pdb_values.specs.declared.user.Marks.{Marks}
+use Rattle.desktop_session.specs.Seats.{no_wish, seat_for, unclaimed}
+use Rattle.desktop_session.specs.declared.seat.UserWish.{UserWish}
 use Rattle.pdb_values.specs.declared.user.UserInfo.{UserInfo}
 use Rattle.dlp_replies.specs.ReplyReading.{reply_at}
 use Rattle.palm_device.specs.Devices.{Device}
@@ -44,30 +45,30 @@ user_told : (device : Device) → IsTellable device → said_in 0x10 user_of (re
 unfolding told tried
 user_told device proper = ap (said_in 0x10 user_of) (acted_reads reading_user device proper (act_sayable reading_user.asks device user_fits refl))
 
-user_by_first : (users : List ℕ) (add : Bool) (device : Device) (known : UserInfo) (first second : List ℕ) → IsTellable device
-    → first ≡ (acted reading_user device).0 → Ok known ≡ greeted users add first second → known ≡ device.user
-user_by_first users add device known first second proper same is =
+user_by_first : (marks : List Marks) (wish : UserWish) (device : Device) (known : UserInfo) (first second : List ℕ) → IsTellable device
+    → first ≡ (acted reading_user device).0 → Ok known ≡ greeted marks wish first second → known ≡ device.user
+user_by_first marks wish device known first second proper same is =
     let read : said_in 0x10 user_of (reply_at 0x10 first) ≡ Ok device.user =
     ap (λ b. said_in 0x10 user_of (reply_at 0x10 b)) same ∙ user_told device proper in
     let begun : Result (Unit {0}) SessionFault = said_in 0x2E no_more (reply_at 0x2E second) in
-    (seated_with users device.user known (slot_for users device.user.user add) begun
-    (is ∙ ap (λ r. begun_by (user_by users add r) begun) read)).1
+    (seated_with marks device.user known (seat_for marks wish device.user) begun
+    (is ∙ ap (λ r. begun_by (user_by marks wish r) begun) read)).1
 
 -- a greeting that was answered tells the handheld's user
-greeted_user : (users : List ℕ) (add : Bool) (fault : Option LinkFault) (talk : Option Talk) (known : UserInfo)
-    → AnswersGreeting users add talk fault (Ok known)
+greeted_user : (marks : List Marks) (wish : UserWish) (fault : Option LinkFault) (talk : Option Talk) (known : UserInfo)
+    → AnswersGreeting marks wish talk fault (Ok known)
     → (told : Talk) → talk ≡ Some told → IsAtRest told.device → known ≡ told.device.user
-greeted_user users add fault talk known said told is rests =
-    let none : fault ≡ None = no_fault_said fault (greeted users add said.first said.second) known said.is in
-    let clear : AnswersGreeting users add talk None (Ok known) = rw none at said in
+greeted_user marks wish fault talk known said told is rests =
+    let none : fault ≡ None = no_fault_said fault (greeted marks wish said.first said.second) known said.is in
+    let clear : AnswersGreeting marks wish talk None (Ok known) = rw none at said in
     let first : IfSome (Some told) (λ talk. clear.first ≡ (acted reading_user talk.device).0) = rw is at (clear.told refl) in
-    user_by_first users add told.device known clear.first clear.second rests.proper first clear.is
+    user_by_first marks wish told.device known clear.first clear.second rests.proper first clear.is
 
 pub user_answered : {L : Type 0} (talk : L → Option Talk) (fault : L → Option LinkFault) (old link : L) (answer : Result (SessionValue L) (Halted L))
-    → link ≡ old → AnswersGreeting (0 ∷ []) false (talk link) (fault (link_begun answer)) (user_begun answer)
+    → link ≡ old → AnswersGreeting (unclaimed ∷ []) no_wish (talk link) (fault (link_begun answer)) (user_begun answer)
     → IfOk answer (λ linked. (told : Talk) → talk old ≡ Some told → IsAtRest told.device → linked.user ≡ told.device.user)
 user_answered talk fault old link (Ok linked) same said = λ told is rests.
-    greeted_user (0 ∷ []) false (fault linked.link) (talk link) linked.user said told (ap talk same ∙ is) rests
+    greeted_user (unclaimed ∷ []) no_wish (fault linked.link) (talk link) linked.user said told (ap talk same ∙ is) rests
 user_answered talk fault old link (Err halted) same said = tt
 
 -- ---- the mark

@@ -1,5 +1,5 @@
 -- How a session that backs a handheld up went.
-use Rattle.std.specs.Prelude.{◌≡◌, ◌≢◌, ◌⊎◌, ℕ, List, [], ◌∷◌, ◌++◌, map, length, max, Option, IfErr, IfOk, IsErrOf, Result, Ok, Err, false, flat_map}
+use Rattle.std.specs.Prelude.{◌≡◌, ◌≢◌, ◌⊎◌, ℕ, List, [], ◌∷◌, ◌++◌, map, length, max, Option, IfErr, IfOk, IsErrOf, Result, Ok, Err, flat_map}
 use Rattle.std.specs.Global.{Vec}
 use Rattle.std.specs.Option.{option_map}
 use Rattle.hs_folders.specs.FileMaps.{FileMap}
@@ -15,6 +15,7 @@ use Rattle.desktop_session.specs.declared.ending.Halted.{Halted}
 use Rattle.desktop_session.specs.Acts.{Act, acted, text}
 use Rattle.desktop_session.specs.Lists.{listings}
 use Rattle.desktop_session.specs.Requests.{ending, opening_to_read}
+use Rattle.desktop_session.specs.Seats.{no_wish, unclaimed}
 use Rattle.desktop_session.specs.Sessions.{SessionValue}
 use Rattle.desktop_session.specs.Stops.{Does, Stops}
 use Rattle.session_parts.specs.Causes.{IsLater}
@@ -69,7 +70,7 @@ pub record BackupRan {L F : Type 0} (talk : L → Option Talk) (since : L → L 
     (contents : F → Option FileMap) (moments : F → Moments) (old : L) (folder : F)
     (left : MoveOutcome L F) : Type 0 where
   pub met : Result (Met L) (Halted L)
-  pub meets : MeetsOrNot talk since fault downs (0 ∷ []) false old met
+  pub meets : MeetsOrNot talk since fault downs (unclaimed ∷ []) no_wish old met
   pub backs_up : BacksUp talk since fault downs contents moments folder left met
 
 -- ---- over a link that tells a handheld on which nothing is open

@@ -12,7 +12,7 @@ ghost use Rattle.install_backup.specs.Marks.{marked_greeting};
 ghost use Rattle.install_backup.specs.Rooms.{IsNoLimit};
 
 use crate::mark::{Mark, say_mark};
-use desktop_session::{Halted, Idle, Linked};
+use desktop_session::{Halted, Idle, Linked, UserWish, unclaimed};
 use dlp_commands::Link;
 use std::alloc::Global;
 
@@ -30,7 +30,7 @@ fn hello<L: Link>(alloc: Global, link: L) -> Result<Linked<L>, Halted<L>>
     ensures others { IfErr result (λ halted. IsNoLimit halted.cause) }
 {
     match Idle::new(alloc, link) {
-        Ok(idle) => idle.hello(&[0], false),
+        Ok(idle) => idle.hello(&[unclaimed()], &UserWish::none()),
         Err(halted) => Err(halted),
     }
 }

@@ -10,7 +10,7 @@ ghost use Rattle.install_backup.specs.BackupEnds.{BackupEnds, BackupRan, BackupW
 use crate::keeping::backup_all;
 use crate::moved::MoveOutcome;
 use crate::whole_install::link_of;
-use desktop_session::Halted;
+use desktop_session::{Halted, UserWish, unclaimed};
 use dlp_commands::Link;
 use hs_folders::Folder;
 use session_parts::{Met, Stop, meet_over};
@@ -66,7 +66,7 @@ pub fn backup_session<L: Link, D: Folder>(alloc: Global, link: L, folder: D) -> 
         (IsErrOf result.end stops.DeskFault) }
     ensures paths { D.paths result.folder ≡ D.paths folder }
 {
-    match meet_over(alloc, link, &[0], false) {
+    match meet_over(alloc, link, &[unclaimed()], &UserWish::none()) {
         Ok(met) => backup_met(alloc, met, folder),
         Err(Halted { link, cause }) => MoveOutcome {
             link,

@@ -36,9 +36,9 @@ fn text_bytes(alloc: Global, text: &str) -> Result<Vec<u8>, LineFault>
     Ok(bytes)
 }
 
-// The byte of a character, where it has one.
+/// The byte of a character, where it has one.
 #[tactic(auto, unfolding(crate::specs::Characters::byte_of))]
-fn byte_of(ch: char) -> Option<u8>
+pub fn byte_of(ch: char) -> Option<u8>
     ensures { result ≡ byte_of ch }
 {
     match ch {

@@ -26,6 +26,7 @@ mod memo;
 mod memo_text;
 mod reading;
 
+pub use character::byte_of;
 pub use export::memos_text;
 pub use fault::ImportFault;
 pub use import::import_memos;

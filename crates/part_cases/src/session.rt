@@ -4,7 +4,7 @@ ghost use Rattle.std.specs.Prelude.{◌≡◌, false};
 use crate::asked::asked;
 use crate::said::refused;
 use case_words::{number_in, word};
-use desktop_session::{Ended, Halted, Idle, Linked, SessionFault};
+use desktop_session::{Ended, Halted, Idle, Linked, SessionFault, UserWish, unclaimed};
 use dlp_commands::Link;
 use std::alloc::{AllocError, Global};
 
@@ -17,15 +17,19 @@ pub fn session<L: Link + Drop>(
 ) -> Result<(L, String), AllocError>
     requires { L.begun link ≡ false }
 {
-    let mut users = Vec::new(alloc);
+    let mut marks = Vec::new(alloc);
     for user in word(words, 0).split(',') {
-        users.push(number_in(user))?;
+        let mut slot = unclaimed();
+        slot.user = number_in(user);
+        marks.push(slot)?;
     }
-    if users.is_empty() || users.len() > 16 {
+    if marks.is_empty() || marks.len() > 16 {
         return Ok((link, String::from_str(alloc, "what?")?));
     }
+    let mut wish = UserWish::none();
+    wish.add = word(words, 1) == "add";
     let linked = match Idle::new(alloc, link) {
-        Ok(idle) => idle.hello(&users, word(words, 1) == "add"),
+        Ok(idle) => idle.hello(&marks, &wish),
         Err(halted) => Err(halted),
     };
     match linked {

@@ -152,7 +152,7 @@ fn form_text(alloc: Global, form: ExportForm) -> Result<String, AllocError> {
 fn run_text(alloc: Global, command: &str, run: &RunWords<'_>) -> Result<String, AllocError> {
     let actions = actions_text(alloc, run)?;
     format!(in alloc;
-        "{command} handheld {} desktop {} date {} script {} trace {} only {} slow {} add-user {} actions{actions}\n",
+        "{command} handheld {} desktop {} date {} script {} trace {} only {} slow {} user {} add-user {} actions{actions}\n",
         run.handheld,
         run.desktop,
         run.date.seconds(),
@@ -160,6 +160,7 @@ fn run_text(alloc: Global, command: &str, run: &RunWords<'_>) -> Result<String, 
         run.trace.unwrap_or("-"),
         run.choice.only.unwrap_or("-"),
         run.slow,
+        run.user.unwrap_or("-"),
         run.add_user
     )
 }

@@ -12,6 +12,7 @@ use Rattle.run_words.specs.Choices.{is_only_right}
 use Rattle.run_words.specs.Commands.{WordTask, Sync, DryRun, LookAt, Scan, Make, Install, Backup, Restore, Emulate, Categories, Help, deed_of, export_form, export_of, export_task_in, file_form, file_of, hex_bytes, import_form, import_of, import_task_in, install_between, install_of, make_form, make_in, make_of, packet_form, packet_of, sync_by, sync_in, sync_of, plain_form, show_form, show_look, show_of}
 use Rattle.run_words.specs.Exports.{export_in, import_in}
 use Rattle.run_words.specs.Forms.{has_flag, is_of_form, plain_at}
+use Rattle.run_words.specs.UserNames.{is_user_right}
 use Rattle.run_words.specs.Runs.{Run, are_actions_right, run_form, run_in, run_of}
 use Rattle.run_words.specs.declared.look.Export.{Export as ExportWords}
 use Rattle.run_words.specs.declared.look.ImportForm.{ImportForm}
@@ -43,8 +44,8 @@ module _ (now : Option ℕ) (first : List ℕ) (rest : List (List ℕ)) {task : 
   unfolding run_of
   run_asked e =
       let run = mapped (sync_by rest) (run_of now rest) e in
-      let right = kept (is_of_form run_form rest && (are_actions_right rest && is_only_right rest)) (run_in now rest) run.1 in
-      let parts = and_parts (is_of_form run_form rest) (are_actions_right rest && is_only_right rest) right.0 in
+      let right = kept (is_of_form run_form rest && (are_actions_right rest && (is_only_right rest && is_user_right rest))) (run_in now rest) run.1 in
+      let parts = and_parts (is_of_form run_form rest) (are_actions_right rest && (is_only_right rest && is_user_right rest)) right.0 in
       let asks : sync_in now rest ≡ Some (sync_by rest run.0) = ap (option_map (sync_by rest)) right.1 in
       subst (IsAsked now (first ∷ rest)) run.2 (by_flag run.0 (has_flag (codes "dry-run") rest) refl parts.0 asks)
     where

@@ -44,6 +44,7 @@ fn run_in<'a>(now: Option<u32>, matches: &ArgMatches<'a>) -> Option<RunWords<'a>
         trace: matches.get_str("trace"),
         choice: choice_in(matches),
         slow: matches.get_flag("slow"),
+        user: matches.get_str("user"),
         add_user: matches.get_flag("add-user"),
     })
 }

@@ -5,4 +5,5 @@ pub mod NumberLaws
 pub mod OnlyLaws
 pub mod SplitLaws
 pub mod StemLaws
+pub mod UserLaws
 pub mod WordLaws

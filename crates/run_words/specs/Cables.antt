@@ -4,11 +4,13 @@ use Rattle.std.specs.Option.{option_or}
 use Rattle.run_words.specs.Choices.{given_actions, is_only_right, restricted_to}
 use Rattle.run_words.specs.Forms.{WordFormValue, has_flag, is_of_form, plain_at, value_of}
 use Rattle.run_words.specs.Runs.{are_actions_right, date_of}
+use Rattle.run_words.specs.UserNames.{is_user_right}
 use Rattle.run_words.specs.declared.action.NamedAction.{NamedAction}
 
 -- ---- the words
 
--- `PORT DESKTOP --date=D [--only=L] [--trace=F] [--actions=L] [--slow] [--add-user]`
+-- `PORT DESKTOP --date=D [--only=L] [--trace=F] [--actions=L] [--slow] [--user=N]
+-- [--add-user]`
 abbrev pub cable_form : WordFormValue
 cable_form = record {
   plain = codes "port" ∷ codes "desktop" ∷ [];
@@ -17,7 +19,8 @@ cable_form = record {
     is_required = false;
   }
       ∷ record { name = codes "trace"; is_required = false }
-      ∷ record { name = codes "actions"; is_required = false } ∷ [];
+      ∷ record { name = codes "actions"; is_required = false }
+      ∷ record { name = codes "user"; is_required = false } ∷ [];
   flags = codes "slow" ∷ codes "add-user" ∷ [];
 }
 
@@ -31,6 +34,7 @@ pub record Cable : Type 0 where
   pub trace : Option (List ℕ)
   pub actions : Option (List ℕ)
   pub slow : Bool
+  pub user : Option (List ℕ)
   pub add_user : Bool
 
 -- the session at this port with this folder at this date, with what the words give beside them
@@ -43,6 +47,7 @@ cable_between words port desktop date = record {
   trace = value_of (codes "trace") words;
   actions = value_of (codes "actions") words;
   slow = has_flag (codes "slow") words;
+  user = value_of (codes "user") words;
   add_user = has_flag (codes "add-user") words;
 }
 
@@ -57,7 +62,7 @@ cable_in now words =
 -- the session that the words behind `sync` ask for, in any order, at the date now
 unfoldable pub cable_of : Option ℕ → List (List ℕ) → Option Cable
 cable_of now words =
-    if is_of_form cable_form words && (are_actions_right words && is_only_right words)
+    if is_of_form cable_form words && (are_actions_right words && (is_only_right words && is_user_right words))
     then cable_in now words else None
 
 -- the first word asks for a session over a cable, and none behind it for help

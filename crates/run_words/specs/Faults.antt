@@ -7,12 +7,14 @@ use Rattle.run_words.specs.Betweens.{between_form}
 use Rattle.run_words.specs.Cables.{cable_form}
 use Rattle.run_words.specs.Captures.{capture_form}
 use Rattle.run_words.specs.Choices.{are_stems}
-use Rattle.run_words.specs.Commands.{export_form, file_form, import_form, make_form, packet_form, show_form}
+use Rattle.run_words.specs.Commands.{export_form, file_form, make_form, packet_form, show_form}
 use Rattle.run_words.specs.Exports.{is_form_word}
 use Rattle.run_words.specs.Forms.{WordFormValue, NamedOption, flag_count, is_flag, is_option, is_word, option_count, plain_at, plain_words, value_of}
 use Rattle.run_words.specs.Helps.{command_word}
+use Rattle.run_words.specs.Likes.{like_form}
 use Rattle.run_words.specs.Numbers.{count_of, number_of}
 use Rattle.run_words.specs.Runs.{date_at, run_form}
+use Rattle.run_words.specs.UserNames.{user_of}
 use Rattle.run_words.specs.Words.{is_hex, is_plain}
 use Rattle.run_words.specs.declared.fault.FaultKind.{FaultKind}
 use Rattle.run_words.specs.declared.fault.FaultKind.TheVariants.{UnknownCommand, UnknownOption, NoValue, ExtraValue, Twice, Extra, Missing, TooFew, BadOption, BadWord}
@@ -41,7 +43,7 @@ form_behind Run = run_form
 form_behind Check = file_form
 form_behind Show = show_form
 form_behind Export = export_form
-form_behind Import = import_form
+form_behind Import = like_form
 form_behind Verify = file_form
 form_behind Picture = file_form
 form_behind Packet = packet_form
@@ -135,7 +137,8 @@ is_bad_value now name value =
     if bytes_eq name (codes "date") then is_none (date_at now value)
     else (if bytes_eq name (codes "actions") then not (is_actions_text value)
     else (if bytes_eq name (codes "only") then not (are_stems value)
-    else (if bytes_eq name (codes "as") then not (is_form_word value) else false)))
+    else (if bytes_eq name (codes "as") then not (is_form_word value)
+    else (if bytes_eq name (codes "user") then is_none (user_of value) else false))))
 
 -- the value that the words give an option means nothing
 abbrev pub is_wrong : Option ℕ → List (List ℕ) → NamedOption → Bool

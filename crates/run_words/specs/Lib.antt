@@ -9,8 +9,10 @@ pub mod Exports
 pub mod Faults
 pub mod Forms
 pub mod Helps
+pub mod Likes
 pub mod Numbers
 pub mod Runs
 pub mod StemNames
+pub mod UserNames
 pub mod Views
 pub mod Words

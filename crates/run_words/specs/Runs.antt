@@ -5,6 +5,7 @@ use Rattle.pdb_values.specs.PalmDates.{if_later, read_text}
 use Rattle.run_words.specs.Actions.{is_actions_text}
 use Rattle.run_words.specs.Choices.{ChoiceTexts, choice_in, chosen_actions, is_only_right}
 use Rattle.run_words.specs.Forms.{WordFormValue, has_flag, is_of_form, plain_at, value_of}
+use Rattle.run_words.specs.UserNames.{is_user_right}
 use Rattle.run_words.specs.declared.action.NamedAction.{NamedAction}
 
 -- the seconds of a date word, where these are the seconds of the date now: `now`, unless they are
@@ -13,7 +14,7 @@ abbrev pub date_at : Option ℕ → List ℕ → Option ℕ
 date_at now word = if bytes_eq word (codes "now") then if_later now else read_text word
 
 -- `HANDHELD DESKTOP --date=D [--script=F] [--trace=F] [--only=L] [--actions=L] [--slow]
--- [--add-user] [--dry-run]`
+-- [--user=N] [--add-user] [--dry-run]`
 abbrev pub run_form : WordFormValue
 run_form = record {
   plain = codes "handheld" ∷ codes "desktop" ∷ [];
@@ -23,7 +24,8 @@ run_form = record {
   }
       ∷ record { name = codes "trace"; is_required = false }
       ∷ record { name = codes "only"; is_required = false }
-      ∷ record { name = codes "actions"; is_required = false } ∷ [];
+      ∷ record { name = codes "actions"; is_required = false }
+      ∷ record { name = codes "user"; is_required = false } ∷ [];
   flags = codes "slow" ∷ codes "add-user" ∷ codes "dry-run" ∷ [];
 }
 
@@ -36,6 +38,7 @@ pub record Run : Type 0 where
   pub trace : Option (List ℕ)
   pub choice : ChoiceTexts
   pub slow : Bool
+  pub user : Option (List ℕ)
   pub add_user : Bool
 
 -- the run between these folders at this date, with what the words give beside them
@@ -48,6 +51,7 @@ run_between words handheld desktop date = record {
   trace = value_of (codes "trace") words;
   choice = choice_in words;
   slow = has_flag (codes "slow") words;
+  user = value_of (codes "user") words;
   add_user = has_flag (codes "add-user") words;
 }
 
@@ -70,7 +74,7 @@ are_actions_right words = option_map_or is_actions_text (value_of (codes "action
 -- the run that the words behind `run` ask for, in any order, at the date now
 unfoldable pub run_of : Option ℕ → List (List ℕ) → Option Run
 run_of now words =
-    if is_of_form run_form words && (are_actions_right words && is_only_right words)
+    if is_of_form run_form words && (are_actions_right words && (is_only_right words && is_user_right words))
     then run_in now words else None
 
 -- what the run does with the databases

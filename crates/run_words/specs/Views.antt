@@ -8,6 +8,7 @@ use Rattle.run_words.specs.Commands.{WordTask, Sync, DryRun, LookAt, Scan, Make,
 use Rattle.run_words.specs.Faults.{Fault}
 use Rattle.run_words.specs.Docks.{Dock}
 use Rattle.run_words.specs.Forms.{WordFormValue, NamedOption}
+use Rattle.run_words.specs.Likes.{Like}
 use Rattle.run_words.specs.Runs.{Run}
 use Rattle.run_words.specs.Words.{bytes_of}
 use Rattle.run_words.specs.declared.between.BetweenWords.{BetweenWords}
@@ -20,6 +21,7 @@ use Rattle.run_words.specs.declared.fault.WordFault.{WordFault}
 use Rattle.run_words.specs.declared.dock.DockWords.{DockWords}
 use Rattle.run_words.specs.declared.form.ValueOption.{ValueOption}
 use Rattle.run_words.specs.declared.form.WordForm.{WordForm}
+use Rattle.run_words.specs.declared.like.LikeWords.{LikeWords}
 use Rattle.run_words.specs.declared.run.RunWords.{RunWords}
 
 -- the option of a table
@@ -51,6 +53,7 @@ run_view run = record {
   trace = option_copied run.trace;
   choice = choice_view run.choice;
   slow = run.slow;
+  user = option_copied run.user;
   add_user = run.add_user;
 }
 
@@ -64,6 +67,7 @@ cable_view cable = record {
   trace = option_copied cable.trace;
   actions = option_copied cable.actions;
   slow = cable.slow;
+  user = option_copied cable.user;
   add_user = cable.add_user;
 }
 
@@ -91,6 +95,11 @@ dock_view dock = record {
   port = dock.port.now;
   trace = option_copied dock.trace;
 }
+
+-- the import of the words, in the categories of another file
+abbrev pub like_view : LikeWords → Like
+like_view words =
+    record { form = words.form; file = words.file.now; like = words.like.now }
 
 -- what the words ask for
 abbrev pub task_view : Command → WordTask

@@ -6,6 +6,7 @@ ghost use Rattle.run_words.specs.Views.{cable_view};
 use crate::choice::is_only_right;
 use crate::form::{ValueOption, WordForm, has_flag, is_of_form, plain_at, value_of};
 use crate::run::{are_actions_right, date_in};
+use crate::user::is_user_right;
 use pdb_values::PalmDate;
 
 /// The form of the words behind `sync`.
@@ -26,6 +27,10 @@ pub const CABLE: WordForm<'static> = WordForm {
         },
         ValueOption {
             name: "actions",
+            is_required: false,
+        },
+        ValueOption {
+            name: "user",
             is_required: false,
         },
     ],
@@ -49,6 +54,8 @@ pub struct CableWords<'a> {
     pub actions: Option<&'a str>,
     /// Whether each database is read whole.
     pub slow: bool,
+    /// The name that the handheld's user is to have.
+    pub user: Option<&'a str>,
     /// Whether a user that the desktop doesn't know is added.
     pub add_user: bool,
 }
@@ -69,6 +76,7 @@ fn cable_in<'a>(now: Option<u32>, words: &'a [String]) -> Option<CableWords<'a>>
         trace: value_of(words, "trace"),
         actions: value_of(words, "actions"),
         slow: has_flag(words, "slow"),
+        user: value_of(words, "user"),
         add_user: has_flag(words, "add-user"),
     })
 }
@@ -78,7 +86,11 @@ fn cable_in<'a>(now: Option<u32>, words: &'a [String]) -> Option<CableWords<'a>>
 fn cable_words<'a>(now: Option<u32>, words: &'a [String]) -> Option<CableWords<'a>>
     ensures { option_map cable_view result ≡ cable_of now (map string_bytes words.entry.now) }
 {
-    if is_of_form(&CABLE, words) && are_actions_right(words) && is_only_right(words) {
+    if is_of_form(&CABLE, words)
+        && are_actions_right(words)
+        && is_only_right(words)
+        && is_user_right(words)
+    {
         cable_in(now, words)
     } else {
         None

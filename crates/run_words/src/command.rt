@@ -237,8 +237,8 @@ fn export_command<'a>(now: Option<u32>, words: &'a [String]) -> Option<Command<'
     Some(Command::Look(LookWords { look, file }))
 }
 
-// The form of the text of which words want a database.
-fn import_in(words: &[String]) -> Option<ImportForm>
+/// The form of the text of which words want a database.
+pub(crate) fn import_in(words: &[String]) -> Option<ImportForm>
     ensures { result ≡ import_of_words (map string_bytes words.now) }
 {
     import_form_in(value_of(words, "as")?)

@@ -8,16 +8,18 @@ use crate::action_list::is_actions;
 use crate::between::BETWEEN;
 use crate::cable::CABLE;
 use crate::capture::CAPTURE;
-use crate::command::{EXPORT, FILE, IMPORT, MAKE, PACKET, SHOW};
+use crate::command::{EXPORT, FILE, MAKE, PACKET, SHOW};
 use crate::form::{
     ValueOption, WordForm, flag_count, is_word, option_count, plain_at, plain_count, value_of,
 };
 use crate::hexadecimal::is_hex;
+use crate::like::LIKE;
 use crate::look::is_form_word;
 use crate::number::{count_in, number_in};
 use crate::only::are_stems;
 use crate::run::{RUN, date_in};
 use crate::topic::{CommandWord, command_word};
+use crate::user::user_in;
 use crate::word::{is_flag, is_option, is_plain};
 
 /// What is wrong with a word.
@@ -73,7 +75,7 @@ fn form_behind(command: CommandWord) -> WordForm<'static>
         CommandWord::Check => FILE,
         CommandWord::Show => SHOW,
         CommandWord::Export => EXPORT,
-        CommandWord::Import => IMPORT,
+        CommandWord::Import => LIKE,
         CommandWord::Verify => FILE,
         CommandWord::Picture => FILE,
         CommandWord::Packet => PACKET,
@@ -261,6 +263,7 @@ fn is_bad_value(now: Option<u32>, name: &str, value: &str) -> bool
         "actions" => !is_actions(value),
         "only" => !are_stems(value),
         "as" => !is_form_word(value),
+        "user" => user_in(value).is_none(),
         _ => false,
     }
 }

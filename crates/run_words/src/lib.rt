@@ -2,12 +2,12 @@
 //! nothing.
 //!
 //! The first word is the command: `run HANDHELD DESKTOP --date=D [--script=F] [--trace=F] [--only=L] [--slow] [--actions=L]
-//! [--add-user] [--dry-run]`, `check FILE`, `show FILE [--records]`, `export FILE --as=FORM [--date=D] [--without-private] [--keep-broken]`,
+//! [--user=NAME] [--add-user] [--dry-run]`, `check FILE`, `show FILE [--records]`, `export FILE --as=FORM [--date=D] [--without-private] [--keep-broken]`,
 //! `import FILE --as=txt`, `verify FILE`, `picture FILE`, `packet HEX`, `make SEED N`,
 //! `install HANDHELD FILE [--trace=F]`, `backup` or `restore HANDHELD FOLDER [--script=F] [--trace=F]`,
 //! `device HANDHELD --in=F --out=F` or `categories HANDHELD DESKTOP [--script=F] [--trace=F]`; and `sync PORT DESKTOP
-//! --date=D [--only=L] [--trace=F] [--slow] [--actions=L] [--add-user]` and `device HANDHELD --port=PORT [--trace=F]`, which have calls of their own. `help [COMMAND]`,
-//! `--help`, `COMMAND .. --help` and `--version` ask for help. The form of the words behind a command is a table, and they
+//! --date=D [--only=L] [--trace=F] [--slow] [--actions=L] [--user=NAME] [--add-user]`, `device HANDHELD --port=PORT [--trace=F]`
+//! and `import FILE --as=txt --like=FILE`, which have calls of their own. `help [COMMAND]`, `--help`, `COMMAND .. --help` and `--version` ask for help. The form of the words behind a command is a table, and they
 //! stand in any order. A plain word is not empty and does not begin with `-`. A date is written, or it is `now`, the date
 //! that the caller hands over. No call takes memory but for the list of actions.
 #![tactic(auto)]
@@ -23,12 +23,14 @@ mod dock;
 mod fault;
 mod form;
 mod hexadecimal;
+mod like;
 mod look;
 mod number;
 mod only;
 mod run;
 mod stem;
 mod topic;
+mod user;
 mod word;
 
 pub use action::{ActionWord, NamedAction, Target, action_of};
@@ -43,8 +45,10 @@ pub use command::{
 pub use dock::{DOCK, DockWords, docking_words, is_docking};
 pub use fault::{FaultKind, INSTALL, WordFault, fault_of};
 pub use form::{ValueOption, WordForm};
+pub use like::{LIKE, LikeWords, is_liking, liking_words};
 pub use look::{Export, ExportForm, ImportForm, Look, LookWords, export_form_in, import_form_in};
 pub use number::{count_in, number_in};
 pub use only::{cable_actions, only_these_are_touched, run_actions};
 pub use run::{RUN, RunWords, date_in};
 pub use topic::{CommandWord, Topic, command_word, help_of};
+pub use user::{user_in, wished_name};

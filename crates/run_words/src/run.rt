@@ -7,6 +7,7 @@ ghost use Rattle.run_words.specs.Views.{run_view};
 use crate::action_list::is_actions;
 use crate::choice::{ChoiceWords, choice_in, is_only_right};
 use crate::form::{ValueOption, WordForm, has_flag, is_of_form, plain_at, value_of};
+use crate::user::is_user_right;
 use pdb_values::PalmDate;
 
 /// The form of the words behind `run`.
@@ -33,6 +34,10 @@ pub const RUN: WordForm<'static> = WordForm {
             name: "actions",
             is_required: false,
         },
+        ValueOption {
+            name: "user",
+            is_required: false,
+        },
     ],
     flags: &["slow", "add-user", "dry-run"],
 };
@@ -54,6 +59,8 @@ pub struct RunWords<'a> {
     pub choice: ChoiceWords<'a>,
     /// Whether each database is read whole.
     pub slow: bool,
+    /// The name that the handheld's user is to have.
+    pub user: Option<&'a str>,
     /// Whether a user that the desktop doesn't know is added.
     pub add_user: bool,
 }
@@ -107,6 +114,7 @@ fn run_in<'a>(now: Option<u32>, words: &'a [String]) -> Option<RunWords<'a>>
         trace: value_of(words, "trace"),
         choice: choice_in(words),
         slow: has_flag(words, "slow"),
+        user: value_of(words, "user"),
         add_user: has_flag(words, "add-user"),
     })
 }
@@ -116,7 +124,11 @@ fn run_in<'a>(now: Option<u32>, words: &'a [String]) -> Option<RunWords<'a>>
 pub fn run_words<'a>(now: Option<u32>, words: &'a [String]) -> Option<RunWords<'a>>
     ensures { option_map run_view result ≡ run_of now (map string_bytes words.entry.now) }
 {
-    if is_of_form(&RUN, words) && are_actions_right(words) && is_only_right(words) {
+    if is_of_form(&RUN, words)
+        && are_actions_right(words)
+        && is_only_right(words)
+        && is_user_right(words)
+    {
         run_in(now, words)
     } else {
         None

@@ -1,6 +1,7 @@
 -- How both sides of a session meet: the handheld is greeted, and its databases are listed.
-use Rattle.std.specs.Prelude.{◌≡◌, ◌≤◌, ◌<◌, ◌+◌, ◌-◌, ◌⊎◌, ◌++◌, ℕ, Bool, true, false, List, [], ◌∷◌, map, Option, None, IfErr, IfOk, IfSome, Result, Ok, Err}
+use Rattle.std.specs.Prelude.{◌≡◌, ◌≤◌, ◌<◌, ◌+◌, ◌-◌, ◌⊎◌, ◌++◌, ℕ, true, false, List, [], ◌∷◌, map, Option, None, IfErr, IfOk, IfSome, Result, Ok, Err}
 use Rattle.std.specs.Result.{IsErrAnd}
+use Rattle.pdb_values.specs.declared.user.Marks.{Marks}
 use Rattle.pdb_values.specs.declared.user.UserInfo.{UserInfo}
 use Rattle.pdb_values.specs.declared.slot.Slot.{Slot}
 use Rattle.pdb_values.specs.declared.slot.Slot.TheVariants as slot
@@ -10,6 +11,7 @@ use Rattle.dlp_commands.specs.Talks.{Talk}
 use Rattle.desktop_session.specs.declared.ending.Halted.{Halted}
 use Rattle.desktop_session.specs.declared.fault.SessionFault.{SessionFault}
 use Rattle.desktop_session.specs.declared.fault.SessionFault.TheVariants as session
+use Rattle.desktop_session.specs.declared.seat.UserWish.{UserWish}
 use Rattle.desktop_session.specs.Acts.{Act, text}
 use Rattle.desktop_session.specs.Greetings.{AsksUser, AnswersGreeting, HasSlot}
 use Rattle.desktop_session.specs.Lists.{HasCause, HasReplied, IsNotMissing, has_more, heads_listed, list_reply, listings}
@@ -33,10 +35,10 @@ link_met (Err halted) = halted.link
 
 -- The handheld was greeted, and the list was refused, by the link's fault or by a reply, which is
 -- the device's where there is no fault.
-pub record IsUnlisted (users : List ℕ) (add : Bool) (talk : Option Talk) (fault : Option LinkFault)
+pub record IsUnlisted (marks : List Marks) (wish : UserWish) (talk : Option Talk) (fault : Option LinkFault)
     (cause : SessionFault) : Type 0 where
   pub user : UserInfo
-  pub greeted : AnswersGreeting users add talk None (Ok user)
+  pub greeted : AnswersGreeting marks wish talk None (Ok user)
   pub reply : List ℕ
   pub is : HasCause fault (reply_at 0x16 reply) cause
   pub others : IsNotMissing cause
@@ -51,7 +53,7 @@ pub record IsUnlisted (users : List ℕ) (add : Bool) (talk : Option Talk) (faul
 -- for.
 pub record Meets {L : Type 0} (talk : L → Option Talk) (since : L → L → Type 0)
     (fault : L → Option LinkFault) (downs : L → ℕ)
-    (users : List ℕ) (add : Bool) (old : L) (answer : Result (Met L) (Halted L)) : Type 0 where
+    (marks : List Marks) (wish : UserWish) (old : L) (answer : Result (Met L) (Halted L)) : Type 0 where
   pub count : ℕ
   pub few : count ≤ 65536
   pub more : IfSome (saying greeting (talk old))
@@ -59,8 +61,8 @@ pub record Meets {L : Type 0} (talk : L → Option Talk) (since : L → L → Ty
   pub stops : Stops talk since fault downs (map text (meeting_acts count)) old (link_met answer)
   pub does : IfOk answer (λ met. Does talk (meeting_acts count) old met.linked.link)
   pub unseated : AsksUser talk since fault downs old (link_met answer)
-      ⊎ HasSlot users add (talk old)
-  pub user : IfOk answer (λ met. AnswersGreeting users add (talk old) None (Ok met.linked.user))
+      ⊎ HasSlot marks wish (talk old)
+  pub user : IfOk answer (λ met. AnswersGreeting marks wish (talk old) None (Ok met.linked.user))
   pub some : IfOk answer (λ met. 0 < count)
   pub heads : IfOk answer
       (λ met. IfSome (saying greeting (talk old))
@@ -69,15 +71,15 @@ pub record Meets {L : Type 0} (talk : L → Option Talk) (since : L → L → Ty
       (λ talk. (count ≡ 65536) ⊎ (has_more (list_reply talk.device (count - 1)) ≡ false)))
   pub closed : IfOk answer (λ met. met.linked.abandoned ≡ false)
   pub cause : IfErr answer
-      (λ halted. AnswersGreeting users add (talk old) (fault halted.link) (Err halted.cause)
-      ⊎ IsUnlisted users add (talk old) (fault halted.link) halted.cause)
+      (λ halted. AnswersGreeting marks wish (talk old) (fault halted.link) (Err halted.cause)
+      ⊎ IsUnlisted marks wish (talk old) (fault halted.link) halted.cause)
 
 -- both sides were to meet, or memory ran out before
 abbrev pub MeetsOrNot : {L : Type 0} → (L → Option Talk) → (L → L → Type 0)
-    → (L → Option LinkFault) → (L → ℕ) → List ℕ → Bool → L → Result (Met L) (Halted L)
+    → (L → Option LinkFault) → (L → ℕ) → List Marks → UserWish → L → Result (Met L) (Halted L)
     → Type 0
-MeetsOrNot talk since fault downs users add old answer =
-    Meets talk since fault downs users add old answer
+MeetsOrNot talk since fault downs marks wish old answer =
+    Meets talk since fault downs marks wish old answer
     ⊎ IsErrAnd answer (λ halted. (halted.link ≡ old) × (halted.cause ≡ session.NoMemory))
 
 -- a user has a slot, an old one or a new one

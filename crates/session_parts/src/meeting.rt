@@ -3,9 +3,9 @@ ghost use Rattle.std.specs.Prelude.{◌≡◌, ◌≤◌, IfErr, false, length};
 ghost use Rattle.desktop_session.specs.Lasts.{IsByLastReply};
 ghost use Rattle.session_parts.specs.Meets.{Meets, MeetsOrNot};
 
-use desktop_session::{Halted, Idle, Linked};
+use desktop_session::{Halted, Idle, Linked, UserWish};
 use dlp_commands::Link;
-use pdb_values::DbHead;
+use pdb_values::{DbHead, Marks};
 use std::alloc::Global;
 
 /// A session that has begun, and what the handheld has.
@@ -17,21 +17,21 @@ pub struct Met<L: Link> {
     pub heads: Vec<DbHead>,
 }
 
-/// Waits for the handheld's wake, reads its user, finds the slot for it among the desktop's users, says that the conduits begin, and
-/// lists the handheld's databases. `add` says whether a user that the desktop does not know may get a slot.
+/// Waits for the handheld's wake, reads its user, finds the slot for it by the marks of the desktop's slots, says that the conduits begin, and
+/// lists the handheld's databases. `wish` is what is asked of the user.
 pub fn meet<L: Link>(
     alloc: Global,
     idle: Idle<L>,
-    users: &[u32],
-    add: bool,
+    marks: &[Marks],
+    wish: &UserWish,
 ) -> Result<Met<L>, Halted<L>>
     requires begun { L.begun idle.link ≡ false }
-    requires some { 1 ≤ length users.now }
-    requires room { length users.now ≤ 16 }
-    ensures meets { Meets L.talk L.since L.fault L.downs users.now add idle.link result }
+    requires some { 1 ≤ length marks.now }
+    requires room { length marks.now ≤ 16 }
+    ensures meets { Meets L.talk L.since L.fault L.downs marks.now wish.now idle.link result }
     ensures last { IfErr result (λ halted. IsByLastReply (L.talk halted.link) halted.cause) }
 {
-    let mut linked = match idle.hello(users, add) {
+    let mut linked = match idle.hello(marks, wish) {
         Ok(linked) => linked,
         Err(halted) => return Err(halted),
     };
@@ -45,17 +45,17 @@ pub fn meet<L: Link>(
 pub fn meet_over<L: Link>(
     alloc: Global,
     link: L,
-    users: &[u32],
-    add: bool,
+    marks: &[Marks],
+    wish: &UserWish,
 ) -> Result<Met<L>, Halted<L>>
     requires begun { L.begun link ≡ false }
-    requires some { 1 ≤ length users.now }
-    requires room { length users.now ≤ 16 }
-    ensures meets { MeetsOrNot L.talk L.since L.fault L.downs users.now add link result }
+    requires some { 1 ≤ length marks.now }
+    requires room { length marks.now ≤ 16 }
+    ensures meets { MeetsOrNot L.talk L.since L.fault L.downs marks.now wish.now link result }
     ensures last { IfErr result (λ halted. IsByLastReply (L.talk halted.link) halted.cause) }
 {
     match Idle::new(alloc, link) {
-        Ok(idle) => meet(alloc, idle, users, add),
+        Ok(idle) => meet(alloc, idle, marks, wish),
         Err(halted) => Err(halted),
     }
 }

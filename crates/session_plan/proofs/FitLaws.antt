@@ -1,6 +1,6 @@
 -- What a session planned is what a desktop takes.
 use Rattle.std.proofs.lemmas.Bool.{and_parts}
-use Rattle.std.proofs.Common.{◌≡◌, ◌∙◌, ◌<◌, ◌≤◌, ◌-◌, ap, refl, subst, ℕ, zero, suc, Bool, true, false, List, [], ◌∷◌, ◌++◌}
+use Rattle.std.proofs.Common.{◌≡◌, ◌∙◌, ◌<◌, ◌≤◌, ap, refl, subst, ℕ, zero, suc, Bool, true, false, List, [], ◌∷◌, ◌++◌}
 use Rattle.std.proofs.Common.{arith, length, map, get_or}
 use Rattle.std.specs.Prelude.{Option, Some, None, IfSome, if◌then◌else◌, is_none, is_some}
 use Rattle.std.specs.Global.{Vec}

@@ -3,6 +3,7 @@ pub mod FitLaws
 pub mod LimitLaws
 pub mod LossLaws
 pub mod NamesLaws
+pub mod NumberLaws
 pub mod PartingLaws
 pub mod PlanWords
 pub mod RiseLaws

@@ -5,6 +5,7 @@ use Rattle.std.specs.Result.{IsErrAnd}
 use Rattle.hs_folders.specs.Causes.{HasCause}
 use Rattle.hs_folders.specs.FileMaps.{FileMap}
 use Rattle.hs_folders.specs.Moments.{EachMomentSince, Moments}
+use Rattle.pdb_values.specs.declared.user.Marks.{Marks}
 use Rattle.pdb_values.specs.declared.user.UserInfo.{UserInfo}
 use Rattle.desk_journal.specs.Entries.{EntryValue}
 use Rattle.desk_journal.specs.Overlays.{FinishesAs, put_all}
@@ -42,12 +43,12 @@ pub record Commits {F : Type 0} (contents : F → Option FileMap) (moments : F �
       (IsErrAnd answer (λ refusal. refusal.0 ≡ DeskFault))
   pub same_paths : paths (folder_in answer) ≡ paths desk.folder
 
--- what was planned for these databases was committed so, with the marks that end a session with
--- this user at this date; their new records got these ids, one list for each
+-- what was planned for these databases was committed so with this user, with the marks that end
+-- the session; their new records got these ids, one list for each
 abbrev pub CommitsPlanned : {F : Type 0} → (F → Option FileMap) → (F → Moments)
-    → (F → Option (List (List ℕ))) → (F → ℕ) → ℕ → UserInfo → List Planned → List (List ℕ)
-    → DeskValue F → Result (DeskValue F) (CommitFault × F) → Type 0
-CommitsPlanned contents moments paths faults date user planned ids desk answer =
+    → (F → Option (List (List ℕ))) → (F → ℕ) → Marks → UserInfo → List Planned
+    → List (List ℕ) → DeskValue F → Result (DeskValue F) (CommitFault × F) → Type 0
+CommitsPlanned contents moments paths faults done user planned ids desk answer =
     Commits contents moments paths faults
-    (taken_slots date user planned ids desk.picked desk.slots)
-    (taken_entries date user planned ids desk.picked desk.slots) desk answer
+    (taken_slots done user planned ids desk.picked desk.slots)
+    (taken_entries done user planned ids desk.picked desk.slots) desk answer

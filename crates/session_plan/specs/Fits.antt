@@ -8,14 +8,13 @@ use Rattle.pdb_values.specs.Databases.{DatabaseValue}
 use Rattle.pdb_values.specs.Heads.{holds_resources}
 use Rattle.pdb_values.specs.NamedDatabases.{comes_before, database_of}
 use Rattle.pdb_values.specs.declared.head.DbHead.{DbHead}
-use Rattle.pdb_values.specs.declared.user.UserInfo.{UserInfo}
+use Rattle.pdb_values.specs.declared.user.Marks.{Marks}
 use Rattle.conduit_rules.specs.declared.planned.Plan.{Plan}
 use Rattle.desk_store.specs.Changes.{IsFree}
-use Rattle.desk_store.specs.Shelves.{ShelvesValue, SlotValue, slot_at}
+use Rattle.desk_store.specs.Shelves.{ShelvesValue, SlotValue, number_of, slot_at}
 use Rattle.session_plan.specs.Jobs.{jobs_of}
 use Rattle.session_plan.specs.PlannedLimits.{unskipped}
 use Rattle.session_plan.specs.Takes.{rows_begun}
-use Rattle.session_plan.specs.Users.{agreed_user}
 use Rattle.session_plan.specs.declared.planned.Planned.{Planned}
 use Rattle.session_plan.specs.declared.wishes.Wishes.{Wishes}
 
@@ -69,12 +68,12 @@ pub record IsSeat (slots : List SlotValue) (place user : ℕ) : Type 0 where
 
 -- ---- all of it
 
--- the slot at a place takes what was planned, with these ids, and the marks that end a session with
--- this user
-pub record CanTake (date : ℕ) (user : UserInfo) (planned : List Planned) (ids : List (List ℕ))
+-- the slot at a place takes what was planned, with these ids, and these marks, which end the session
+pub record CanTake (done : Marks) (planned : List Planned) (ids : List (List ℕ))
     (place : ℕ)
     (slots : List SlotValue) : Type 0 where
-  pub each : AreTakeable date (slot_at slots place).shelves planned ids
+  pub each : AreTakeable done.last (slot_at slots place).shelves planned ids
   pub rise : Rise (names_planned planned)
   pub few : length (unskipped planned) ≤ most_databases
-  pub seat : IsSeat slots place (agreed_user user (slot_at slots place).marks)
+  pub number : done.pc ≡ number_of slots
+  pub seat : IsSeat slots place done.user

@@ -8,6 +8,7 @@ pub mod Jobs
 pub mod Limits
 pub mod Losses
 pub mod Merges
+pub mod Numbers
 pub mod Partings
 pub mod PlannedLimits
 pub mod PlannedLosses

@@ -20,7 +20,7 @@ use Rattle.session_plan.specs.Partings.{parting_by, with_parting}
 use Rattle.session_plan.specs.Tasks.{Meeting, Task, records_of, slot_of, tasks}
 use Rattle.session_plan.specs.Skips.{active, skip_of}
 use Rattle.session_plan.specs.Choosing.{choice, seen_held, add_count}
-use Rattle.session_plan.specs.Users.{done_marks, done_user}
+use Rattle.session_plan.specs.Users.{done_of, done_user}
 use Rattle.session_plan.specs.Heads.{made_head, rows_head}
 use Rattle.session_plan.specs.Archives.{archive_records, entries_of}
 
@@ -67,7 +67,7 @@ merged_databases meeting (task ∷ later) given databases =
 unfoldable pub merged_device : Meeting → List ℕ → Device
 merged_device meeting given = record {
   databases = merged_databases meeting (active meeting) given meeting.device.databases;
-  user = done_user meeting.wishes.date meeting.device.user (slot_of meeting).marks;
+  user = done_user meeting.device.user (done_of meeting);
   handles = no_handles;
 }
 
@@ -137,7 +137,7 @@ parted_met meeting (task ∷ later) =
 
 unfoldable pub merged_slot : Meeting → List ℕ → SlotValue
 merged_slot meeting given = record {
-  marks = done_marks meeting.wishes.date meeting.device.user (slot_of meeting).marks;
+  marks = done_of meeting;
   parted = parted_met meeting (tasks meeting);
   shelves = merged_shelves meeting (active meeting) given (slot_of meeting).shelves;
 }

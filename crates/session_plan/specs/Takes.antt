@@ -23,7 +23,6 @@ use Rattle.session_plan.specs.Merges.{archive_of, beside}
 use Rattle.session_plan.specs.Partings.{parted_planned}
 use Rattle.session_plan.specs.Rows.{planned_base, planned_rows}
 use Rattle.session_plan.specs.Tasks.{records_of}
-use Rattle.session_plan.specs.Users.{done_marks}
 use Rattle.session_plan.specs.declared.planned.Planned.{Planned}
 use Rattle.session_parts.specs.declared.skip.Skip.{Skip}
 
@@ -95,18 +94,17 @@ abbrev pub parted_after : UserInfo → SlotValue → List Planned → List Parte
 parted_after user slot planned =
     parted_planned (is_stranger_to user slot.marks) slot.shelves slot.parted planned
 
--- the slots once the one at this place took what was planned, and the marks that end a session with
--- this user
-unfoldable pub taken_slots : ℕ → UserInfo → List Planned → List (List ℕ) → ℕ → List SlotValue
-    → List SlotValue
-taken_slots date user planned ids place slots =
-    slots_with (done_marks date user (slot_at slots place).marks)
-    (parted_after user (slot_at slots place) planned)
-    (changes_of date (slot_at slots place).shelves planned ids) place slots
+-- the slots once the one at this place took what was planned with this user, and the marks that
+-- end the session, at their date
+unfoldable pub taken_slots : Marks → UserInfo → List Planned → List (List ℕ) → ℕ
+    → List SlotValue → List SlotValue
+taken_slots done user planned ids place slots =
+    slots_with done (parted_after user (slot_at slots place) planned)
+    (changes_of done.last (slot_at slots place).shelves planned ids) place slots
 
 -- the files that this writes
-unfoldable pub taken_entries : ℕ → UserInfo → List Planned → List (List ℕ) → ℕ → List SlotValue
-    → List EntryValue
-taken_entries date user planned ids place slots =
-    slot_entries place (changes_of date (slot_at slots place).shelves planned ids)
-    (infos_of (taken_slots date user planned ids place slots))
+unfoldable pub taken_entries : Marks → UserInfo → List Planned → List (List ℕ) → ℕ
+    → List SlotValue → List EntryValue
+taken_entries done user planned ids place slots =
+    slot_entries place (changes_of done.last (slot_at slots place).shelves planned ids)
+    (infos_of (taken_slots done user planned ids place slots))

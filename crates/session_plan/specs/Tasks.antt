@@ -1,15 +1,15 @@
 -- The databases of a session: what both sides hold under a name before it, and what is asked.
-use Rattle.std.specs.Prelude.{ℕ, Bool, List, [], ◌∷◌, insert, length, map, if◌then◌else◌, Option, Some, None}
+use Rattle.std.specs.Prelude.{ℕ, List, [], ◌∷◌, insert, length, map, if◌then◌else◌, Option, Some, None}
 use Rattle.std.specs.List.{list_any, position_or_len}
 use Rattle.std.specs.Str.{bytes_eq}
 use Rattle.pdb_values.specs.Databases.{DatabaseValue}
 use Rattle.pdb_values.specs.NamedDatabases.{comes_before, database_of}
-use Rattle.pdb_values.specs.Slots.{slot_for}
 use Rattle.pdb_values.specs.declared.record.Record.{Record}
 use Rattle.palm_device.specs.Devices.{Device}
 use Rattle.conduit_rules.specs.declared.action.Action.{Action}
 use Rattle.conduit_rules.specs.declared.action.Action.TheVariants as action
-use Rattle.folder_files.specs.Slots.{users_of}
+use Rattle.desktop_session.specs.Seats.{seat_for}
+use Rattle.desktop_session.specs.declared.seat.UserWish.{UserWish}
 use Rattle.desk_store.specs.Desks.{place_of}
 use Rattle.desk_store.specs.Shelves.{SlotValue, marks_of, slot_at}
 use Rattle.run_words.specs.Actions.{action_for}
@@ -28,16 +28,16 @@ pub record Meeting : Type 0 where
   pub wishes : Wishes
 
 -- the place of the slot that a handheld's user has
-abbrev pub place_for : Device → List SlotValue → Bool → ℕ
-place_for device slots add =
-    place_of (length slots) (slot_for (users_of (marks_of slots)) device.user.user add)
+abbrev pub place_for : Device → List SlotValue → UserWish → ℕ
+place_for device slots wish =
+    place_of (length slots) (seat_for (marks_of slots) wish device.user)
 
 -- a handheld meets a desktop: the slot of its user is picked
 abbrev pub meeting_of : Device → List SlotValue → Wishes → Meeting
 meeting_of device slots wishes = record {
   device = device;
   slots = slots;
-  picked = place_for device slots wishes.add_user;
+  picked = place_for device slots wishes.user;
   wishes = wishes;
 }
 

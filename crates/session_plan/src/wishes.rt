@@ -1,4 +1,5 @@
 // What is asked of a session.
+use desktop_session::UserWish;
 use pdb_values::PalmDate;
 use run_words::NamedAction;
 
@@ -9,8 +10,8 @@ pub struct Wishes {
     pub date: PalmDate,
     /// Whether every database is read whole, also where both sides agree.
     pub slow: bool,
-    /// Whether a handheld's user that the desktop does not know may get a slot.
-    pub add_user: bool,
+    /// What is asked of the handheld's user.
+    pub user: UserWish,
     /// What is done with a database, by its name. One that is not named is synchronised.
     pub actions: Vec<NamedAction>,
 }

@@ -16,6 +16,7 @@ use Rattle.pdb_values.specs.declared.record.Record.{Record}
 use Rattle.pdb_values.specs.declared.user.Marks.{Marks}
 use Rattle.sync_session.specs.Outcomes.{IsCommitFile}
 use Rattle.session_plan.specs.Takes.{change_from, change_unless, changes_of, taken_entries, taken_slots}
+use Rattle.session_plan.specs.Users.{done_of}
 use Rattle.sync_session.proofs.SwapLaws.{HasName}
 use Rattle.sync_session.proofs.TakenLaws.{change-task, old_at, planned_name, rows_at, rows_name}
 use Rattle.std.proofs.lemmas.Bool.{or_left, or_right}
@@ -94,11 +95,11 @@ module _ (meeting : Meeting) where
   )
 
   pub taken-files : (planned : List Planned) (ids : List (List ℕ)) → ArePlannedFor meeting planned
-      → AreCommitFiles meeting (taken_entries meeting.wishes.date meeting.device.user planned ids meeting.picked meeting.slots)
+      → AreCommitFiles meeting (taken_entries (done_of meeting) meeting.device.user planned ids meeting.picked meeting.slots)
   unfolding taken_entries tasks
   taken-files planned ids are =
       let changes : List DbChange = changes_of meeting.wishes.date (slot_of meeting).shelves planned ids in
-      let infos : List SlotInfoValue = infos_of (taken_slots meeting.wishes.date meeting.device.user planned ids meeting.picked meeting.slots) in
+      let infos : List SlotInfoValue = infos_of (taken_slots (done_of meeting) meeting.device.user planned ids meeting.picked meeting.slots) in
       all-append (λ (entry : EntryValue). IsCommitFile meeting entry.name) (flat_map (db_entries meeting.picked) changes) (slots_entry infos ∷ [])
       (all_flat (λ (entry : EntryValue). IsCommitFile meeting entry.name) (IsTaskChange meeting) (db_entries meeting.picked) changes change_files
       (changes-of_tasks meeting (names meeting) planned ids (named_in (names meeting) (names meeting) (λ name is. is)) are)) (inl refl, tt)

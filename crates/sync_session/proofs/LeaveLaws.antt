@@ -11,7 +11,7 @@ use Rattle.session_parts.proofs.LinkWords.{LinkFault, Talk, SessionValue, Act, t
 use Rattle.desk_journal.specs.Entries.{EntryValue}
 use Rattle.desk_journal.specs.Overlays.{FinishesAs, finished, put_all}
 use Rattle.desk_journal.proofs.StepLaws.{all-append}
-use Rattle.folder_files.specs.Slots.{users_of, SlotInfoValue}
+use Rattle.folder_files.specs.Slots.{SlotInfoValue}
 use Rattle.sync_session.proofs.MeetingWords.{DbHead, DatabaseValue, SlotValue, marks_of, slot_at, DeskValue, marks_in, shelves_in, gained, news_under}
 use Rattle.sync_session.proofs.MeetingWords.{SpansBehind, each_acts, Planned}
 use Rattle.desk_store.specs.Changes.{archive_entries, db_entries, slots_entry}
@@ -25,7 +25,7 @@ use Rattle.desktop_session.proofs.StopLaws.{fell_none, stops_none, stops_then}
 use Rattle.session_plan.specs.Commits.{Commits}
 use Rattle.sync_session.specs.Courses.{AfterCommit, AfterMeeting, AfterNews, AfterPreparing, AfterReading, Prepares}
 use Rattle.session_parts.specs.Meets.{MeetsOrNot}
-use Rattle.sync_session.specs.Courses.{ReadsAll, Runs, closed, jobs_met, picked_for, stopped}
+use Rattle.sync_session.specs.Courses.{ReadsAll, Runs, closed, done_for, jobs_met, picked_for, stopped}
 use Rattle.sync_session.specs.Leaving.{IsSlotsFile, LeavesFolder}
 use Rattle.session_parts.specs.Leaving.{Leaves}
 use Rattle.session_plan.specs.PlannedLimits.{limit_planned}
@@ -89,12 +89,12 @@ change_files place change = (
   (inr (record { role = Base; name = change.base.head.name; is = refl }), archive_files place change.archive),
 )
 
-taken_files : (date : ℕ) (user : UserInfo) (planned : List Planned) (ids : List (List ℕ)) (place : ℕ) (slots : List SlotValue)
-    → AreSlotsFiles place (taken_entries date user planned ids place slots)
+taken_files : (done : Marks) (user : UserInfo) (planned : List Planned) (ids : List (List ℕ)) (place : ℕ) (slots : List SlotValue)
+    → AreSlotsFiles place (taken_entries done user planned ids place slots)
 unfolding taken_entries
-taken_files date user planned ids place slots =
-    let changes : List DbChange = changes_of date (slot_at slots place).shelves planned ids in
-    let infos : List SlotInfoValue = infos_of (taken_slots date user planned ids place slots) in
+taken_files done user planned ids place slots =
+    let changes : List DbChange = changes_of done.last (slot_at slots place).shelves planned ids in
+    let infos : List SlotInfoValue = infos_of (taken_slots done user planned ids place slots) in
     all-append (λ (entry : EntryValue). IsSlotsFile place entry.name) (flat_map (db_entries place) changes) (slots_entry infos ∷ [])
     (all-flat_map (λ (entry : EntryValue). IsSlotsFile place entry.name) (db_entries place) changes (change_files place)) (inl refl, tt)
 
@@ -157,14 +157,14 @@ module _ {L F : Type 0} (talk : L → Option Talk) (since : L → L → Type 0) 
     nothing_said : {old new : L} → new ≡ old → Stops talk since fault downs [] old new
     nothing_said {old} same = rw same (stops_none talk since fault downs [] old old refl (itself old) (fell_none fault downs old))
 
-    after_commit : (date : ℕ) (slot : Marks) (prepared : Prepared) {taken : List SlotValue} {entries : List EntryValue} (place : ℕ) (old : SessionValue L)
+    after_commit : (done : Marks) (prepared : Prepared) {taken : List SlotValue} {entries : List EntryValue} (place : ℕ) (old : SessionValue L)
         {desk : DeskValue F} (answer : Result (DeskValue F) (CommitFault × F)) {left : Outcome L F}
         → Commits contents moments paths faults taken entries desk answer
         → AreSlotsFiles place entries
-        → AfterCommit talk since fault downs date slot prepared old answer left → LeavesBoth old.link desk.folder left
-    after_commit date slot prepared place old (Ok after) commits files goes =
+        → AfterCommit talk since fault downs done prepared old answer left → LeavesBoth old.link desk.folder left
+    after_commit done prepared place old (Ok after) commits files goes =
         rw goes.is (both_closed place prepared.reports goes.answer goes.ends.stops commits files)
-    after_commit date slot prepared {entries} place old (Err refusal) commits files goes = rw goes (record {
+    after_commit done prepared {entries} place old (Err refusal) commits files goes = rw goes (record {
       requests = [];
       stops = nothing_said refl;
       desk = record {
@@ -193,22 +193,22 @@ module _ {L F : Type 0} (talk : L → Option Talk) (since : L → L → Type 0) 
         desk = both.desk;
       }
 
-      after_news : (date : ℕ) (prepared : Prepared) {old now : SessionValue L} (desk : DeskValue F) (answer : Result (Vec (Vec ℕ)) SessionFault)
+      after_news : (done : Marks) (prepared : Prepared) {old now : SessionValue L} (desk : DeskValue F) (answer : Result (Vec (Vec ℕ)) SessionFault)
           {left : Outcome L F} → SpansBehind talk since fault downs (marking (begun_user old.user) 0x40)
           (news_under (shelves_in desk)) (λ told one handle given (ids : Vec ℕ). gained (shelves_in desk) told one handle given ids.items) prepared.planned.items (λ (made : Vec (Vec ℕ)). made.items)
           old now answer
-          → AfterNews talk since fault downs contents moments paths faults date prepared now desk answer left → LeavesBoth old.link desk.folder left
-      after_news date prepared {now} desk (Ok ids) sends goes =
-          both_behind sends.stops sends.does (after_commit date (marks_in desk) prepared desk.picked now goes.answer goes.commits
-          (taken_files date now.user prepared.planned.items (each_of ids.items) desk.picked desk.slots) goes.goes)
-      after_news date prepared desk (Err cause) sends goes = both_stopped sends.stops goes (λ is. cc)
+          → AfterNews talk since fault downs contents moments paths faults done prepared now desk answer left → LeavesBoth old.link desk.folder left
+      after_news done prepared {now} desk (Ok ids) sends goes =
+          both_behind sends.stops sends.does (after_commit done prepared desk.picked now goes.answer goes.commits
+          (taken_files done now.user prepared.planned.items (each_of ids.items) desk.picked desk.slots) goes.goes)
+      after_news done prepared desk (Err cause) sends goes = both_stopped sends.stops goes (λ is. cc)
 
-      after_preparing : (wishes : Wishes) {heads : List DbHead} (desk : DeskValue F) {old now : SessionValue L} (answer : Result Prepared Stop)
+      after_preparing : (done : Marks) (wishes : Wishes) {heads : List DbHead} (desk : DeskValue F) {old now : SessionValue L} (answer : Result Prepared Stop)
           {left : Outcome L F} → Prepares talk since fault downs heads wishes desk old now answer
-          → AfterPreparing talk since fault downs contents moments paths faults wishes.date now desk answer left → LeavesBoth old.link desk.folder left
-      after_preparing wishes {heads} desk {old} {now} (Ok prepared) prepares goes =
+          → AfterPreparing talk since fault downs contents moments paths faults done now desk answer left → LeavesBoth old.link desk.folder left
+      after_preparing done wishes {heads} desk {old} {now} (Ok prepared) prepares goes =
           both_behind prepares.reads.reads.stops (read_whole prepares.reading prepares.reads prepares.goes)
-          (after_news wishes.date prepared desk goes.answer goes.sends goes.goes)
+          (after_news done prepared desk goes.answer goes.sends goes.goes)
         where
           -- what was prepared was all read
           read_whole : (reading : Result (Vec Planned) SessionFault) (reads : ReadsAll talk since fault downs heads wishes desk old now reading)
@@ -217,18 +217,19 @@ module _ {L F : Type 0} (talk : L → Option Talk) (since : L → L → Type 0) 
               old.link now.link
           read_whole (Ok planned) reads goes = reads.reads.does
           read_whole (Err cause) reads goes = absurd cc
-      after_preparing wishes {heads} desk {now} (Err cause) prepares goes =
+      after_preparing done wishes {heads} desk {now} (Err cause) prepares goes =
           both_stopped prepares.reads.reads.stops goes (nor_reading heads desk now.user prepares.reading cause prepares.goes)
 
-      after_meeting : (users : List ℕ) (wishes : Wishes) {old : L} (desk : DeskValue F) (answer : Result (Met L) (Halted L)) {left : Outcome L F}
-          → MeetsOrNot talk since fault downs users wishes.add_user old answer
-          → AfterMeeting talk since fault downs contents moments paths faults users wishes desk answer left → LeavesBoth old desk.folder left
-      after_meeting users wishes desk (Ok met) (inl meets) goes =
+      after_meeting : (marks : List Marks) (wishes : Wishes) {old : L} (desk : DeskValue F) (answer : Result (Met L) (Halted L)) {left : Outcome L F}
+          → MeetsOrNot talk since fault downs marks wishes.user old answer
+          → AfterMeeting talk since fault downs contents moments paths faults marks wishes desk answer left → LeavesBoth old desk.folder left
+      after_meeting marks wishes desk (Ok met) (inl meets) goes =
           both_behind meets.stops meets.does
-          (after_preparing wishes (picked_for users met.linked.user.user wishes.add_user desk) goes.answer goes.prepares goes.goes)
-      after_meeting users wishes desk (Ok met) (inr none) goes = absurd none
-      after_meeting users wishes desk (Err halted) (inl meets) goes = both_stopped meets.stops goes (λ is. cc)
-      after_meeting users wishes desk (Err halted) (inr none) goes = both_stopped (nothing_said none.0) goes (λ is. cc)
+          (after_preparing (done_for wishes met.linked.user (picked_for marks wishes.user met.linked.user desk)) wishes
+          (picked_for marks wishes.user met.linked.user desk) goes.answer goes.prepares goes.goes)
+      after_meeting marks wishes desk (Ok met) (inr none) goes = absurd none
+      after_meeting marks wishes desk (Err halted) (inl meets) goes = both_stopped meets.stops goes (λ is. cc)
+      after_meeting marks wishes desk (Err halted) (inr none) goes = both_stopped (nothing_said none.0) goes (λ is. cc)
 
 -- ---- the whole
 
@@ -238,7 +239,7 @@ module _ {L F : Type 0} {talk : L → Option Talk} {since : L → L → Type 0} 
     (runs : Runs talk since fault downs contents moments paths faults wishes old desk left) where
   runs_both : LeavesBoth talk since fault downs contents moments paths faults old desk.folder left
   runs_both =
-      after_meeting talk since fault downs contents moments paths faults itself since_more (users_of (marks_of desk.slots)) wishes desk runs.answer
+      after_meeting talk since fault downs contents moments paths faults itself since_more (marks_of desk.slots) wishes desk runs.answer
       runs.meets runs.goes
 
   pub runs_link : Leaves since fault downs old left.link

@@ -9,7 +9,9 @@ use Rattle.std.specs.Str.{bytes_eq}
 use Rattle.sync_session.proofs.MeetingWords.{DatabaseValue, DbHead, ShelvesValue, agrees, job_for, listed_head, IsAtRest, greeting, listing_all, head_of}
 use Rattle.sync_session.proofs.MeetingWords.{Meeting, names, names_of, slot_of, task_of, tasks, with_names}
 use Rattle.pdb_values.specs.NamedDatabases.{database_of}
-use Rattle.pdb_values.specs.Slots.{slot_for}
+use Rattle.desktop_session.specs.Seats.{seat_for}
+use Rattle.desktop_session.specs.declared.seat.UserWish.{UserWish}
+use Rattle.pdb_values.specs.declared.user.Marks.{Marks}
 use Rattle.pdb_values.specs.declared.user.UserInfo.{UserInfo}
 use Rattle.dlp_replies.specs.ReplyReading.{reply_at}
 use Rattle.palm_device.specs.Devices.{Device}
@@ -109,19 +111,19 @@ unfolding told tried
 user_told device proper = ap (said_in 0x10 user_of) (acted_reads reading_user device proper (act_sayable reading_user.asks device user_fits refl))
 
 -- and so its first reply
-pub user_read : (users : List ℕ) (add : Bool) (device : Device) (told : Option Talk) (answer : Result UserInfo SessionFault) → IsTellable device
-    → Tells device told → (said : AnswersGreeting users add told None answer) → said_in 0x10 user_of (reply_at 0x10 said.first) ≡ Ok device.user
-user_read users add device told answer proper tells said =
+pub user_read : (marks : List Marks) (wish : UserWish) (device : Device) (told : Option Talk) (answer : Result UserInfo SessionFault) → IsTellable device
+    → Tells device told → (said : AnswersGreeting marks wish told None answer) → said_in 0x10 user_of (reply_at 0x10 said.first) ≡ Ok device.user
+user_read marks wish device told answer proper tells said =
     let here : IfSome (Some tells.talk) (λ talk. said.first ≡ (acted reading_user talk.device).0) = rw tells.is at (said.told refl) in
     ap (λ b. said_in 0x10 user_of (reply_at 0x10 b)) (here ∙ ap (λ d. (acted reading_user d).0) tells.same) ∙ user_told device proper
 
 -- a greeting that was answered tells the handheld's user
-pub greeted_user : (users : List ℕ) (add : Bool) (device : Device) (told : Option Talk) (known : UserInfo) → IsTellable device → Tells device told
-    → AnswersGreeting users add told None (Ok known) → known ≡ device.user
-greeted_user users add device told known proper tells said =
+pub greeted_user : (marks : List Marks) (wish : UserWish) (device : Device) (told : Option Talk) (known : UserInfo) → IsTellable device → Tells device told
+    → AnswersGreeting marks wish told None (Ok known) → known ≡ device.user
+greeted_user marks wish device told known proper tells said =
     let second : Result (Unit {0}) SessionFault = said_in 0x2E no_more (reply_at 0x2E said.second) in
-    (seated_with users device.user known (slot_for users device.user.user add) second
-    (said.is ∙ ap (λ r. begun_by (user_by users add r) second) (user_read users add device told (Ok known) proper tells said))).1
+    (seated_with marks device.user known (seat_for marks wish device.user) second
+    (said.is ∙ ap (λ r. begun_by (user_by marks wish r) second) (user_read marks wish device told (Ok known) proper tells said))).1
 
 -- ---- both sides met
 
@@ -138,9 +140,9 @@ meeting_leaves meeting =
     let all : ℕ = max 1 (length meeting.device.databases) in
     after_append greeting (listings all) meeting.device ∙ ap (device_after (listings all)) (greeting_same meeting.device) ∙ listings_same all meeting.device
 
-module _ {L : Type 0} {talk : L → Option Talk} {since : L → L → Type 0} {fault : L → Option LinkFault} {downs : L → ℕ} {users : List ℕ} {add : Bool}
+module _ {L : Type 0} {talk : L → Option Talk} {since : L → L → Type 0} {fault : L → Option LinkFault} {downs : L → ℕ} {marks : List Marks} {wish : UserWish}
     {old : L} (meeting : Meeting) (rests : IsAtRest meeting.device) (tells : Tells meeting.device (talk old)) where
-  pub meets_join : {met : Met L} → (meets : Meets talk since fault downs users add old (Ok met))
+  pub meets_join : {met : Met L} → (meets : Meets talk since fault downs marks wish old (Ok met))
       → MeetsJoin meeting (talk old) meets.count met.linked.user met.heads.items
   unfolding listing_all
   meets_join {met} meets =
@@ -153,12 +155,12 @@ module _ {L : Type 0} {talk : L → Option Talk} {since : L → L → Type 0} {f
       record {
         acts = ap meeting_acts all;
         tells = tells_on device device (greeting ++ listings (max 1 (length device.databases))) (talk old) tells (meeting_leaves meeting);
-        user = greeted_user users add device (talk old) met.linked.user proper tells meets.user;
+        user = greeted_user marks wish device (talk old) met.linked.user proper tells meets.user;
         heads = heads ∙ heads_are device meets.count proper (omega arith) meets.few;
       }
 
   -- it was asked for no more than the meeting asks
-  pub meets_lead : {answer : Result (Met L) (Halted L)} → (meets : Meets talk since fault downs users add old answer)
+  pub meets_lead : {answer : Result (Met L) (Halted L)} → (meets : Meets talk since fault downs marks wish old answer)
       → Leads (meeting_acts meets.count) (greeting ++ listing_all meeting)
   unfolding listing_all
   meets_lead meets =

@@ -42,7 +42,7 @@ use Rattle.sync_session.proofs.SessionJoins.{NewsReach, Reached, end_reach, end_
 use Rattle.session_parts.proofs.SpanLaws.{on_ok}
 use Rattle.session_parts.proofs.StretchLaws.{Tells}
 use Rattle.sync_session.proofs.TakenLaws.{taken-merged}
-use Rattle.session_plan.specs.Users.{begun_user}
+use Rattle.session_plan.specs.Users.{begun_user, done_of}
 
 -- ---- the folder
 
@@ -192,18 +192,18 @@ module _ {L F : Type 0} (talk : L → Option Talk) (since : L → L → Type 0) 
     each_moment = done.moved;
   }
 
-  closes_ends : (since_more : (a b c : L) → since a b → since b c → since a c) {given : List ℕ} {dealt : List (List ℕ)} {date : ℕ} {slot : Marks}
-      (prepared : Prepared) {between : SessionValue L} {folder after : F} (answer : Result (Ended L) (Halted L)) → date ≡ meeting.wishes.date
-      → between.user ≡ meeting.device.user → slot ≡ (slot_of meeting).marks → ArePlannedFor meeting prepared.planned.items
+  closes_ends : (since_more : (a b c : L) → since a b → since b c → since a c) {given : List ℕ} {dealt : List (List ℕ)} {done : Marks}
+      (prepared : Prepared) {between : SessionValue L} {folder after : F} (answer : Result (Ended L) (Halted L))
+      → between.user ≡ meeting.device.user → done ≡ done_of meeting → ArePlannedFor meeting prepared.planned.items
       → prepared.reports.items ≡ reports meeting → Committed given dealt between.link folder after
-      → (ends : Ends talk since fault downs prepared.planned.items (last_acts date between.user slot) between answer)
+      → (ends : Ends talk since fault downs prepared.planned.items (last_acts between.user done) between answer)
       → EndsSo folder (closed after prepared.reports answer)
-  closes_ends since_more {given} prepared (Ok ended) dated known marked are told done ends = record {
+  closes_ends since_more {given} prepared (Ok ended) known ends_so are told done ends = record {
     ended = record {
       given = given;
       count = done.news.count;
       free = session_free meeting given done.news.free;
-      does = (end_reach meeting dated known marked are done.news since_more ends).does;
+      does = (end_reach meeting known ends_so are done.news since_more ends).does;
       desk = done.desk;
       moments = done.each;
       told = told;
@@ -217,7 +217,7 @@ module _ {L F : Type 0} (talk : L → Option Talk) (since : L → L → Type 0) 
     losing = λ some. not_refused _ meeting done.on (inr some);
     loss = λ name none is. none_named _ (first_loss meeting) name done.on.keeps is;
   }
-  closes_ends since_more {given} prepared {between} {after} (Err halted) dated known marked are told done ends = record {
+  closes_ends since_more {given} prepared {between} {after} (Err halted) known ends_so are told done ends = record {
     ended = tt;
     stopped = inr (record {
       given = given;
@@ -226,7 +226,7 @@ module _ {L F : Type 0} (talk : L → Option Talk) (since : L → L → Type 0) 
       free = done.news.free;
       does = done.news.reached.does;
       stops = rw (text-before_commit meeting given (replicate (adds_of meeting) 0)) at done.news.reached.stops;
-      rest = end_stop meeting dated known marked are done.news ends;
+      rest = end_stop meeting known ends_so are done.news ends;
       stands = desk_stands (contents after) (merged_slots meeting given) done.desk;
       moments = done.each;
     });
@@ -293,14 +293,14 @@ module _ {L F : Type 0} (talk : L → Option Talk) (since : L → L → Type 0) 
         })
 
     module _ (since_more : (a b c : L) → since a b → since b c → since a c) where
-      commit_ends : {given : List ℕ} {dealt : List (List ℕ)} {date : ℕ} {slot : Marks} (prepared : Prepared) {entries : List EntryValue}
+      commit_ends : {given : List ℕ} {dealt : List (List ℕ)} {done : Marks} (prepared : Prepared) {entries : List EntryValue}
           (between : SessionValue L) {desk : DeskValue F} (answer : Result (DeskValue F) (CommitFault × F)) {left : Outcome L F}
-          → date ≡ meeting.wishes.date → between.user ≡ meeting.device.user → slot ≡ (slot_of meeting).marks
+          → between.user ≡ meeting.device.user → done ≡ done_of meeting
           → ArePlannedFor meeting prepared.planned.items → prepared.reports.items ≡ reports meeting
           → NewsReach talk since fault downs meeting given dealt old between.link → IsUnrefused meeting → IsOk (seat_of meeting)
           → Commits contents moments paths faults (merged_slots meeting given) entries desk answer → AreCommitFiles meeting entries
-          → AfterCommit talk since fault downs date slot prepared between answer left → EndsSo desk.folder left
-      commit_ends {given} {dealt} prepared {entries} between {desk} (Ok after) dated known marked are told news on seated commits files goes =
+          → AfterCommit talk since fault downs done prepared between answer left → EndsSo desk.folder left
+      commit_ends {given} {dealt} prepared {entries} between {desk} (Ok after) known ends_so are told news on seated commits files goes =
           let merged : List SlotValue = merged_slots meeting given in
           let stands : IsDesk (contents after.folder) merged = rw commits.slots at commits.stands in
           let made : IsDesk (option_map (put_all entries) (contents desk.folder)) merged = rw commits.written at stands in
@@ -317,14 +317,14 @@ module _ {L F : Type 0} (talk : L → Option Talk) (since : L → L → Type 0) 
             written = commits.written;
             moved = commits.each_moment;
           } in
-          rw goes.is (closes_ends since_more prepared goes.answer dated known marked are told done goes.ends)
-      commit_ends prepared between (Err refusal) dated known marked are told news on seated commits files goes =
+          rw goes.is (closes_ends since_more prepared goes.answer known ends_so are told done goes.ends)
+      commit_ends prepared between (Err refusal) known ends_so are told news on seated commits files goes =
           refused_ends news on seated commits files goes
 
       -- what both sides know of each other once all is read
-      pub record Known (prepared : Prepared) (now : SessionValue L) (desk : DeskValue F) (date : ℕ) : Type 0 where
+      pub record Known (prepared : Prepared) (now : SessionValue L) (desk : DeskValue F) (done : Marks) : Type 0 where
         pub rests : IsAtRest meeting.device
-        pub dated : date ≡ meeting.wishes.date
+        pub done_is : done ≡ done_of meeting
         pub user : now.user ≡ meeting.device.user
         pub slots : desk.slots ≡ meeting.slots
         pub picked : desk.picked ≡ meeting.picked
@@ -336,27 +336,26 @@ module _ {L F : Type 0} (talk : L → Option Talk) (since : L → L → Type 0) 
         pub read : Reached talk since fault downs (before_writes meeting) old now.link
         pub tells : Tells meeting.device (talk now.link)
 
-      own_shelves : {date : ℕ} {prepared : Prepared} {now : SessionValue L} {desk : DeskValue F} → Known prepared now desk date
+      own_shelves : {done : Marks} {prepared : Prepared} {now : SessionValue L} {desk : DeskValue F} → Known prepared now desk done
           → shelves_in desk ≡ (slot_of meeting).shelves
       own_shelves knows = rw (knows.slots, knows.picked) refl
 
-      pub news_ends : {date : ℕ} {prepared : Prepared} {now then : SessionValue L} {desk : DeskValue F} (answer : Result (Vec (Vec ℕ)) SessionFault)
-          {left : Outcome L F} → Known prepared now desk date → SpansBehind talk since fault downs (marking (begun_user now.user) 0x40)
+      pub news_ends : {done : Marks} {prepared : Prepared} {now then : SessionValue L} {desk : DeskValue F} (answer : Result (Vec (Vec ℕ)) SessionFault)
+          {left : Outcome L F} → Known prepared now desk done → SpansBehind talk since fault downs (marking (begun_user now.user) 0x40)
           (news_under (shelves_in desk)) (λ told one handle given (ids : Vec ℕ). gained (shelves_in desk) told one handle given ids.items) prepared.planned.items (λ (made : Vec (Vec ℕ)). made.items)
           now then answer
-          → AfterNews talk since fault downs contents moments paths faults date prepared then desk answer left → EndsSo desk.folder left
-      news_ends {date} {prepared} {then} {desk} (Ok ids) knows sends goes =
+          → AfterNews talk since fault downs contents moments paths faults done prepared then desk answer left → EndsSo desk.folder left
+      news_ends {done} {prepared} {then} {desk} (Ok ids) knows sends goes =
           let dealt : List (List ℕ) = each_of ids.items in
           let news = news_reach since_more meeting knows.rests (λ (one : Vec ℕ). one.items) (own_shelves knows) knows.user knows.are knows.read knows.tells sends in
           let user : then.user ≡ meeting.device.user = sends.user ∙ knows.user in
-          let marked : marks_in desk ≡ (slot_of meeting).marks = rw (knows.slots, knows.picked) in
-          let taken : taken_slots date then.user prepared.planned.items dealt desk.picked desk.slots
+          let taken : taken_slots done then.user prepared.planned.items dealt desk.picked desk.slots
           ≡ merged_slots meeting (flat_map (λ (one : Vec ℕ). one.items) ids.items)
-          = rw (knows.dated, user, knows.picked, knows.slots)
+          = rw (knows.done_is, user, knows.picked, knows.slots)
           (taken-merged meeting prepared.planned.items dealt knows.ordered knows.are news.dealt ∙ ap (merged_slots meeting) (sym (flat-each ids.items))) in
-          let files : AreCommitFiles meeting (taken_entries date then.user prepared.planned.items dealt desk.picked desk.slots)
-          = rw (knows.dated, user, knows.picked, knows.slots) (taken-files meeting prepared.planned.items dealt knows.are) in
-          commit_ends prepared then goes.answer knows.dated user marked knows.are knows.told news knows.on knows.seated (rw taken at goes.commits) files goes.goes
+          let files : AreCommitFiles meeting (taken_entries done then.user prepared.planned.items dealt desk.picked desk.slots)
+          = rw (knows.done_is, user, knows.picked, knows.slots) (taken-files meeting prepared.planned.items dealt knows.are) in
+          commit_ends prepared then goes.answer user knows.done_is knows.are knows.told news knows.on knows.seated (rw taken at goes.commits) files goes.goes
       news_ends {then} (Err cause) knows sends goes =
           ends_before goes (news_stop since_more meeting knows.rests (λ (one : Vec ℕ). one.items) (own_shelves knows) knows.user knows.are knows.read knows.tells
           (replicate (adds_of meeting) 0) sends)

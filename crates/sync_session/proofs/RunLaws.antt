@@ -6,8 +6,8 @@ use Rattle.hs_folders.specs.FileMaps.{FileMap}
 use Rattle.hs_folders.specs.Moments.{Moments}
 use Rattle.sync_session.proofs.MeetingWords.{DbHead, AreInOrder, marks_of, DeskValue, marks_in, parted_in, shelves_in, DatabaseValue, Planned, ArePlannedFor, IsAtRest}
 use Rattle.sync_session.proofs.MeetingWords.{before_writes, greeting, listing_all, Meeting, meeting_of, slot_of, agrees}
+use Rattle.pdb_values.specs.declared.user.Marks.{Marks}
 use Rattle.pdb_values.specs.declared.user.UserInfo.{UserInfo}
-use Rattle.folder_files.specs.Slots.{users_of}
 use Rattle.session_parts.proofs.LinkWords.{LinkFault, Talk, Halted, SessionFault, text, no_more, said_in, user_of, reading_user, IsTellable, SessionValue, Does}
 use Rattle.session_parts.proofs.LinkWords.{Stops}
 use Rattle.dlp_commands.specs.declared.link.LinkFault.TheVariants as link
@@ -19,7 +19,7 @@ use Rattle.dlp_replies.specs.declared.fault.ReplyFault.{ReplyFault}
 use Rattle.dlp_replies.specs.ReplyReading.{reply_at}
 use Rattle.dlp_replies.specs.ReplyValues.{ReplyValue}
 use Rattle.dlp_commands.specs.DatabaseFunctions.{listed}
-use Rattle.pdb_values.specs.Slots.{slot_for}
+use Rattle.desktop_session.specs.Seats.{numbers_of, seat_for}
 use Rattle.pdb_values.specs.declared.slot.Slot.{Slot}
 use Rattle.pdb_values.specs.declared.slot.Slot.TheVariants as slot
 use Rattle.mirrors.specs.Agreements.{agreed}
@@ -32,7 +32,8 @@ use Rattle.session_parts.specs.declared.stop.Stop.{Stop}
 use Rattle.session_parts.specs.declared.stop.Stop.TheVariants as stop
 use Rattle.session_plan.specs.declared.wishes.Wishes.{Wishes}
 use Rattle.session_parts.specs.Causes.{IsLater}
-use Rattle.sync_session.specs.Courses.{AfterMeeting, AfterPreparing, AfterReading, GoesOn, ReadsAll, Runs, jobs_met, picked_for, stopped}
+use Rattle.sync_session.specs.Courses.{AfterMeeting, AfterPreparing, AfterReading, GoesOn, ReadsAll, Runs, done_for, jobs_met, picked_for, stopped}
+use Rattle.session_plan.specs.Users.{done_of}
 use Rattle.session_parts.specs.Meets.{MeetsOrNot, IsUnlisted}
 use Rattle.session_plan.specs.Limits.{first_over}
 use Rattle.session_plan.specs.Losses.{first_loss}
@@ -84,13 +85,13 @@ module _ (meeting : Meeting) (over loss : Option (List ℕ)) (reported : List Db
 
 -- ---- the slot of the handheld's user
 
--- the users of the desktop's slots
-abbrev users_in : Meeting → List ℕ
-users_in meeting = users_of (marks_of meeting.slots)
+-- the marks of the desktop's slots
+abbrev marks_met : Meeting → List Marks
+marks_met meeting = marks_of meeting.slots
 
 -- the handheld's user has a slot
 seat_told : (meeting : Meeting) (told : Option Talk) → IsTellable meeting.device → Tells meeting.device told
-    → HasSlot (users_in meeting) meeting.wishes.add_user told → IsOk (seat_of meeting)
+    → HasSlot (marks_met meeting) meeting.wishes.user told → IsOk (seat_of meeting)
 seat_told meeting told proper tells slot = rw (tells.is, tells.same, user_told meeting.device proper) at slot
 
 begun_why : (talk : Option Talk) (user : UserInfo) (second : Result (Unit {0}) SessionFault) (read : Result ReplyValue ReplyFault) (cause : SessionFault)
@@ -102,26 +103,26 @@ begun_why talk user (Err other) read cause same is last =
 
 module _ (meeting : Meeting) {told : Option Talk} (proper : IsTellable meeting.device) (tells : Tells meeting.device told) where
   -- a greeting that was answered is of a user with a slot
-  seat_greeted : {user : UserInfo} → AnswersGreeting (users_in meeting) meeting.wishes.add_user told None (Ok user) → IsOk (seat_of meeting)
+  seat_greeted : {user : UserInfo} → AnswersGreeting (marks_met meeting) meeting.wishes.user told None (Ok user) → IsOk (seat_of meeting)
   seat_greeted {user} said =
-      seat_told meeting told proper tells (greeted_slot (users_in meeting) meeting.wishes.add_user told user said)
+      seat_told meeting told proper tells (greeted_slot (marks_met meeting) meeting.wishes.user told user said)
 
   module _ (cause : SessionFault) {why : SessionFault} (unseated : seat_of meeting ≡ Err why) where
     -- a user without a slot is the cause, unless the link has a fault
-    greeted_for : (fault_now : Option LinkFault) → AnswersGreeting (users_in meeting) meeting.wishes.add_user told fault_now (Err cause)
+    greeted_for : (fault_now : Option LinkFault) → AnswersGreeting (marks_met meeting) meeting.wishes.user told fault_now (Err cause)
         → StopsFor (stop.Session why) (Err (stop.Session cause))
     greeted_for (Some link.Down) said = inr (inl (ap stop.Session (let same : cause ≡ session.Down = let is = said.is in cc in same)))
     greeted_for (Some link.NoMemory) said = inr (inr (ap stop.Session (let same : cause ≡ session.NoMemory = let is = said.is in cc in same)))
     greeted_for None said =
         let second : Result (Unit {0}) SessionFault = said_in 0x2E no_more (reply_at 0x2E said.second) in
         let found : ◌≡◌ {A = Result UserInfo SessionFault} (Err cause) (begun_by (Err why) second)
-        = said.is ∙ ap (λ r. begun_by (user_by (users_in meeting) meeting.wishes.add_user r) second)
-        (user_read (users_in meeting) meeting.wishes.add_user meeting.device told (Err cause) proper tells said)
+        = said.is ∙ ap (λ r. begun_by (user_by (marks_met meeting) meeting.wishes.user r) second)
+        (user_read (marks_met meeting) meeting.wishes.user meeting.device told (Err cause) proper tells said)
         ∙ ap (λ r. begun_by r second) unseated in
         inl (ap stop.Session (let same : cause ≡ why = cc in same))
 
-    unmet_for : (fault_now : Option LinkFault) → AnswersGreeting (users_in meeting) meeting.wishes.add_user told fault_now (Err cause)
-        ⊎ IsUnlisted (users_in meeting) meeting.wishes.add_user told fault_now cause
+    unmet_for : (fault_now : Option LinkFault) → AnswersGreeting (marks_met meeting) meeting.wishes.user told fault_now (Err cause)
+        ⊎ IsUnlisted (marks_met meeting) meeting.wishes.user told fault_now cause
         → StopsFor (stop.Session why) (Err (stop.Session cause))
     unmet_for fault_now (inl said) = greeted_for fault_now said
     unmet_for fault_now (inr unlisted) = seated_says _ meeting why (seat_greeted unlisted.greeted) unseated
@@ -149,7 +150,15 @@ module _ {L F : Type 0} (talk : L → Option Talk) (since : L → L → Type 0) 
     seated : IsOk (seat_of meeting)
     met : Reached talk since fault downs (greeting ++ listing_all meeting) old now.link
 
-  module _ {heads : List DbHead} {wishes : Wishes} {now : SessionValue L} {desk : DeskValue F} (so : HaveMet heads wishes now desk) where
+  -- the marks that end the session are those of the meeting
+  done_met : (desk : DeskValue F) {user : UserInfo} → desk.slots ≡ meeting.slots
+      → place_of (length desk.slots) (seat_for (marks_of desk.slots) meeting.wishes.user meeting.device.user) ≡ meeting.picked
+      → user ≡ meeting.device.user
+      → done_for meeting.wishes user (picked_for (marks_of desk.slots) meeting.wishes.user user desk) ≡ done_of meeting
+  done_met desk slots place same = rw (same, place, slots)
+
+  module _ {heads : List DbHead} {wishes : Wishes} {now : SessionValue L} {desk : DeskValue F} (so : HaveMet heads wishes now desk) {done : Marks}
+      (ends_so : done ≡ done_of meeting) where
     own_shelves : shelves_in desk ≡ (slot_of meeting).shelves
     own_shelves = rw (so.slots, so.picked)
 
@@ -175,7 +184,7 @@ module _ {L F : Type 0} (talk : L → Option Talk) (since : L → L → Type 0) 
     -- all was read, and then judged
     judged_ends : {then : SessionValue L} {planned : Vec Planned} (answer : Result Prepared Stop) {left : Outcome L F}
         → ReadsAll talk since fault downs heads wishes desk now then (Ok planned) → AfterReading heads desk then.user (Ok planned) answer
-        → AfterPreparing talk since fault downs contents moments paths faults wishes.date then desk answer left → Ends desk.folder left
+        → AfterPreparing talk since fault downs contents moments paths faults done then desk answer left → Ends desk.folder left
     judged_ends {then} {planned} answer {left} reads judged goes =
         let reach = reads_reach since_more meeting so.rests so.starts own_shelves own_jobs so.met reads.reads in
         let are : ArePlannedFor meeting planned.items
@@ -188,14 +197,14 @@ module _ {L F : Type 0} (talk : L → Option Talk) (since : L → L → Type 0) 
             → loss_planned then.user (marks_in desk) (parted_in desk) (shelves_in desk) planned.items ≡ first_loss meeting
             → ReadsReach talk since fault downs meeting (map (λ (one : Planned). one.view) planned.items) old then.link
             → AfterReading heads desk then.user (Ok planned) answer
-            → AfterPreparing talk since fault downs contents moments paths faults wishes.date then desk answer left → Ends desk.folder left
+            → AfterPreparing talk since fault downs contents moments paths faults done then desk answer left → Ends desk.folder left
         step (Ok prepared) are over loss reach judged goes =
             let same : prepared.planned ≡ planned = judged.1 in
             let none : first_over meeting ≡ None = sym over ∙ judged.0.0 in
-            news_ends talk since fault downs contents moments meeting old paths faults itself since_more {date = wishes.date} {prepared = prepared}
+            news_ends talk since fault downs contents moments meeting old paths faults itself since_more {done = done} {prepared = prepared}
             {now = then} {desk = desk} goes.answer (record {
               rests = so.rests;
-              dated = ap (λ (w : Wishes). w.date) so.asked;
+              done_is = ends_so;
               user = reads.reads.user ∙ so.user;
               slots = so.slots;
               picked = so.picked;
@@ -215,7 +224,7 @@ module _ {L F : Type 0} (talk : L → Option Talk) (since : L → L → Type 0) 
 
     prepared_ends : {then : SessionValue L} (answer : Result Prepared Stop) {left : Outcome L F} (reading : Result (Vec Planned) SessionFault)
         → ReadsAll talk since fault downs heads wishes desk now then reading → AfterReading heads desk then.user reading answer
-        → AfterPreparing talk since fault downs contents moments paths faults wishes.date then desk answer left → Ends desk.folder left
+        → AfterPreparing talk since fault downs contents moments paths faults done then desk answer left → Ends desk.folder left
     prepared_ends answer (Ok planned) reads judged goes = judged_ends answer reads judged goes
     prepared_ends {then} answer (Err cause) reads is goes =
         ends_unwritten talk since fault downs contents moments meeting old (rw is at goes)
@@ -227,7 +236,7 @@ module _ {L F : Type 0} (talk : L → Option Talk) (since : L → L → Type 0) 
   module _ (rests : IsAtRest meeting.device) (tells : Tells meeting.device (talk old)) where
     -- where the user has no slot, it was all that was asked for
     asks_alone : {new : L} {why : SessionFault} → seat_of meeting ≡ Err why
-        → AsksUser talk since fault downs old new ⊎ HasSlot (users_in meeting) meeting.wishes.add_user (talk old)
+        → AsksUser talk since fault downs old new ⊎ HasSlot (marks_met meeting) meeting.wishes.user (talk old)
         → AsksUser talk since fault downs old new
     asks_alone unseated (inl asks) = asks
     asks_alone {why} unseated (inr slot) = seated_says _ meeting why (seat_told meeting (talk old) rests.proper tells slot) unseated
@@ -237,23 +246,23 @@ module _ {L F : Type 0} (talk : L → Option Talk) (since : L → L → Type 0) 
         → Does talk (reading_user ∷ []) old new) (last : IsByLastReply (talk new) cause) where
       slot_stop : (found : Slot) (second : Result (Unit {0}) SessionFault) (read : Result ReplyValue ReplyFault) → slot_in meeting ≡ found
           → second ≡ said_in 0x2E no_more read
-          → Err cause ≡ begun_by (user_with (users_in meeting) meeting.device.user found) second → fault new ≡ None
+          → Err cause ≡ begun_by (user_with (marks_met meeting) meeting.device.user found) second → fault new ≡ None
           → IsStopOf talk fault meeting old new (stop.Session cause)
       slot_stop (slot.Old place) second read found same is none =
           later_stop talk fault meeting old new cause (rw none (begun_why (talk new) meeting.device.user second read cause same is last))
       slot_stop slot.New second read found same is none =
           later_stop talk fault meeting old new cause (rw none (begun_why (talk new) meeting.device.user second read cause same is last))
       slot_stop slot.Refused second read found same is none =
-          let why : SessionFault = session.OtherUser meeting.device.user.user (slice_index (users_in meeting) 0) in
+          let why : SessionFault = session.OtherUser meeting.device.user.user (slice_index (numbers_of (marks_met meeting)) 0) in
           let cause_is : cause ≡ why = cc in
           rw cause_is
-          (record { slot = found; handheld_is = refl; desktop_is = refl }, alone why (ap (user_with (users_in meeting) meeting.device.user) found) none)
+          (record { slot = found; handheld_is = refl; desktop_is = refl }, alone why (ap (user_with (marks_met meeting) meeting.device.user) found) none)
       slot_stop slot.Full second read found same is none =
           let cause_is : cause ≡ session.TooManyUsers = cc in
-          rw cause_is (found, alone session.TooManyUsers (ap (user_with (users_in meeting) meeting.device.user) found) none)
+          rw cause_is (found, alone session.TooManyUsers (ap (user_with (marks_met meeting) meeting.device.user) found) none)
 
       greeted_stop : (fault_now : Option LinkFault) → fault new ≡ fault_now
-          → AnswersGreeting (users_in meeting) meeting.wishes.add_user (talk old) fault_now (Err cause)
+          → AnswersGreeting (marks_met meeting) meeting.wishes.user (talk old) fault_now (Err cause)
           → IsStopOf talk fault meeting old new (stop.Session cause)
       greeted_stop (Some now) is said =
           later_stop talk fault meeting old new cause
@@ -261,20 +270,20 @@ module _ {L F : Type 0} (talk : L → Option Talk) (since : L → L → Type 0) 
       greeted_stop None none said =
           let second : Result (Unit {0}) SessionFault = said_in 0x2E no_more (reply_at 0x2E said.second) in
           slot_stop (slot_in meeting) second (reply_at 0x2E said.second) refl refl
-          (said.is ∙ ap (λ r. begun_by (user_by (users_in meeting) meeting.wishes.add_user r) second)
-          (user_read (users_in meeting) meeting.wishes.add_user meeting.device (talk old) (Err cause) rests.proper tells said)) none
+          (said.is ∙ ap (λ r. begun_by (user_by (marks_met meeting) meeting.wishes.user r) second)
+          (user_read (marks_met meeting) meeting.wishes.user meeting.device (talk old) (Err cause) rests.proper tells said)) none
 
     met_stop : {new : L} (cause : SessionFault)
-        → AsksUser talk since fault downs old new ⊎ HasSlot (users_in meeting) meeting.wishes.add_user (talk old)
-        → AnswersGreeting (users_in meeting) meeting.wishes.add_user (talk old) (fault new) (Err cause)
-        ⊎ IsUnlisted (users_in meeting) meeting.wishes.add_user (talk old) (fault new) cause
+        → AsksUser talk since fault downs old new ⊎ HasSlot (marks_met meeting) meeting.wishes.user (talk old)
+        → AnswersGreeting (marks_met meeting) meeting.wishes.user (talk old) (fault new) (Err cause)
+        ⊎ IsUnlisted (marks_met meeting) meeting.wishes.user (talk old) (fault new) cause
         → IsByLastReply (talk new) cause → IsStopOf talk fault meeting old new (stop.Session cause)
     met_stop {new} cause asks (inl said) last = greeted_stop cause (λ why is none. (asks_alone is asks).does none) last (fault new) refl said
     met_stop {new} cause asks (inr unlisted) last =
         later_stop talk fault meeting old new cause (later_by (talk new) (fault new) (reply_at 0x16 unlisted.reply) cause unlisted.is last)
 
     unmet_ends : (desk : DeskValue F) (halted : Halted L) {left : Outcome L F}
-        → MeetsOrNot talk since fault downs (users_in meeting) meeting.wishes.add_user old (Err halted)
+        → MeetsOrNot talk since fault downs (marks_met meeting) meeting.wishes.user old (Err halted)
         → IsByLastReply (talk halted.link) halted.cause
         → left ≡ stopped halted.link desk.folder (stop.Session halted.cause) → Ends desk.folder left
     unmet_ends desk halted (inl meets) last is =
@@ -293,14 +302,14 @@ module _ {L F : Type 0} (talk : L → Option Talk) (since : L → L → Type 0) 
         nothing requests = rw none.0 (stops_none talk since fault downs requests old old refl (itself old) (fell_none fault downs old))
 
     met_ends : (desk : DeskValue F) {met : Met L} {left : Outcome L F} → AreInOrder meeting.slots → desk.slots ≡ meeting.slots
-        → place_of (length desk.slots) (slot_for (users_of (marks_of desk.slots)) meeting.device.user.user meeting.wishes.add_user) ≡ meeting.picked
-        → MeetsOrNot talk since fault downs (users_in meeting) meeting.wishes.add_user old (Ok met)
-        → GoesOn talk since fault downs contents moments paths faults (users_of (marks_of desk.slots)) meeting.wishes met desk left
+        → place_of (length desk.slots) (seat_for (marks_of desk.slots) meeting.wishes.user meeting.device.user) ≡ meeting.picked
+        → MeetsOrNot talk since fault downs (marks_met meeting) meeting.wishes.user old (Ok met)
+        → GoesOn talk since fault downs contents moments paths faults (marks_of desk.slots) meeting.wishes met desk left
         → Ends desk.folder left
     met_ends desk {met} ordered slots place (inl meets) goes =
         let joined = meets_join meeting rests tells meets in
-        let so : HaveMet met.heads.items meeting.wishes met.linked (picked_for (users_of (marks_of desk.slots)) met.linked.user.user
-        meeting.wishes.add_user desk)
+        let so : HaveMet met.heads.items meeting.wishes met.linked (picked_for (marks_of desk.slots) meeting.wishes.user
+        met.linked.user desk)
         = record {
           rests = rests;
           starts = tells;
@@ -313,7 +322,7 @@ module _ {L F : Type 0} (talk : L → Option Talk) (since : L → L → Type 0) 
           seated = seat_greeted meeting rests.proper tells meets.user;
           met = met_reaches meeting rests tells meets;
         } in
-        prepared_ends so goes.answer goes.prepares.reading goes.prepares.reads goes.prepares.goes goes.goes
+        prepared_ends so (done_met desk slots place joined.user) goes.answer goes.prepares.reading goes.prepares.reads goes.prepares.goes goes.goes
     met_ends desk ordered slots place (inr none) goes = absurd none
 
 -- ---- the whole
@@ -326,9 +335,9 @@ pub runs_end : {L F : Type 0} {talk : L → Option Talk} {since : L → L → Ty
 runs_end {L} {F} {talk} {since} {fault} {downs} {contents} {moments} {paths} {faults} itself since_more {wishes} {old} {desk} {left} {told} ordered is
     rests runs = step runs.answer runs.meets runs.last runs.goes
   where
-    step : (answer : Result (Met L) (Halted L)) → MeetsOrNot talk since fault downs (users_of (marks_of desk.slots)) wishes.add_user old answer
+    step : (answer : Result (Met L) (Halted L)) → MeetsOrNot talk since fault downs (marks_of desk.slots) wishes.user old answer
         → IfErr answer (λ halted. IsByLastReply (talk halted.link) halted.cause)
-        → AfterMeeting talk since fault downs contents moments paths faults (users_of (marks_of desk.slots)) wishes desk answer left
+        → AfterMeeting talk since fault downs contents moments paths faults (marks_of desk.slots) wishes desk answer left
         → EndsSo talk since fault downs contents moments (meeting_of told.device desk.slots wishes) old desk.folder left
     step (Ok met) meets last goes =
         met_ends talk since fault downs contents moments paths faults itself since_more (meeting_of told.device desk.slots wishes) old rests

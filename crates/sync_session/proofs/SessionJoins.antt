@@ -1,5 +1,5 @@
 -- The calls of a session, one behind another, say what its meeting says.
-use Rattle.std.proofs.Common.{◌≡◌, ◌∙◌, refl, sym, ap, subst, ℕ, Bool, List, [], ◌∷◌, ◌++◌, map, length, append_assoc, Option, IfSome, Result, Ok, flat_map}
+use Rattle.std.proofs.Common.{◌≡◌, ◌∙◌, refl, sym, ap, subst, ℕ, List, [], ◌∷◌, ◌++◌, map, length, append_assoc, Option, IfSome, Result, Ok, flat_map}
 use Rattle.std.proofs.lemmas.List.{map-append}
 use Rattle.pdb_values.specs.declared.user.Marks.{Marks}
 use Rattle.pdb_values.specs.declared.user.UserInfo.{UserInfo}
@@ -9,6 +9,7 @@ use Rattle.session_parts.proofs.LinkWords.{Stops, device_after}
 use Rattle.conduit_rules.specs.declared.view.View.{View}
 use Rattle.sync_session.proofs.MeetingWords.{ShelvesValue, Job, Planned, gained, news_under, ArePlannedFor, IsAtRest, adds_of, after_commit, before_commit}
 use Rattle.sync_session.proofs.MeetingWords.{before_writes, greeting, listing_all, session, active, SpansBehind, SpansEach, each_acts, Meeting, slot_of, tasks}
+use Rattle.desktop_session.specs.declared.seat.UserWish.{UserWish}
 use Rattle.desktop_session.proofs.SaysLaws.{saying_then}
 use Rattle.desktop_session.proofs.StopLaws.{does_then, stops_more, stops_then}
 use Rattle.session_parts.specs.declared.meeting.Met.{Met}
@@ -117,14 +118,14 @@ module _ {L : Type 0} {talk : L → Option Talk} {since : L → L → Type 0} {f
 
   -- ---- both sides meet
 
-  module _ {us : List ℕ} {add : Bool} {old : L} (meeting : Meeting) (rests : IsAtRest meeting.device) (tells : Tells meeting.device (talk old)) where
+  module _ {marks : List Marks} {wish : UserWish} {old : L} (meeting : Meeting) (rests : IsAtRest meeting.device) (tells : Tells meeting.device (talk old)) where
     -- they met
-    pub met_reaches : {met : Met L} → Meets talk since fault downs us add old (Ok met)
+    pub met_reaches : {met : Met L} → Meets talk since fault downs marks wish old (Ok met)
         → Reached talk since fault downs (greeting ++ listing_all meeting) old met.linked.link
     met_reaches meets = rw (← (meets_join meeting rests tells meets).acts) (record { does = meets.does; stops = meets.stops })
 
     -- they met, or not
-    pub meets_stop : {answer : Result (Met L) (Halted L)} → Meets talk since fault downs us add old answer
+    pub meets_stop : {answer : Result (Met L) (Halted L)} → Meets talk since fault downs marks wish old answer
         → Stops talk since fault downs (map text (before_writes meeting)) old (link_met answer)
     meets_stop meets = stops_lead (lists_lead meeting) (stops_lead (meets_lead meeting rests tells meets) meets.stops)
 
@@ -233,23 +234,31 @@ module _ {L : Type 0} {talk : L → Option Talk} {since : L → L → Type 0} {f
 
   -- ---- the end
 
-  module _ (meeting : Meeting) {date : ℕ} {user : UserInfo} {slot : Marks} {planned : List Planned} {given : List ℕ} {dealt : List (List ℕ)} {old : L}
-      {between : SessionValue L} (dated : date ≡ meeting.wishes.date) (known : user ≡ meeting.device.user) (marked : slot ≡ (slot_of meeting).marks)
+  module _ (meeting : Meeting) {user : UserInfo} {done : Marks} {planned : List Planned} {given : List ℕ} {dealt : List (List ℕ)} {old : L}
+      {between : SessionValue L} (known : user ≡ meeting.device.user) (ends_so : done ≡ users.done_of meeting)
       (are : ArePlannedFor meeting planned) (news : NewsReach talk since fault downs meeting given dealt old between.link) where
+    ends_known : {answer : Result (Ended L) (Halted L)}
+        → Ends talk since fault downs planned (marking (users.done_user user done) 0xF0 ∷ ending ∷ []) between answer
+        → Ends talk since fault downs planned (end_mark meeting ∷ ending ∷ []) between answer
+    ends_known {answer} ends =
+        let same : marking (users.done_user user done) 0xF0 ≡ end_mark meeting
+        = ap (λ u. marking (users.done_user u done) 0xF0) known ∙ ap (λ d. marking (users.done_user meeting.device.user d) 0xF0) ends_so in
+        subst (λ (last : Act). Ends talk since fault downs planned (last ∷ ending ∷ []) between answer) same ends
+
     pub end_reach : (since_more : (a b c : L) → since a b → since b c → since a c) {ended : Ended L}
-        → Ends talk since fault downs planned (marking (users.done_user date user slot) 0xF0 ∷ ending ∷ []) between (Ok ended)
+        → Ends talk since fault downs planned (marking (users.done_user user done) 0xF0 ∷ ending ∷ []) between (Ok ended)
         → Reached talk since fault downs (session meeting given) old ended.link
     unfolding session after_commit
     end_reach since_more ends =
-        let here = rw (dated, known, marked) at ends in
+        let here = ends_known ends in
         let joined = purge_join meeting (talk between.link) planned here.stretches are news.closed here.firsts here.all in
         reached_then since_more news.reached (rw joined.acts at here.does) (rw joined.acts at here.stops) refl
 
     -- it ended, or stopped
     pub end_stop : {answer : Result (Ended L) (Halted L)}
-        → Ends talk since fault downs planned (marking (users.done_user date user slot) 0xF0 ∷ ending ∷ []) between answer
+        → Ends talk since fault downs planned (marking (users.done_user user done) 0xF0 ∷ ending ∷ []) between answer
         → Stops talk since fault downs (map text (after_commit meeting)) between.link (link_ended answer)
     unfolding after_commit
     end_stop ends =
-        let here = rw (dated, known, marked) at ends in
+        let here = ends_known ends in
         rw (← (purge_join meeting (talk between.link) planned here.stretches are news.closed here.firsts here.all).acts) here.stops

@@ -7,8 +7,7 @@ use Rattle.std.proofs.lemmas.List.{length-map}
 use Rattle.std.proofs.lemmas.Bool.Decides.{nat_tests}
 use Rattle.hs_folders.specs.FileMaps.{FileMap}
 use Rattle.hs_folders.specs.Moments.{Moments}
-use Rattle.folder_files.specs.Slots.{users_of}
-use Rattle.pdb_values.specs.Slots.{most_slots, newcomer, slot_at, slot_for}
+use Rattle.pdb_values.specs.Slots.{most_slots, newcomer, slot_at}
 use Rattle.pdb_values.specs.declared.slot.Slot.{Slot}
 use Rattle.pdb_values.specs.declared.slot.Slot.TheVariants as slot
 use Rattle.pdb_values.specs.declared.user.Marks.{Marks}
@@ -19,9 +18,10 @@ use Rattle.dlp_replies.specs.ReplyValues.{ReplyValue}
 use Rattle.dlp_commands.specs.declared.link.LinkFault.{LinkFault}
 use Rattle.dlp_commands.specs.declared.link.LinkFault.TheVariants as link
 use Rattle.dlp_commands.specs.Talks.{Talk}
-use Rattle.desk_store.specs.Shelves.{SlotValue, marks_of}
+use Rattle.desk_store.specs.Shelves.{marks_of}
 use Rattle.desk_store.specs.Desks.{all_rows}
 use Rattle.desk_store.specs.Views.{DeskValue, marks_in, parted_in, shelves_in}
+use Rattle.desk_store.proofs.SlotListLaws.{marks-length}
 use Rattle.desk_store.specs.declared.fault.CommitFault.{CommitFault}
 use Rattle.desk_store.specs.declared.fault.CommitFault.TheVariants as commit
 use Rattle.desktop_session.specs.declared.ending.Ended.{Ended}
@@ -32,7 +32,9 @@ use Rattle.desktop_session.specs.Answers.{answer_by, no_more, said_in, user_of}
 use Rattle.desktop_session.specs.Faults.{fault_of}
 use Rattle.desktop_session.specs.Greetings.{AnswersGreeting, begun_by, greeted, user_by, user_with}
 use Rattle.desktop_session.specs.Lists.{HasCause}
+use Rattle.desktop_session.specs.Seats.{is_nobody, is_other_user, numbers_of, place_known, seat_for}
 use Rattle.desktop_session.specs.Sessions.{SessionValue}
+use Rattle.desktop_session.specs.declared.seat.UserWish.{UserWish}
 use Rattle.desktop_session.proofs.LastLaws.{cause_answered}
 use Rattle.session_parts.specs.Causes.{IsLater}
 use Rattle.session_parts.specs.Meets.{IsUnlisted, MeetsOrNot}
@@ -47,7 +49,7 @@ use Rattle.session_plan.specs.PlannedLosses.{loss_planned}
 use Rattle.session_plan.specs.PlannedReports.{reports_planned}
 use Rattle.session_plan.specs.declared.planned.Planned.{Planned}
 use Rattle.session_plan.specs.declared.wishes.Wishes.{Wishes}
-use Rattle.sync_session.specs.Courses.{AfterCommit, AfterMeeting, AfterNews, AfterPreparing, AfterReading, Closes, GoesOn, Prepares, Runs, Writes, closed, picked_for}
+use Rattle.sync_session.specs.Courses.{AfterCommit, AfterMeeting, AfterNews, AfterPreparing, AfterReading, Closes, GoesOn, Prepares, Runs, Writes, closed, done_for, picked_for}
 use Rattle.sync_session.specs.StopCauses.{IsStopBy}
 use Rattle.sync_session.specs.Stopping.{Judges}
 use Rattle.sync_session.specs.declared.preparing.Prepared.{Prepared}
@@ -83,50 +85,54 @@ full_at : (found : Option ℕ) (users : List ℕ) (add : Bool) → slot_at found
 full_at (Some place) users add is = absurd cc
 full_at None users add is = full_newcomer users add is
 
-full_tested : (found : Option ℕ) (users : List ℕ) (none add : Bool) → (if none then slot.Old 0 else slot_at found users add) ≡ slot.Full → most_slots ≤ length users
-full_tested found users true add is = absurd cc
-full_tested found users false add is = full_at found users add is
+full_tested : (found : Option ℕ) (users : List ℕ) (other nobody add : Bool)
+    → (if other then slot.Refused else if nobody then slot.Old 0 else slot_at found users add) ≡ slot.Full → most_slots ≤ length users
+full_tested found users true nobody add is = absurd cc
+full_tested found users false true add is = absurd cc
+full_tested found users false false add is = full_at found users add is
 
-full_slots : (users : List ℕ) (user : ℕ) (add : Bool) → slot_for users user add ≡ slot.Full → most_slots ≤ length users
-full_slots users user add is = full_tested _ users (user == 0) add is
+full_seat : (marks : List Marks) (wish : UserWish) (user : UserInfo) → seat_for marks wish user ≡ slot.Full → most_slots ≤ length marks
+full_seat marks wish user is =
+    subst (λ n. most_slots ≤ n) (length-map marks (λ (slot : Marks). slot.user))
+    (full_tested (place_known marks wish.name user) (numbers_of marks) (is_other_user marks wish.name user) (is_nobody wish.name user) wish.add is)
 
 the_cause : {A : Type 0} (P : SessionFault → Type 0) (cause other : SessionFault) → ◌≡◌ {A = Result A SessionFault} (Err cause) (Err other) → P other → P cause
 the_cause P cause other is holds = let same : cause ≡ other = cc in subst P (sym same) holds
 
-seated : (users : List ℕ) (user : UserInfo) (found : Slot) (second : Result (Unit {0}) SessionFault) (cause : SessionFault)
-    → (found ≡ slot.Full → most_slots ≤ length users) → ((other : SessionFault) → second ≡ Err other → IsStopBy None (length users) (stop.Session other))
-    → Err cause ≡ begun_by (user_with users user found) second → IsStopBy None (length users) (stop.Session cause)
-seated users user (slot.Old place) (Ok done) cause full two is = absurd cc
-seated users user (slot.Old place) (Err other) cause full two is =
-    the_cause (λ c. IsStopBy None (length users) (stop.Session c)) cause other is (two other refl)
-seated users user slot.New (Ok done) cause full two is = absurd cc
-seated users user slot.New (Err other) cause full two is =
-    the_cause (λ c. IsStopBy None (length users) (stop.Session c)) cause other is (two other refl)
-seated users user slot.Refused second cause full two is =
-    the_cause (λ c. IsStopBy None (length users) (stop.Session c)) cause _ is refl
-seated users user slot.Full second cause full two is =
-    the_cause (λ c. IsStopBy None (length users) (stop.Session c)) cause session.TooManyUsers is (refl, full refl)
+seated : (marks : List Marks) (user : UserInfo) (found : Slot) (second : Result (Unit {0}) SessionFault) (cause : SessionFault)
+    → (found ≡ slot.Full → most_slots ≤ length marks) → ((other : SessionFault) → second ≡ Err other → IsStopBy None (length marks) (stop.Session other))
+    → Err cause ≡ begun_by (user_with marks user found) second → IsStopBy None (length marks) (stop.Session cause)
+seated marks user (slot.Old place) (Ok done) cause full two is = absurd cc
+seated marks user (slot.Old place) (Err other) cause full two is =
+    the_cause (λ c. IsStopBy None (length marks) (stop.Session c)) cause other is (two other refl)
+seated marks user slot.New (Ok done) cause full two is = absurd cc
+seated marks user slot.New (Err other) cause full two is =
+    the_cause (λ c. IsStopBy None (length marks) (stop.Session c)) cause other is (two other refl)
+seated marks user slot.Refused second cause full two is =
+    the_cause (λ c. IsStopBy None (length marks) (stop.Session c)) cause _ is refl
+seated marks user slot.Full second cause full two is =
+    the_cause (λ c. IsStopBy None (length marks) (stop.Session c)) cause session.TooManyUsers is (refl, full refl)
 
-begun : (users : List ℕ) (add : Bool) (first : Result UserInfo SessionFault) (second : Result (Unit {0}) SessionFault) (cause : SessionFault)
-    → ((other : SessionFault) → first ≡ Err other → IsStopBy None (length users) (stop.Session other))
-    → ((other : SessionFault) → second ≡ Err other → IsStopBy None (length users) (stop.Session other))
-    → Err cause ≡ begun_by (user_by users add first) second → IsStopBy None (length users) (stop.Session cause)
-begun users add (Err other) second cause one two is =
-    the_cause (λ c. IsStopBy None (length users) (stop.Session c)) cause other is (one other refl)
-begun users add (Ok user) second cause one two is =
-    seated users user (slot_for users user.user add) second cause (full_slots users user.user add) two is
+begun : (marks : List Marks) (wish : UserWish) (first : Result UserInfo SessionFault) (second : Result (Unit {0}) SessionFault) (cause : SessionFault)
+    → ((other : SessionFault) → first ≡ Err other → IsStopBy None (length marks) (stop.Session other))
+    → ((other : SessionFault) → second ≡ Err other → IsStopBy None (length marks) (stop.Session other))
+    → Err cause ≡ begun_by (user_by marks wish first) second → IsStopBy None (length marks) (stop.Session cause)
+begun marks wish (Err other) second cause one two is =
+    the_cause (λ c. IsStopBy None (length marks) (stop.Session c)) cause other is (one other refl)
+begun marks wish (Ok user) second cause one two is =
+    seated marks user (seat_for marks wish user) second cause (full_seat marks wish user) two is
 
-greeting_by_fault : (fault : Option LinkFault) (users : List ℕ) (add : Bool) (first second : List ℕ) (cause : SessionFault)
-    → ◌≡◌ {A = Result UserInfo SessionFault} (Err cause) (answer_by fault (greeted users add first second))
-    → IsStopBy fault (length users) (stop.Session cause)
-greeting_by_fault None users add first second cause is =
-    begun users add (said_in 0x10 user_of (reply_at 0x10 first)) (said_in 0x2E no_more (reply_at 0x2E second)) cause
-    (λ other said. said_by_fault (length users) 0x10 user_of (reply_at 0x10 first) other said)
-    (λ other said. said_by_fault (length users) 0x2E no_more (reply_at 0x2E second) other said) is
-greeting_by_fault (Some link.Down) users add first second cause is =
-    the_cause (λ c. IsStopBy (Some link.Down) (length users) (stop.Session c)) cause session.Down is refl
-greeting_by_fault (Some link.NoMemory) users add first second cause is =
-    the_cause (λ c. IsStopBy (Some link.NoMemory) (length users) (stop.Session c)) cause session.NoMemory is tt
+greeting_by_fault : (fault : Option LinkFault) (marks : List Marks) (wish : UserWish) (first second : List ℕ) (cause : SessionFault)
+    → ◌≡◌ {A = Result UserInfo SessionFault} (Err cause) (answer_by fault (greeted marks wish first second))
+    → IsStopBy fault (length marks) (stop.Session cause)
+greeting_by_fault None marks wish first second cause is =
+    begun marks wish (said_in 0x10 user_of (reply_at 0x10 first)) (said_in 0x2E no_more (reply_at 0x2E second)) cause
+    (λ other said. said_by_fault (length marks) 0x10 user_of (reply_at 0x10 first) other said)
+    (λ other said. said_by_fault (length marks) 0x2E no_more (reply_at 0x2E second) other said) is
+greeting_by_fault (Some link.Down) marks wish first second cause is =
+    the_cause (λ c. IsStopBy (Some link.Down) (length marks) (stop.Session c)) cause session.Down is refl
+greeting_by_fault (Some link.NoMemory) marks wish first second cause is =
+    the_cause (λ c. IsStopBy (Some link.NoMemory) (length marks) (stop.Session c)) cause session.NoMemory is tt
 
 -- ---- what is left
 
@@ -147,35 +153,35 @@ module _ {L F : Type 0} (talk : L → Option Talk) (since : L → L → Type 0) 
   abbrev StopsSo : Outcome L F → Type 0
   StopsSo left = IfErr left.end (IsStopBy (fault left.link) slots)
 
-  after_close : (date : ℕ) (slot : Marks) (prepared : Prepared) (old : SessionValue L) (folder : F) (left : Outcome L F)
-      → Closes talk since fault downs date slot prepared old folder left → StopsSo left
-  after_close date slot prepared old folder left closes = rw closes.is (by closes.answer closes.ends.cause)
+  after_close : (done : Marks) (prepared : Prepared) (old : SessionValue L) (folder : F) (left : Outcome L F)
+      → Closes talk since fault downs done prepared old folder left → StopsSo left
+  after_close done prepared old folder left closes = rw closes.is (by closes.answer closes.ends.cause)
     where
       by : (answer : Result (Ended L) (Halted L)) → IfErr answer (λ halted. IsLater (talk halted.link) (fault halted.link) halted.cause)
           → StopsSo (closed folder prepared.reports answer)
       by (Ok ended) cause = tt
       by (Err halted) cause = later_by_fault (talk halted.link) (fault halted.link) slots halted.cause cause
 
-  after_commit : (date : ℕ) (slot : Marks) (prepared : Prepared) (old : SessionValue L) (answer : Result (DeskValue F) (CommitFault × F)) (left : Outcome L F)
-      → AfterCommit talk since fault downs date slot prepared old answer left → StopsSo left
-  after_commit date slot prepared old (Ok desk) left goes = after_close date slot prepared old desk.folder left goes
-  after_commit date slot prepared old (Err refusal) left goes = rw goes (refused_by_fault (fault old.link) slots refusal.0)
+  after_commit : (done : Marks) (prepared : Prepared) (old : SessionValue L) (answer : Result (DeskValue F) (CommitFault × F)) (left : Outcome L F)
+      → AfterCommit talk since fault downs done prepared old answer left → StopsSo left
+  after_commit done prepared old (Ok desk) left goes = after_close done prepared old desk.folder left goes
+  after_commit done prepared old (Err refusal) left goes = rw goes (refused_by_fault (fault old.link) slots refusal.0)
 
-  after_writing : (date : ℕ) (prepared : Prepared) (old : SessionValue L) (desk : DeskValue F) (left : Outcome L F)
-      → Writes talk since fault downs contents moments paths faults date prepared old desk left → StopsSo left
-  after_writing date prepared old desk left writes = by writes.answer writes.sends.cause writes.goes
+  after_writing : (done : Marks) (prepared : Prepared) (old : SessionValue L) (desk : DeskValue F) (left : Outcome L F)
+      → Writes talk since fault downs contents moments paths faults done prepared old desk left → StopsSo left
+  after_writing done prepared old desk left writes = by writes.answer writes.sends.cause writes.goes
     where
       by : (answer : Result (Vec (Vec ℕ)) SessionFault) → IfErr answer (IsLater (talk writes.now.link) (fault writes.now.link))
-          → AfterNews talk since fault downs contents moments paths faults date prepared writes.now desk answer left → StopsSo left
-      by (Ok ids) cause goes = after_commit date (marks_in desk) prepared writes.now goes.answer left goes.goes
+          → AfterNews talk since fault downs contents moments paths faults done prepared writes.now desk answer left → StopsSo left
+      by (Ok ids) cause goes = after_commit done prepared writes.now goes.answer left goes.goes
       by (Err cause) later goes = rw goes (later_by_fault (talk writes.now.link) (fault writes.now.link) slots cause later)
 
-  after_going : (users : List ℕ) (wishes : Wishes) (met : Met L) (desk : DeskValue F) (left : Outcome L F)
-      → GoesOn talk since fault downs contents moments paths faults users wishes met desk left → StopsSo left
-  after_going users wishes met desk left goes = by goes.answer goes.prepares goes.goes
+  after_going : (marks : List Marks) (wishes : Wishes) (met : Met L) (desk : DeskValue F) (left : Outcome L F)
+      → GoesOn talk since fault downs contents moments paths faults marks wishes met desk left → StopsSo left
+  after_going marks wishes met desk left goes = by goes.answer goes.prepares goes.goes
     where
       picked : DeskValue F
-      picked = picked_for users met.linked.user.user wishes.add_user desk
+      picked = picked_for marks wishes.user met.linked.user desk
 
       why : (cause : Stop) (reading : Result (Vec Planned) SessionFault) → IfErr reading (IsLater (talk goes.now.link) (fault goes.now.link))
           → AfterReading met.heads.items picked goes.now.user reading (Err cause) → IsStopBy (fault goes.now.link) slots cause
@@ -189,22 +195,22 @@ module _ {L F : Type 0} (talk : L → Option Talk) (since : L → L → Type 0) 
           subst (λ c. IsStopBy (fault goes.now.link) slots c) (sym same) (later_by_fault (talk goes.now.link) (fault goes.now.link) slots other later)
 
       by : (answer : Result Prepared Stop) → Prepares talk since fault downs met.heads.items wishes picked met.linked goes.now answer
-          → AfterPreparing talk since fault downs contents moments paths faults wishes.date goes.now picked answer left → StopsSo left
-      by (Ok prepared) prepares after = after_writing wishes.date prepared goes.now picked left after
+          → AfterPreparing talk since fault downs contents moments paths faults (done_for wishes met.linked.user picked) goes.now picked answer left → StopsSo left
+      by (Ok prepared) prepares after = after_writing (done_for wishes met.linked.user picked) prepared goes.now picked left after
       by (Err cause) prepares after = rw after (why cause prepares.reading prepares.reads.reads.cause prepares.goes)
 
-  after_meeting : (users : List ℕ) (wishes : Wishes) (old : L) (desk : DeskValue F) (answer : Result (Met L) (Halted L)) (left : Outcome L F)
-      → length users ≡ slots → MeetsOrNot talk since fault downs users wishes.add_user old answer
-      → AfterMeeting talk since fault downs contents moments paths faults users wishes desk answer left → StopsSo left
-  after_meeting users wishes old desk (Ok met) left count meets goes = after_going users wishes met desk left goes
-  after_meeting users wishes old desk (Err halted) left count (inl meets) goes = rw goes (by meets.cause)
+  after_meeting : (marks : List Marks) (wishes : Wishes) (old : L) (desk : DeskValue F) (answer : Result (Met L) (Halted L)) (left : Outcome L F)
+      → length marks ≡ slots → MeetsOrNot talk since fault downs marks wishes.user old answer
+      → AfterMeeting talk since fault downs contents moments paths faults marks wishes desk answer left → StopsSo left
+  after_meeting marks wishes old desk (Ok met) left count meets goes = after_going marks wishes met desk left goes
+  after_meeting marks wishes old desk (Err halted) left count (inl meets) goes = rw goes (by meets.cause)
     where
-      by : AnswersGreeting users wishes.add_user (talk old) (fault halted.link) (Err halted.cause)
-          ⊎ IsUnlisted users wishes.add_user (talk old) (fault halted.link) halted.cause → IsStopBy (fault halted.link) slots (stop.Session halted.cause)
+      by : AnswersGreeting marks wishes.user (talk old) (fault halted.link) (Err halted.cause)
+          ⊎ IsUnlisted marks wishes.user (talk old) (fault halted.link) halted.cause → IsStopBy (fault halted.link) slots (stop.Session halted.cause)
       by (inl said) = subst (λ n. IsStopBy (fault halted.link) n (stop.Session halted.cause)) count
-          (greeting_by_fault (fault halted.link) users wishes.add_user said.first said.second halted.cause said.is)
+          (greeting_by_fault (fault halted.link) marks wishes.user said.first said.second halted.cause said.is)
       by (inr unlisted) = cause_by_fault (fault halted.link) slots (reply_at 0x16 unlisted.reply) halted.cause unlisted.is
-  after_meeting users wishes old desk (Err halted) left count (inr none) goes =
+  after_meeting marks wishes old desk (Err halted) left count (inr none) goes =
       rw goes (subst (λ c. IsStopBy (fault halted.link) slots (stop.Session c)) (sym none.1) tt)
 
 pub runs_stop : {L F : Type 0} {talk : L → Option Talk} {since : L → L → Type 0} {fault : L → Option LinkFault} {downs : L → ℕ}
@@ -212,8 +218,5 @@ pub runs_stop : {L F : Type 0} {talk : L → Option Talk} {since : L → L → T
     {desk : DeskValue F} {left : Outcome L F} → Runs talk since fault downs contents moments paths faults wishes old desk left
     → IfErr left.end (IsStopBy (fault left.link) (length desk.slots))
 runs_stop {talk = talk} {since} {fault} {downs} {contents} {moments} {paths} {faults} {wishes} {old} {desk} {left} runs =
-    after_meeting talk since fault downs contents moments paths faults (length desk.slots) (users_of (marks_of desk.slots)) wishes old desk runs.answer left
-    (users_count desk.slots) runs.meets runs.goes
-  where
-    users_count : (slots : List SlotValue) → length (users_of (marks_of slots)) ≡ length slots
-    users_count slots = grind (arith, common_steps, length-map)
+    after_meeting talk since fault downs contents moments paths faults (length desk.slots) (marks_of desk.slots) wishes old desk runs.answer left
+    (marks-length desk.slots) runs.meets runs.goes

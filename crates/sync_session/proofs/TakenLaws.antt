@@ -22,7 +22,7 @@ use Rattle.session_plan.specs.Heads.{rows_head}
 use Rattle.session_plan.specs.Merges.{DesktopMerge, archive_of, beside, merged_of, merged_shelves, merged_slot, merged_slots, rows_before, shelve, shelved, parted_met}
 use Rattle.session_plan.specs.Choosing.{add_count}
 use Rattle.session_plan.specs.Takes.{change_from, change_of, change_unless, changes_of, planned_archive, planned_change, rows_begun, taken_slots}
-use Rattle.session_plan.specs.Users.{done_marks}
+use Rattle.session_plan.specs.Users.{done_of}
 use Rattle.sync_session.proofs.NewsJoins.{no_ids}
 use Rattle.sync_session.proofs.OnceLaws.{Once, names-once, bytes_eq-swap}
 use Rattle.sync_session.proofs.ReadJoins.{job-skip}
@@ -225,7 +225,7 @@ parted-taken meeting (n ∷ ns) [] are = absurd are
 -- what the picked slot takes, with its ids dealt out to its databases, is the merge
 pub taken-merged : (meeting : Meeting) (planned : List Planned) (ids : List (List ℕ)) → AreInOrder meeting.slots → ArePlannedFor meeting planned
     → AreDealtTo meeting (tasks meeting) ids
-    → taken_slots meeting.wishes.date meeting.device.user planned ids meeting.picked meeting.slots
+    → taken_slots (done_of meeting) meeting.device.user planned ids meeting.picked meeting.slots
     ≡ merged_slots meeting (flat_map (λ (one : List ℕ). one) ids)
 unfolding taken_slots merged_slots merged_slot tasks active
 taken-merged meeting planned ids ordered are deals =
@@ -234,7 +234,7 @@ taken-merged meeting planned ids ordered are deals =
     let parted = parted-taken meeting (names meeting) planned are in
     let shelves = shelves-taken meeting (names meeting) planned ids (names-once meeting) are deals (slot_of meeting).shelves first in
     λ k. slice_set (with_place meeting.slots meeting.picked) meeting.picked (record {
-      marks = done_marks meeting.wishes.date meeting.device.user (slot_of meeting).marks;
+      marks = done_of meeting;
       parted = parted k;
       shelves = shelves k;
     })

@@ -133,15 +133,15 @@ module _ (view : View) where
   parted-seen stranger shelves before (one ∷ planned) =
       ap (with_parting one.job.name (parting_planned stranger shelves before one)) (parted-seen stranger shelves before planned)
 
-  taken_slots-seen : (date : ℕ) (user : UserInfo) (planned : List Planned) (ids : List (List ℕ)) (place : ℕ) (slots : List SlotValue)
-      → taken_slots date user (map (seen_as view) planned) ids place slots ≡ taken_slots date user planned ids place slots
+  taken_slots-seen : (done : Marks) (user : UserInfo) (planned : List Planned) (ids : List (List ℕ)) (place : ℕ) (slots : List SlotValue)
+      → taken_slots done user (map (seen_as view) planned) ids place slots ≡ taken_slots done user planned ids place slots
   unfolding taken_slots
-  taken_slots-seen date user planned ids place slots = rw (changes_of-seen, parted-seen) refl
+  taken_slots-seen done user planned ids place slots = rw (changes_of-seen, parted-seen) refl
 
-  taken_entries-seen : (date : ℕ) (user : UserInfo) (planned : List Planned) (ids : List (List ℕ)) (place : ℕ) (slots : List SlotValue)
-      → taken_entries date user (map (seen_as view) planned) ids place slots ≡ taken_entries date user planned ids place slots
+  taken_entries-seen : (done : Marks) (user : UserInfo) (planned : List Planned) (ids : List (List ℕ)) (place : ℕ) (slots : List SlotValue)
+      → taken_entries done user (map (seen_as view) planned) ids place slots ≡ taken_entries done user planned ids place slots
   unfolding taken_entries
-  taken_entries-seen date user planned ids place slots = rw (changes_of-seen, taken_slots-seen) refl
+  taken_entries-seen done user planned ids place slots = rw (changes_of-seen, taken_slots-seen) refl
 
 -- ---- planned databases of a session
 
@@ -218,40 +218,40 @@ prepared_with prepared planned = record prepared { planned = planned }
 
 module _ (old : Prepared) (planned : Vec Planned) (same : SameButViews old.planned.items planned.items) where
   closes-same : {L F : Type 0} {talk : L → Option Talk} {since : L → L → Type 0} {fault : L → Option LinkFault} {downs : L → ℕ}
-      {date : ℕ} {slot : Marks} {before : SessionValue L} {folder : F} {left : Outcome L F}
-      → Closes talk since fault downs date slot (prepared_with old planned) before folder left
-      → Closes talk since fault downs date slot old before folder left
+      {done : Marks} {before : SessionValue L} {folder : F} {left : Outcome L F}
+      → Closes talk since fault downs done (prepared_with old planned) before folder left
+      → Closes talk since fault downs done old before folder left
   closes-same closes = record { answer = closes.answer; ends = ends-same same closes.ends; is = closes.is }
 
   carries-same : {L F : Type 0} {talk : L → Option Talk} {since : L → L → Type 0} {fault : L → Option LinkFault} {downs : L → ℕ}
       {contents : F → Option FileMap} {moments : F → Moments} {paths : F → Option (List (List ℕ))} {faults : F → ℕ}
-      {date : ℕ} {ids : List (List ℕ)} {before : SessionValue L} {desk : DeskValue F} {left : Outcome L F}
-      → Carries talk since fault downs contents moments paths faults date (prepared_with old planned) ids before desk left
-      → Carries talk since fault downs contents moments paths faults date old ids before desk left
-  carries-same {F} {talk} {since} {fault} {downs} {date} {ids} {before} {desk} {left} carries = record {
+      {done : Marks} {ids : List (List ℕ)} {before : SessionValue L} {desk : DeskValue F} {left : Outcome L F}
+      → Carries talk since fault downs contents moments paths faults done (prepared_with old planned) ids before desk left
+      → Carries talk since fault downs contents moments paths faults done old ids before desk left
+  carries-same {F} {talk} {since} {fault} {downs} {done} {ids} {before} {desk} {left} carries = record {
     answer = carries.answer;
     commits = rw (
-      by_plans (λ planned. taken_slots date before.user planned ids desk.picked desk.slots)
-          (λ view planned. taken_slots-seen view date before.user planned ids desk.picked desk.slots) old.planned.items planned.items same,
-      by_plans (λ planned. taken_entries date before.user planned ids desk.picked desk.slots)
-          (λ view planned. taken_entries-seen view date before.user planned ids desk.picked desk.slots) old.planned.items planned.items same,
+      by_plans (λ planned. taken_slots done before.user planned ids desk.picked desk.slots)
+          (λ view planned. taken_slots-seen view done before.user planned ids desk.picked desk.slots) old.planned.items planned.items same,
+      by_plans (λ planned. taken_entries done before.user planned ids desk.picked desk.slots)
+          (λ view planned. taken_entries-seen view done before.user planned ids desk.picked desk.slots) old.planned.items planned.items same,
     ) at carries.commits;
     goes = by carries.answer carries.goes;
   }
     where
       by : (answer : Result (DeskValue F) (CommitFault × F))
-          → AfterCommit talk since fault downs date (marks_in desk) (prepared_with old planned) before answer left
-          → AfterCommit talk since fault downs date (marks_in desk) old before answer left
+          → AfterCommit talk since fault downs done (prepared_with old planned) before answer left
+          → AfterCommit talk since fault downs done old before answer left
       by (Ok after) goes = closes-same goes
       by (Err refusal) goes = goes
 
   -- a session writes the same without the views
   pub writes-same : {L F : Type 0} {talk : L → Option Talk} {since : L → L → Type 0} {fault : L → Option LinkFault} {downs : L → ℕ}
       {contents : F → Option FileMap} {moments : F → Moments} {paths : F → Option (List (List ℕ))} {faults : F → ℕ}
-      {date : ℕ} {before : SessionValue L} {desk : DeskValue F} {left : Outcome L F}
-      → Writes talk since fault downs contents moments paths faults date (prepared_with old planned) before desk left
-      → Writes talk since fault downs contents moments paths faults date old before desk left
-  writes-same {talk} {since} {fault} {downs} {contents} {moments} {paths} {faults} {date} {before} {desk} {left} writes =
+      {done : Marks} {before : SessionValue L} {desk : DeskValue F} {left : Outcome L F}
+      → Writes talk since fault downs contents moments paths faults done (prepared_with old planned) before desk left
+      → Writes talk since fault downs contents moments paths faults done old before desk left
+  writes-same {talk} {since} {fault} {downs} {contents} {moments} {paths} {faults} {done} {before} {desk} {left} writes =
       let sends = writes.sends in
       let told : Option Talk = saying (marking (begun_user before.user) 0x40 ∷ []) (talk before.link) in
       let acts = news-acts same (shelves_in desk) told sends.stretches in
@@ -273,7 +273,7 @@ module _ (old : Prepared) (planned : Vec Planned) (same : SameButViews old.plann
       }
     where
       by : (answer : Result (Vec (Vec ℕ)) SessionFault)
-          → AfterNews talk since fault downs contents moments paths faults date (prepared_with old planned) writes.now desk answer left
-          → AfterNews talk since fault downs contents moments paths faults date old writes.now desk answer left
+          → AfterNews talk since fault downs contents moments paths faults done (prepared_with old planned) writes.now desk answer left
+          → AfterNews talk since fault downs contents moments paths faults done old writes.now desk answer left
       by (Ok ids) goes = carries-same goes
       by (Err cause) goes = goes

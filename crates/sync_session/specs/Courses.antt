@@ -1,14 +1,12 @@
 -- How a session went over any link, call by call: each record tells what one call answered, and how
 -- it went on then.
-use Rattle.std.specs.Prelude.{◌≡◌, ℕ, Bool, List, [], ◌∷◌, length, map, Option, IfErr, IfOk, Result, Ok, Err}
+use Rattle.std.specs.Prelude.{◌≡◌, ℕ, List, [], ◌∷◌, length, map, Option, IfErr, IfOk, Result, Ok, Err}
 use Rattle.std.specs.Global.{Vec}
 use Rattle.hs_folders.specs.FileMaps.{FileMap}
 use Rattle.hs_folders.specs.Moments.{Moments}
-use Rattle.pdb_values.specs.Slots.{slot_for}
 use Rattle.pdb_values.specs.declared.head.DbHead.{DbHead}
 use Rattle.pdb_values.specs.declared.user.Marks.{Marks}
 use Rattle.pdb_values.specs.declared.user.UserInfo.{UserInfo}
-use Rattle.folder_files.specs.Slots.{users_of}
 use Rattle.dlp_commands.specs.declared.link.LinkFault.{LinkFault}
 use Rattle.dlp_commands.specs.Talks.{Talk}
 use Rattle.desk_store.specs.declared.fault.CommitFault.{CommitFault}
@@ -21,7 +19,9 @@ use Rattle.desktop_session.specs.declared.fault.SessionFault.{SessionFault}
 use Rattle.desktop_session.specs.Acts.{Act}
 use Rattle.desktop_session.specs.Requests.{ending, marking}
 use Rattle.desktop_session.specs.Lasts.{IsByLastReply}
+use Rattle.desktop_session.specs.Seats.{seat_for}
 use Rattle.desktop_session.specs.Sessions.{SessionValue}
+use Rattle.desktop_session.specs.declared.seat.UserWish.{UserWish}
 use Rattle.mirrors.specs.Agreements.{agreed}
 use Rattle.session_plan.specs.declared.job.Job.{Job}
 use Rattle.session_parts.specs.declared.meeting.Met.{Met}
@@ -46,7 +46,7 @@ use Rattle.sync_session.specs.Stopping.{Judges}
 use Rattle.session_parts.specs.Stopping.{stop_of}
 use Rattle.session_parts.specs.Stretches.{SpansBehind, SpansEach}
 use Rattle.session_plan.specs.Takes.{each_of}
-use Rattle.session_plan.specs.Users.{begun_user, done_user}
+use Rattle.session_plan.specs.Users.{begun_user, done_marks, done_user}
 use Rattle.session_plan.specs.Partings.{agrees_with}
 
 -- ---- what is left
@@ -63,26 +63,26 @@ closed folder reports (Err halted) = stopped halted.link folder (stop.Session ha
 -- ---- behind the commit
 
 -- the last acts: the mark that ends what is written, and the end
-abbrev pub last_acts : ℕ → UserInfo → Marks → List Act
-last_acts date user slot = marking (done_user date user slot) 0xF0 ∷ ending ∷ []
+abbrev pub last_acts : UserInfo → Marks → List Act
+last_acts user done = marking (done_user user done) 0xF0 ∷ ending ∷ []
 
 -- the databases were purged, and both sides told the end, as far as it went
 pub record Closes {L F : Type 0} (talk : L → Option Talk) (since : L → L → Type 0)
     (fault : L → Option LinkFault) (downs : L → ℕ)
-    (date : ℕ) (slot : Marks) (prepared : Prepared) (old : SessionValue L) (folder : F)
+    (done : Marks) (prepared : Prepared) (old : SessionValue L) (folder : F)
     (left : Outcome L F) : Type 0 where
   pub answer : Result (Ended L) (Halted L)
   pub ends : Ends talk since fault downs prepared.planned.items
-      (last_acts date old.user slot) old answer
+      (last_acts old.user done) old answer
   pub is : left ≡ closed folder prepared.reports answer
 
 -- the desktop has committed, or it didn't
 abbrev pub AfterCommit : {L F : Type 0} → (L → Option Talk) → (L → L → Type 0)
-    → (L → Option LinkFault) → (L → ℕ) → ℕ → Marks → Prepared → SessionValue L
+    → (L → Option LinkFault) → (L → ℕ) → Marks → Prepared → SessionValue L
     → Result (DeskValue F) (CommitFault × F) → Outcome L F → Type 0
-AfterCommit talk since fault downs date slot prepared old (Ok desk) left =
-    Closes talk since fault downs date slot prepared old desk.folder left
-AfterCommit talk since fault downs date slot prepared old (Err refusal) left =
+AfterCommit talk since fault downs done prepared old (Ok desk) left =
+    Closes talk since fault downs done prepared old desk.folder left
+AfterCommit talk since fault downs done prepared old (Err refusal) left =
     left ≡ stopped old.link refusal.1 (stop_of refusal.0)
 
 -- the desktop was to commit, where the handheld's new records got these ids
@@ -90,25 +90,25 @@ pub record Carries {L F : Type 0} (talk : L → Option Talk) (since : L → L �
     (fault : L → Option LinkFault) (downs : L → ℕ)
     (contents : F → Option FileMap) (moments : F → Moments) (paths : F → Option (List (List ℕ)))
     (faults : F → ℕ)
-    (date : ℕ) (prepared : Prepared) (ids : List (List ℕ)) (old : SessionValue L)
+    (done : Marks) (prepared : Prepared) (ids : List (List ℕ)) (old : SessionValue L)
     (desk : DeskValue F) (left : Outcome L F) : Type 0 where
   pub answer : Result (DeskValue F) (CommitFault × F)
-  pub commits : CommitsPlanned contents moments paths faults date old.user
+  pub commits : CommitsPlanned contents moments paths faults done old.user
       prepared.planned.items ids desk answer
-  pub goes : AfterCommit talk since fault downs date (marks_in desk) prepared old answer left
+  pub goes : AfterCommit talk since fault downs done prepared old answer left
 
 -- ---- the news
 
 -- the handheld has its news, or not all of it
 abbrev pub AfterNews : {L F : Type 0} → (L → Option Talk) → (L → L → Type 0)
     → (L → Option LinkFault) → (L → ℕ) → (F → Option FileMap) → (F → Moments) →
-    (F → Option (List (List ℕ))) → (F → ℕ) → ℕ → Prepared
+    (F → Option (List (List ℕ))) → (F → ℕ) → Marks → Prepared
     → SessionValue L → DeskValue F → Result (Vec (Vec ℕ)) SessionFault → Outcome L F → Type 0
-AfterNews talk since fault downs contents moments paths faults date prepared now desk
+AfterNews talk since fault downs contents moments paths faults done prepared now desk
     (Ok ids) left =
-    Carries talk since fault downs contents moments paths faults date prepared
+    Carries talk since fault downs contents moments paths faults done prepared
     (each_of ids.items) now desk left
-AfterNews talk since fault downs contents moments paths faults date prepared now desk
+AfterNews talk since fault downs contents moments paths faults done prepared now desk
     (Err cause) left =
     left ≡ stopped now.link desk.folder (stop.Session cause)
 
@@ -117,7 +117,7 @@ pub record Writes {L F : Type 0} (talk : L → Option Talk) (since : L → L →
     (fault : L → Option LinkFault) (downs : L → ℕ)
     (contents : F → Option FileMap) (moments : F → Moments) (paths : F → Option (List (List ℕ)))
     (faults : F → ℕ)
-    (date : ℕ) (prepared : Prepared) (old : SessionValue L) (desk : DeskValue F)
+    (done : Marks) (prepared : Prepared) (old : SessionValue L) (desk : DeskValue F)
     (left : Outcome L F) : Type 0 where
   pub now : SessionValue L
   pub answer : Result (Vec (Vec ℕ)) SessionFault
@@ -125,7 +125,7 @@ pub record Writes {L F : Type 0} (talk : L → Option Talk) (since : L → L →
       (news_under (shelves_in desk)) (GainsEach (shelves_in desk)) prepared.planned.items
       (λ (made : Vec (Vec ℕ)). made.items) old now answer
   pub goes : AfterNews talk since fault downs contents moments paths faults
-      date prepared now desk answer left
+      done prepared now desk answer left
 
 -- ---- what precedes each write
 
@@ -182,43 +182,50 @@ pub record Prepares {L F : Type 0} (talk : L → Option Talk) (since : L → L �
 -- it was done, or not all of it
 abbrev pub AfterPreparing : {L F : Type 0} → (L → Option Talk) → (L → L → Type 0)
     → (L → Option LinkFault) → (L → ℕ) → (F → Option FileMap) → (F → Moments) →
-    (F → Option (List (List ℕ))) → (F → ℕ) → ℕ
+    (F → Option (List (List ℕ))) → (F → ℕ) → Marks
     → SessionValue L → DeskValue F → Result Prepared Stop → Outcome L F → Type 0
-AfterPreparing talk since fault downs contents moments paths faults date now desk
+AfterPreparing talk since fault downs contents moments paths faults done now desk
     (Ok prepared) left =
-    Writes talk since fault downs contents moments paths faults date prepared now desk left
-AfterPreparing talk since fault downs contents moments paths faults date now desk (Err cause) left =
+    Writes talk since fault downs contents moments paths faults done prepared now desk left
+AfterPreparing talk since fault downs contents moments paths faults done now desk (Err cause) left =
     left ≡ stopped now.link desk.folder cause
 
 -- ---- the whole
 
--- the slot of a user is picked
-abbrev pub picked_for : {F : Type 0} → List ℕ → ℕ → Bool → DeskValue F → DeskValue F
-picked_for users user add desk =
-    record desk { picked = place_of (length desk.slots) (slot_for users user add) }
+-- the slot of a handheld is picked
+abbrev pub picked_for : {F : Type 0} → List Marks → UserWish → UserInfo → DeskValue F
+    → DeskValue F
+picked_for marks wish user desk =
+    record desk { picked = place_of (length desk.slots) (seat_for marks wish user) }
+
+-- the marks that end its session
+abbrev pub done_for : {F : Type 0} → Wishes → UserInfo → DeskValue F → Marks
+done_for wishes user desk =
+    done_marks wishes.date wishes.user.name (marks_of desk.slots) user (marks_in desk)
 
 -- both sides have met
 pub record GoesOn {L F : Type 0} (talk : L → Option Talk) (since : L → L → Type 0)
     (fault : L → Option LinkFault) (downs : L → ℕ)
     (contents : F → Option FileMap) (moments : F → Moments) (paths : F → Option (List (List ℕ)))
     (faults : F → ℕ)
-    (users : List ℕ) (wishes : Wishes) (met : Met L) (desk : DeskValue F)
+    (marks : List Marks) (wishes : Wishes) (met : Met L) (desk : DeskValue F)
     (left : Outcome L F) : Type 0 where
   pub now : SessionValue L
   pub answer : Result Prepared Stop
   pub prepares : Prepares talk since fault downs met.heads.items wishes
-      (picked_for users met.linked.user.user wishes.add_user desk) met.linked now answer
-  pub goes : AfterPreparing talk since fault downs contents moments paths faults wishes.date now
-      (picked_for users met.linked.user.user wishes.add_user desk) answer left
+      (picked_for marks wishes.user met.linked.user desk) met.linked now answer
+  pub goes : AfterPreparing talk since fault downs contents moments paths faults
+      (done_for wishes met.linked.user (picked_for marks wishes.user met.linked.user desk)) now
+      (picked_for marks wishes.user met.linked.user desk) answer left
 
 -- both sides have met, or they have not
 abbrev pub AfterMeeting : {L F : Type 0} → (L → Option Talk) → (L → L → Type 0)
     → (L → Option LinkFault) → (L → ℕ) → (F → Option FileMap) → (F → Moments) →
-    (F → Option (List (List ℕ))) → (F → ℕ) → List ℕ → Wishes
+    (F → Option (List (List ℕ))) → (F → ℕ) → List Marks → Wishes
     → DeskValue F → Result (Met L) (Halted L) → Outcome L F → Type 0
-AfterMeeting talk since fault downs contents moments paths faults users wishes desk (Ok met)
-    left = GoesOn talk since fault downs contents moments paths faults users wishes met desk left
-AfterMeeting talk since fault downs contents moments paths faults users wishes desk
+AfterMeeting talk since fault downs contents moments paths faults marks wishes desk (Ok met)
+    left = GoesOn talk since fault downs contents moments paths faults marks wishes met desk left
+AfterMeeting talk since fault downs contents moments paths faults marks wishes desk
     (Err halted) left =
     left ≡ stopped halted.link desk.folder (stop.Session halted.cause)
 
@@ -230,7 +237,7 @@ pub record Runs {L F : Type 0} (talk : L → Option Talk) (since : L → L → T
     (wishes : Wishes) (old : L) (desk : DeskValue F) (left : Outcome L F) : Type 0 where
   pub answer : Result (Met L) (Halted L)
   pub meets : MeetsOrNot talk since fault downs
-      (users_of (marks_of desk.slots)) wishes.add_user old answer
+      (marks_of desk.slots) wishes.user old answer
   pub last : IfErr answer (λ halted. IsByLastReply (talk halted.link) halted.cause)
   pub goes : AfterMeeting talk since fault downs contents moments paths faults
-      (users_of (marks_of desk.slots)) wishes desk answer left
+      (marks_of desk.slots) wishes desk answer left

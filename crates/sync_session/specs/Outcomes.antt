@@ -7,7 +7,6 @@ use Rattle.std.specs.Str.{bytes_eq}
 use Rattle.std.specs.Global.{Vec}
 use Rattle.hs_folders.specs.FileMaps.{FileMap}
 use Rattle.hs_folders.specs.Moments.{EachMomentSince, Moments}
-use Rattle.pdb_values.specs.Slots.{slot_for}
 use Rattle.pdb_values.specs.declared.slot.Slot.{Slot}
 use Rattle.pdb_values.specs.declared.slot.Slot.TheVariants.{Full, Refused}
 use Rattle.pdb_values.specs.declared.user.UserInfo.{UserInfo}
@@ -28,6 +27,7 @@ use Rattle.desktop_session.specs.Acts.{text}
 use Rattle.desktop_session.specs.Greetings.{user_with}
 use Rattle.desktop_session.specs.Lasts.{IsBroken, IsRefusal, LastSays}
 use Rattle.desktop_session.specs.Requests.{reading_user}
+use Rattle.desktop_session.specs.Seats.{seat_for}
 use Rattle.desktop_session.specs.Stops.{Does, Stops}
 use Rattle.session_parts.specs.declared.outcome.Outcome.{Outcome}
 use Rattle.session_parts.specs.declared.report.DbReport.{DbReport}
@@ -143,12 +143,11 @@ pub record IsCommitted {L : Type 0} (talk : L → Option Talk) (since : L → L 
 
 -- ---- why it stopped
 
--- the slot for the handheld's user
+-- the slot for the handheld
 abbrev pub slot_in : Meeting → Slot
-slot_in meeting =
-    slot_for (users_of (marks_of meeting.slots)) meeting.device.user.user meeting.wishes.add_user
+slot_in meeting = seat_for (marks_of meeting.slots) meeting.wishes.user meeting.device.user
 
--- both sides have a user, and no slot has the handheld's
+-- no slot has the handheld's user, or another one is asked for
 pub record IsOtherUser (meeting : Meeting) (handheld desktop : ℕ) : Type 0 where
   pub slot : slot_in meeting ≡ Refused
   pub handheld_is : handheld ≡ meeting.device.user.user
@@ -157,7 +156,7 @@ pub record IsOtherUser (meeting : Meeting) (handheld desktop : ℕ) : Type 0 whe
 -- the handheld's user, where it has a slot, and else why a session stops
 abbrev pub seat_of : Meeting → Result UserInfo SessionFault
 seat_of meeting =
-    user_with (users_of (marks_of meeting.slots)) meeting.device.user (slot_in meeting)
+    user_with (marks_of meeting.slots) meeting.device.user (slot_in meeting)
 
 -- this database would pass a limit first, and all is read and nothing written
 pub record IsLimit {L : Type 0} (talk : L → Option Talk) (meeting : Meeting) (old new : L)

@@ -6,10 +6,10 @@ use Rattle.dlp_commands.specs.Changes.{changes}
 use Rattle.desktop_session.specs.Acts.{Act, text}
 use Rattle.desktop_session.specs.Lists.{listings}
 use Rattle.desktop_session.specs.Requests.{ending, marking}
-use Rattle.session_plan.specs.Tasks.{Meeting, slot_of}
+use Rattle.session_plan.specs.Tasks.{Meeting}
 use Rattle.session_parts.specs.Meets.{greeting}
 use Rattle.session_plan.specs.Skips.{active}
-use Rattle.session_plan.specs.Users.{begun_user, done_user}
+use Rattle.session_plan.specs.Users.{begun_user, done_of, done_user}
 use Rattle.sync_session.specs.Reads.{read_acts}
 use Rattle.session_plan.specs.Choosing.{add_count}
 use Rattle.sync_session.specs.News.{all_news, purge_acts}
@@ -22,7 +22,7 @@ begin_mark meeting = marking (begun_user meeting.device.user) 0x40
 -- the mark that ends it: user, PC, date and name (bits 0xF0)
 abbrev pub end_mark : Meeting → Act
 end_mark meeting =
-    marking (done_user meeting.wishes.date meeting.device.user (slot_of meeting).marks) 0xF0
+    marking (done_user meeting.device.user (done_of meeting)) 0xF0
 
 -- the handheld's databases are listed: one request for each, and one where it has none
 unfoldable pub listing_all : Meeting → List Act

@@ -8,25 +8,24 @@ use crate::marking::finish;
 use crate::purging::purge_all;
 use desktop_session::{Ended, Halted, Linked};
 use dlp_commands::Link;
-use pdb_values::{Marks, PalmDate};
+use pdb_values::Marks;
 use session_plan::Planned;
 
-/// Purges each of these databases of the handheld that is not skipped, then marks the handheld as one whose session is done, with the
-/// user that both sides agree on, this desktop and the date, and ends the session.
+/// Purges each of these databases of the handheld that is not skipped, then marks the handheld as one whose session is done, with what
+/// the desktop knows then, and ends the session.
 pub fn end_all<L: Link>(
     linked: Linked<L>,
     planned: &[Planned],
-    date: PalmDate,
-    slot: &Marks,
+    done: &Marks,
 ) -> Result<Ended<L>, Halted<L>>
     requires { linked.abandoned ≡ false }
     ensures { Ends L.talk L.since L.fault L.downs planned.now
-        (marking (users.done_user date linked.user slot.now) 0xF0 ∷ ending ∷ [])
+        (marking (users.done_user linked.user done.now) 0xF0 ∷ ending ∷ [])
         linked result }
 {
     let mut linked = linked;
     match purge_all(&mut linked, planned) {
-        Ok(()) => finish(linked, date, slot),
+        Ok(()) => finish(linked, done),
         Err(cause) => Err(linked.halt(cause)),
     }
 }

@@ -11,7 +11,7 @@ ghost use Rattle.session_plan.specs.Users as users;
 
 use desktop_session::{Ended, Halted, Linked, SessionFault};
 use dlp_commands::Link;
-use pdb_values::{Marks, PalmDate};
+use pdb_values::Marks;
 use session_plan::{begun_user, done_user};
 
 /// Marks the handheld as one whose session is under way: its last desktop is none.
@@ -26,25 +26,21 @@ pub fn begin<L: Link>(linked: &mut Linked<L>) -> Result<(), SessionFault>
     linked.mark(&user, 0x40)
 }
 
-/// Marks the handheld as one whose session is done, with the user that both sides agree on, this desktop and the date, and ends
-/// the session.
-pub fn finish<L: Link>(
-    linked: Linked<L>,
-    date: PalmDate,
-    slot: &Marks,
-) -> Result<Ended<L>, Halted<L>>
+/// Marks the handheld as one whose session is done, with what the desktop knows then: the user that both
+/// sides agree on, this desktop and the date; and ends the session.
+pub fn finish<L: Link>(linked: Linked<L>, done: &Marks) -> Result<Ended<L>, Halted<L>>
     requires { linked.abandoned ≡ false }
     ensures stops { Stops L.talk L.since L.fault L.downs
-        (text (marking (users.done_user date linked.user slot.now) 0xF0) ∷ text ending ∷ [])
+        (text (marking (users.done_user linked.user done.now) 0xF0) ∷ text ending ∷ [])
         linked.link (link_ended result) }
     ensures does { IfOk result (λ ended. Does L.talk
-        (marking (users.done_user date linked.user slot.now) 0xF0 ∷ ending ∷ [])
+        (marking (users.done_user linked.user done.now) 0xF0 ∷ ending ∷ [])
         linked.link ended.link) }
     ensures cause { IfErr result (λ halted. IsLater (L.talk halted.link) (L.fault halted.link)
         halted.cause) }
 {
     let mut linked = linked;
-    let user = done_user(date, linked.user(), slot);
+    let user = done_user(linked.user(), done);
     match linked.mark(&user, 0xF0) {
         Ok(()) => linked.finish(),
         Err(cause) => Err(linked.halt(cause)),

@@ -1,10 +1,10 @@
 // A session of both sides, from the greeting to the end.
 ghost use Rattle.std.specs.Prelude.{◌≡◌, ◌≤◌, IfErr, false, length};
-ghost use Rattle.folder_files.specs.Slots.{AreSlots, users_of};
-ghost use Rattle.desk_store.specs.Shelves.{AreInOrder, marks_of};
+ghost use Rattle.folder_files.specs.Slots.{AreSlots};
+ghost use Rattle.desk_store.specs.Shelves.{AreInOrder, marks_of, number_of};
 ghost use Rattle.desk_store.specs.Views.{marks_in, shelves_in};
 ghost use Rattle.pdb_values.specs.Bounds.{most_databases};
-ghost use Rattle.pdb_values.specs.Slots.{slot_for as slot_of};
+ghost use Rattle.desktop_session.specs.Seats.{seat_for as seat_of};
 ghost use Rattle.sync_session.specs.Courses.{Carries, Closes, GoesOn, Runs, Writes, stopped as left_by};
 ghost use Rattle.session_parts.specs.Meets.{IsSeated};
 ghost use Rattle.session_plan.specs.Fits.{AreOfSession, CanTake, IsSeat};
@@ -16,18 +16,17 @@ ghost use Rattle.sync_session.specs.StopCauses.{IsStopBy};
 ghost use Rattle.session_plan.specs.PlannedLimits.{unskipped};
 ghost use Rattle.session_plan.specs.Takes.{each_of};
 ghost use Rattle.session_plan.specs.Tasks.{meeting_of};
-ghost use Rattle.session_plan.specs.Users.{agreed_user};
 
 use crate::ending::end_all;
 use crate::giving::send_all;
 use crate::preparing::{Prepared, prepare, without_views};
 use desk_store::Desk;
-use desktop_session::{Halted, Linked, SessionFault};
+use desktop_session::{Halted, Linked, SessionFault, seat_for};
 use dlp_commands::Link;
 use hs_folders::Folder;
-use pdb_values::{Marks, PalmDate, RecordId, slot_for};
+use pdb_values::{Marks, RecordId};
 use session_parts::{Met, Outcome, Stop, meet_over};
-use session_plan::{Wishes, commit_all};
+use session_plan::{Wishes, commit_all, done_marks};
 use std::alloc::{AllocError, Global};
 
 // The same marks once more.
@@ -66,14 +65,12 @@ fn close<L: Link, D: Folder>(
     linked: Linked<L>,
     desk: Desk<D>,
     prepared: Prepared,
-    date: PalmDate,
-    slot: &Marks,
+    done: &Marks,
 ) -> Outcome<L, D>
     requires { linked.abandoned ≡ false }
-    ensures { Closes L.talk L.since L.fault L.downs date slot.now prepared linked desk.folder
-        result }
+    ensures { Closes L.talk L.since L.fault L.downs done.now prepared linked desk.folder result }
 {
-    match end_all(linked, &prepared.planned, date, slot) {
+    match end_all(linked, &prepared.planned, done) {
         Ok(ended) => Outcome {
             link: ended.link,
             folder: desk.into_folder(),
@@ -90,17 +87,16 @@ fn commit<L: Link, D: Folder>(
     desk: Desk<D>,
     prepared: Prepared,
     ids: &[Vec<RecordId>],
-    date: PalmDate,
+    done: Marks,
 ) -> Outcome<L, D>
     requires open { linked.abandoned ≡ false }
-    requires takes { CanTake date linked.user prepared.planned.items (each_of ids.now) desk.picked
-        desk.slots }
-    ensures { Carries L.talk L.since L.fault L.downs D.contents D.moments D.paths D.faults date
+    requires takes { CanTake done prepared.planned.items (each_of ids.now) desk.picked desk.slots }
+    ensures { Carries L.talk L.since L.fault L.downs D.contents D.moments D.paths D.faults done
         prepared (each_of ids.now) linked desk result }
 {
-    let slot = same_marks(desk.marks());
-    match commit_all(alloc, desk, &prepared.planned, ids, linked.user(), date) {
-        Ok(desk) => close(linked, desk, prepared, date, &slot),
+    let told = same_marks(&done);
+    match commit_all(alloc, desk, &prepared.planned, ids, linked.user(), done) {
+        Ok(desk) => close(linked, desk, prepared, &told),
         Err((fault, folder)) => Outcome {
             link: link_of(linked),
             folder,
@@ -115,13 +111,14 @@ fn write<L: Link, D: Folder>(
     linked: Linked<L>,
     desk: Desk<D>,
     prepared: Prepared,
-    date: PalmDate,
+    done: Marks,
 ) -> Outcome<L, D>
     requires open { linked.abandoned ≡ false }
     requires planned { AreOfSession (shelves_in desk) prepared.planned.items }
     requires few { length (unskipped prepared.planned.items) ≤ most_databases }
-    requires seat { IsSeat desk.slots desk.picked (agreed_user linked.user (marks_in desk)) }
-    ensures { Writes L.talk L.since L.fault L.downs D.contents D.moments D.paths D.faults date
+    requires number { done.pc ≡ number_of desk.slots }
+    requires seat { IsSeat desk.slots desk.picked done.user }
+    ensures { Writes L.talk L.since L.fault L.downs D.contents D.moments D.paths D.faults done
         prepared linked desk result }
 {
     let mut linked = linked;
@@ -130,7 +127,7 @@ fn write<L: Link, D: Folder>(
         reports: prepared.reports,
     };
     match send_all(alloc, &mut linked, &desk, &prepared.planned) {
-        Ok(ids) => commit(alloc, linked, desk, prepared, &ids, date),
+        Ok(ids) => commit(alloc, linked, desk, prepared, &ids, done),
         Err(cause) => stopped(link_of(linked), desk, Stop::Session(cause)),
     }
 }
@@ -140,25 +137,32 @@ fn go_on<L: Link, D: Folder>(
     alloc: Global,
     met: Met<L>,
     desk: Desk<D>,
-    users: &[u32],
+    marks: &[Marks],
     wishes: &Wishes,
 ) -> Outcome<L, D>
     requires open { met.linked.abandoned ≡ false }
-    requires some { 1 ≤ length users.now }
-    requires room { length users.now ≤ 16 }
-    requires count { length users.now ≡ length desk.slots }
+    requires some { 1 ≤ length marks.now }
+    requires room { length marks.now ≤ 16 }
+    requires count { length marks.now ≡ length desk.slots }
     requires formed { AreSlots (marks_of desk.slots) }
-    requires users { users.now ≡ users_of (marks_of desk.slots) }
-    requires seated { IsSeated (slot_of users.now met.linked.user.user wishes.now.add_user) }
-    ensures { GoesOn L.talk L.since L.fault L.downs D.contents D.moments D.paths D.faults users.now
+    requires marks { marks.now ≡ marks_of desk.slots }
+    requires seated { IsSeated (seat_of marks.now wishes.now.user met.linked.user) }
+    ensures { GoesOn L.talk L.since L.fault L.downs D.contents D.moments D.paths D.faults marks.now
         wishes.now met desk result }
 {
     let Met { linked, heads } = met;
     let mut linked = linked;
     let mut desk = desk;
-    desk.pick(slot_for(users, linked.user().user, wishes.add_user));
+    desk.pick(seat_for(marks, &wishes.user, linked.user()));
+    let done = done_marks(
+        wishes.date,
+        &wishes.user.name,
+        marks,
+        linked.user(),
+        desk.marks(),
+    );
     match prepare(alloc, &mut linked, &desk, &heads, wishes) {
-        Ok(prepared) => write(alloc, linked, desk, prepared, wishes.date),
+        Ok(prepared) => write(alloc, linked, desk, prepared, done),
         Err(stop) => stopped(link_of(linked), desk, stop),
     }
 }
@@ -169,9 +173,9 @@ fn run<L: Link, D: Folder>(alloc: Global, link: L, desk: Desk<D>, wishes: &Wishe
     ensures { Runs L.talk L.since L.fault L.downs D.contents D.moments D.paths D.faults wishes.now
         link desk result }
 {
-    match desk.users(alloc) {
-        Ok(users) => match meet_over(alloc, link, &users, wishes.add_user) {
-            Ok(met) => go_on(alloc, met, desk, &users, wishes),
+    match desk.all_marks(alloc) {
+        Ok(marks) => match meet_over(alloc, link, &marks, &wishes.user) {
+            Ok(met) => go_on(alloc, met, desk, &marks, wishes),
             Err(Halted { link, cause }) => stopped(link, desk, Stop::Session(cause)),
         },
         Err(AllocError) => stopped(link, desk, Stop::Session(SessionFault::NoMemory)),

@@ -1,5 +1,5 @@
 -- A session behind one that stopped.
-use Rattle.category_mirror.proofs.RepeatLaws.{marked_device, marked_slots, stopped_device, stopped_slots}
+use Rattle.category_mirror.proofs.TwiceLaws.{marked_device, marked_slots, stopped_device, stopped_slots}
 use Rattle.category_mirror.proofs.laws.sessions_that_stopped_are_made_up_for.Goals as goal
 
 pub returns : goal.returns

@@ -10,8 +10,8 @@ use Rattle.category_mirror.proofs.session.file_met.Goals as goal
 
 pub pick-requires : goal.pick-requires
 pick-requires g c =
-    let is = rw c.user.ensures at c.slot_for.ensures.slot in
-    seated_pickable (length c.args.users.now) (length c.args.desk.slots) c.slot_for.result c.requires.count c.slot_for.ensures.within
+    let is = rw (c.none.ensures, c.user.ensures) at c.seat_for.ensures.slot in
+    seated_pickable (length c.args.marks.now) (length c.args.desk.slots) c.seat_for.result c.requires.count c.seat_for.ensures.within
     (rw is c.requires.seated)
 
 pub turn-requires-clause-rise : goal.turn-requires-clause-rise
@@ -29,7 +29,7 @@ turn-requires-clause-count g c =
 
 pub returns-in-Ok-file_all : goal.returns-in-Ok-file_all
 returns-in-Ok-file_all g c =
-    let picked = rw (c.slot_for.ensures.slot, c.user.ensures) at c.pick.ensures in
+    let picked = rw (c.seat_for.ensures.slot, c.none.ensures, c.user.ensures) at c.pick.ensures in
     record {
       now = c.file_all.new.linked;
       answer = Ok c.in-Ok-file_all.merges;
@@ -40,7 +40,7 @@ returns-in-Ok-file_all g c =
 
 pub returns-in-Ok : goal.returns-in-Ok
 returns-in-Ok g c =
-    let picked = rw (c.slot_for.ensures.slot, c.user.ensures) at c.pick.ensures in
+    let picked = rw (c.seat_for.ensures.slot, c.none.ensures, c.user.ensures) at c.pick.ensures in
     record {
       now = c.file_all.new.linked;
       answer = Err c.in-Err-file_all.cause;
@@ -50,7 +50,7 @@ returns-in-Ok g c =
 
 pub returns : goal.returns
 returns g c =
-    let picked = rw (c.slot_for.ensures.slot, c.user.ensures) at c.pick.ensures in
+    let picked = rw (c.seat_for.ensures.slot, c.none.ensures, c.user.ensures) at c.pick.ensures in
     record {
       now = c.args.met.linked;
       answer = Err session.NoMemory;

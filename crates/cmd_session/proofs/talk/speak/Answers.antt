@@ -13,5 +13,5 @@ returns-clause-talk g c =
     let rests = opened_rests c.requires.kept c.requires.proper c.requires.closed in
     rw closed.folder (run_spoke (λ world. world.fault) (λ world. downs_of world.fault) c.args.desk.slots
     c.requires.asked c.requires.stands c.requires.silent c.requires.cause outcome.ensures.link.later outcome.ensures.folder
-    (sound_meeting c.args.desk.slots c.args.wishes.now rests c.requires.bounded c.requires.date)
+    (sound_meeting c.args.desk.slots c.args.wishes.now rests c.requires.bounded c.requires.sound)
     (outcome.ensures.ends (world_talk c.args.world) c.requires.ordered refl rests) closed.closes)

@@ -3,6 +3,7 @@ use Rattle.std.proofs.Common.{refl, map}
 use Rattle.desktop_session.specs.Acts.{text}
 use Rattle.desktop_session.proofs.StopLaws.{fell_none, stops_none}
 use Rattle.session_parts.specs.Meets.{greeting}
+use Rattle.install_backup.proofs.HelloLaws.{hello_later, hello_other}
 use Rattle.install_backup.proofs.MarkLaws.{user_answered}
 use Rattle.install_backup.proofs.greeting.hello.Goals as goal
 
@@ -13,4 +14,13 @@ returns-in-Err-clause-stops g c =
 
 pub returns-in-Ok-clause-user : goal.returns-in-Ok-clause-user
 returns-in-Ok-clause-user g c =
-    user_answered g.L.Link.talk g.L.Link.fault c.args.link _ c.hello.result c.in-Ok.ensures.ok c.hello.ensures.greeted
+    user_answered g.L.Link.talk g.L.Link.fault c.args.link _ c.hello.result c.in-Ok.ensures.ok
+    (rw (c.unclaimed.ensures, c.none.ensures) at c.hello.ensures.greeted)
+
+pub returns-in-Ok-clause-cause : goal.returns-in-Ok-clause-cause
+returns-in-Ok-clause-cause g c =
+    hello_later g.L.Link.talk g.L.Link.fault _ c.hello.result (rw (c.unclaimed.ensures, c.none.ensures) at c.hello.ensures.greeted) c.hello.ensures.last
+
+pub returns-in-Ok-clause-others : goal.returns-in-Ok-clause-others
+returns-in-Ok-clause-others g c =
+    hello_other g.L.Link.talk g.L.Link.fault _ c.hello.result (rw (c.unclaimed.ensures, c.none.ensures) at c.hello.ensures.greeted)

@@ -1,5 +1,5 @@
 -- One more of the databases that took no part.
-use Rattle.std.proofs.Common.{◌≡◌, ◌<◌, length, rules, subst, sym}
+use Rattle.std.proofs.Common.{◌<◌, length, rules, subst, sym}
 use Rattle.std.proofs.lemmas.Result.{on_ok_weaker}
 use Rattle.folder_files.specs.Partings.{PartedRise, most_parted}
 use Rattle.session_plan.proofs.PartingLaws.{rise-with_one}

@@ -4,9 +4,7 @@ use Rattle.sync_session.proofs.ending.end_all.Goals as goal
 
 pub returns-in-Ok : goal.returns-in-Ok
 returns-in-Ok g c =
-    let same = c.in-Ok.ensures.purges.user in
-    ends_then g.met.L.Link.since_more c.in-Ok.ensures.purges (rw same at c.finish.ensures.stops) (rw same at c.finish.ensures.does)
-    c.finish.ensures.cause
+    ends_then g.met.L.Link.since_more c.in-Ok.ensures.purges c.finish.ensures.stops c.finish.ensures.does c.finish.ensures.cause
 
 pub returns-in-Err : goal.returns-in-Err
 returns-in-Err g c = ends_not c.in-Err.ensures.purges c.halt.ensures.link c.halt.ensures.cause

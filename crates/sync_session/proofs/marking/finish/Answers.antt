@@ -10,19 +10,19 @@ use Rattle.sync_session.proofs.marking.finish.Goals as goal
 
 pub returns-in-Ok-clause-stops : goal.returns-in-Ok-clause-stops
 returns-in-Ok-clause-stops g c =
-    let asked = rw (c.done_user-user.ensures, c.user.ensures) at c.in-Ok.ensures.asked in
+    let asked = rw c.done_user-user.ensures at c.in-Ok.ensures.asked in
     let none = no_fault_said _ (said_in 0x11 no_more (reply_at 0x11 c.mark.new.self.reply)) c.in-Ok.field-0 c.in-Ok.ensures.answer in
     stops_then _ _ _ _ g.met.L.Link.since_more _ (text ending ∷ []) _ _ _ (asked.does none) asked.stops c.finish.ensures.stops
 
 pub returns-in-Ok-clause-does : goal.returns-in-Ok-clause-does
 returns-in-Ok-clause-does g c =
-    let asked = rw (c.done_user-user.ensures, c.user.ensures) at c.in-Ok.ensures.asked in
+    let asked = rw c.done_user-user.ensures at c.in-Ok.ensures.asked in
     let none = no_fault_said _ (said_in 0x11 no_more (reply_at 0x11 c.mark.new.self.reply)) c.in-Ok.field-0 c.in-Ok.ensures.answer in
     does_before (ending ∷ []) c.finish.result (asked.does none) c.finish.ensures.does
 
 pub returns-in-Err-clause-stops : goal.returns-in-Err-clause-stops
 returns-in-Err-clause-stops g c =
-    let asked = rw (c.done_user-user.ensures, c.user.ensures) at c.in-Err.ensures.asked in
+    let asked = rw c.done_user-user.ensures at c.in-Err.ensures.asked in
     rw c.halt.ensures.link (stops_more _ _ _ _ _ (text ending ∷ []) _ _ asked.stops)
 
 pub returns-in-Ok-clause-cause : goal.returns-in-Ok-clause-cause

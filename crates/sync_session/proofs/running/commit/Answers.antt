@@ -1,15 +1,15 @@
 -- The desktop commits, and then the session is brought to its end.
-use Rattle.std.proofs.Common.{◌∙◌, Ok, Err}
+use Rattle.std.proofs.Common.{Ok, Err}
 use Rattle.sync_session.proofs.running.commit.Goals as goal
 
 pub commit_all-requires : goal.commit_all-requires
-commit_all-requires g c = rw (c.deref.ensures.value, c.user.ensures) c.requires.takes
+commit_all-requires g c = rw c.deref.ensures.value c.requires.takes
 
 pub returns-in-Ok : goal.returns-in-Ok
 returns-in-Ok g c = record {
   answer = Ok c.in-Ok.desk;
   commits = rw (c.deref.ensures.value, c.user.ensures) at c.in-Ok.ensures.commits;
-  goes = rw (c.same_marks-slot.ensures ∙ c.marks.ensures.marks) at c.close.ensures;
+  goes = rw c.same_marks-told.ensures at c.close.ensures;
 }
 
 pub returns-in-Err : goal.returns-in-Err

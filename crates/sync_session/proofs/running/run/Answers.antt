@@ -11,15 +11,15 @@ go_on-requires-clause-seated g c =
 pub returns-in-Ok-meet_over : goal.returns-in-Ok-meet_over
 returns-in-Ok-meet_over g c = record {
   answer = Ok c.in-Ok-meet_over.met;
-  meets = rw (c.deref.ensures.value, c.in-Ok.ensures.users) at c.in-Ok-meet_over.ensures.meets;
+  meets = rw (c.deref.ensures.value, c.in-Ok.ensures.marks) at c.in-Ok-meet_over.ensures.meets;
   last = tt;
-  goes = rw (c.deref-in-Ok-meet_over.ensures.value, c.in-Ok.ensures.users) at c.go_on.ensures;
+  goes = rw (c.deref-in-Ok-meet_over.ensures.value, c.in-Ok.ensures.marks) at c.go_on.ensures;
 }
 
 pub returns-in-Ok : goal.returns-in-Ok
 returns-in-Ok g c = record {
   answer = Err c.in-Err-meet_over.field-0;
-  meets = rw (c.deref.ensures.value, c.in-Ok.ensures.users) at c.in-Err-meet_over.ensures.meets;
+  meets = rw (c.deref.ensures.value, c.in-Ok.ensures.marks) at c.in-Err-meet_over.ensures.meets;
   last = c.in-Err-meet_over.ensures.last;
   goes = c.stopped.ensures;
 }

@@ -12,11 +12,12 @@ pub commit-requires-clause-takes : goal.commit-requires-clause-takes
 commit-requires-clause-takes g c =
     let of = of_session-same c.without_views.ensures.same c.requires.planned in
     let sends = rw c.deref.ensures.value at c.in-Ok.ensures.sends in
-    rw (c.deref-in-Ok.ensures.value, sends.user) (record {
-      each = session-takes c.args.date (saying (marking (begun_user c.args.linked.user) 0x40 ∷ []) (g.L.Link.talk c.args.linked.link))
+    rw c.deref-in-Ok.ensures.value (record {
+      each = session-takes c.args.done.last (saying (marking (begun_user c.args.linked.user) 0x40 ∷ []) (g.L.Link.talk c.args.linked.link))
           sends.stretches c.in-Ok.ids.items of sends.said;
       rise = session-rises of;
       few = rw (length-unskipped_same c.without_views.ensures.same) c.requires.few;
+      number = c.requires.number;
       seat = c.requires.seat;
     })
 

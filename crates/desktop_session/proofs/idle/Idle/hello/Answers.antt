@@ -28,7 +28,7 @@ returns-in-Ok-clause-stops g c =
 
 pub returns-in-Err-clause-unseated : goal.returns-in-Err-clause-unseated
 returns-in-Err-clause-unseated g c =
-    asks_none c.args.users.now c.args.add c.in-Err.fault
+    asks_none c.args.marks.now c.args.wish.now c.in-Err.fault
     c.in-Err.ensures.talk c.in-Err.ensures.since c.in-Err.ensures.fault
     (fell_now
     (Err c.in-Err.fault) c.in-Err.ensures.fault c.in-Err.ensures.cause)
@@ -37,7 +37,7 @@ pub returns-in-Ok-clause-unseated : goal.returns-in-Ok-clause-unseated
 returns-in-Ok-clause-unseated g c =
     let begins : c.begin-linked.result.link ≡ c.hello.new.self = search rules in
     let ends : c.greet.new.self.link ≡ c.set_user.new.self.link = search rules in
-    asks_after g.met.L.Link.since_more c.args.users.now c.args.add
+    asks_after g.met.L.Link.since_more c.args.marks.now c.args.wish.now
     c.in_default.ensures.talk c.in_default.ensures.since
     (fell_now
     (Ok c.in_default.field-0) c.in_default.ensures.fault c.in_default.ensures.cause) begins ends c.in-Ok.ensures.unseated
@@ -46,7 +46,7 @@ pub returns-in-Err-greet-clause-unseated : goal.returns-in-Err-greet-clause-unse
 returns-in-Err-greet-clause-unseated g c =
     let begins : c.begin-linked.result.link ≡ c.hello.new.self = search rules in
     let ends : c.greet.new.self.link ≡ c.halt.result.link = search rules in
-    asks_after g.met.L.Link.since_more c.args.users.now c.args.add
+    asks_after g.met.L.Link.since_more c.args.marks.now c.args.wish.now
     c.in_default.ensures.talk c.in_default.ensures.since
     (fell_now
     (Ok c.in_default.field-0) c.in_default.ensures.fault c.in_default.ensures.cause) begins ends c.in-Err-greet.ensures.unseated

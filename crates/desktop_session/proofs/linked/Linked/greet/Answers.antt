@@ -18,7 +18,7 @@ returns-in_err-user-clause-stops g c =
 pub returns-in_err-user-clause-greeted : goal.returns-in_err-user-clause-greeted
 returns-in_err-user-clause-greeted g c =
     let p = err_from_is_err_and c.from_residual.result c.from_residual.ensures.1 in
-    rw (p.1, p.2) (greet_first c.args.users.now c.args.add (g.L.Link.talk c.args.self.now.link)
+    rw (p.1, p.2) (greet_first c.args.marks.now c.args.wish.now (g.L.Link.talk c.args.self.now.link)
     c.ask_user.new.self.reply
     c.in_err-user.ensures.answer c.in_err-user.ensures.asked.told)
 
@@ -27,17 +27,17 @@ returns-in_err-user-clause-unseated g c = inl (record { stops = c.in_err-user.en
 
 pub returns-in_err-ask_conduits-clause-unseated : goal.returns-in_err-ask_conduits-clause-unseated
 returns-in_err-ask_conduits-clause-unseated g c =
-    inr (slot_read c.args.users.now c.args.add (g.L.Link.talk c.args.self.now.link)
+    inr (slot_read c.args.marks.now c.args.wish.now (g.L.Link.talk c.args.self.now.link)
     c.ask_user.new.self.reply c.in_ok-user.ensures.answer c.in_ok-user.ensures.asked.told)
 
 pub returns-clause-unseated : goal.returns-clause-unseated
 returns-clause-unseated g c =
-    inr (slot_read c.args.users.now c.args.add (g.L.Link.talk c.args.self.now.link)
+    inr (slot_read c.args.marks.now c.args.wish.now (g.L.Link.talk c.args.self.now.link)
     c.ask_user.new.self.reply c.in_ok-user.ensures.answer c.in_ok-user.ensures.asked.told)
 
 pub returns-in_err-ask_conduits-clause-stops : goal.returns-in_err-ask_conduits-clause-stops
 returns-in_err-ask_conduits-clause-stops g c =
-    let none = no_fault_said (g.L.Link.fault c.ask_user.new.self.link) (user_by c.args.users.now c.args.add (said_in 0x10 user_of
+    let none = no_fault_said (g.L.Link.fault c.ask_user.new.self.link) (user_by c.args.marks.now c.args.wish.now (said_in 0x10 user_of
     (reply_at 0x10 c.ask_user.new.self.reply))) c.in_ok-user.user c.in_ok-user.ensures.answer in
     stops_then g.L.Link.talk g.L.Link.since g.L.Link.fault g.L.Link.downs g.met.L.Link.since_more (reading_user ∷ []) (text beginning ∷ [])
     c.args.self.now.link c.ask_user.new.self.link c.ask_conduits.new.self.link (c.in_ok-user.ensures.asked.does none) c.in_ok-user.ensures.asked.stops
@@ -46,14 +46,14 @@ returns-in_err-ask_conduits-clause-stops g c =
 pub returns-in_err-ask_conduits-clause-greeted : goal.returns-in_err-ask_conduits-clause-greeted
 returns-in_err-ask_conduits-clause-greeted g c =
     let p = err_from_is_err_and c.from_residual-in_err-ask_conduits.result c.from_residual-in_err-ask_conduits.ensures.1 in
-    rw (p.1, p.2) (greet_second c.args.users.now c.args.add (g.L.Link.talk c.args.self.now.link) (g.L.Link.talk c.ask_user.new.self.link)
+    rw (p.1, p.2) (greet_second c.args.marks.now c.args.wish.now (g.L.Link.talk c.args.self.now.link) (g.L.Link.talk c.ask_user.new.self.link)
     c.ask_user.new.self.reply c.ask_conduits.new.self.reply
     c.in_ok-user.ensures.answer c.in_ok-user.ensures.asked.told (λ none. (c.in_ok-user.ensures.asked.does none).said)
     c.in_err-ask_conduits.ensures.answer c.in_err-ask_conduits.ensures.asked.told)
 
 pub returns-clause-stops : goal.returns-clause-stops
 returns-clause-stops g c =
-    let none = no_fault_said (g.L.Link.fault c.ask_user.new.self.link) (user_by c.args.users.now c.args.add (said_in 0x10 user_of
+    let none = no_fault_said (g.L.Link.fault c.ask_user.new.self.link) (user_by c.args.marks.now c.args.wish.now (said_in 0x10 user_of
     (reply_at 0x10 c.ask_user.new.self.reply))) c.in_ok-user.user c.in_ok-user.ensures.answer in
     stops_then g.L.Link.talk g.L.Link.since g.L.Link.fault g.L.Link.downs g.met.L.Link.since_more (reading_user ∷ []) (text beginning ∷ [])
     c.args.self.now.link c.ask_user.new.self.link c.ask_conduits.new.self.link (c.in_ok-user.ensures.asked.does none) c.in_ok-user.ensures.asked.stops
@@ -61,7 +61,7 @@ returns-clause-stops g c =
 
 pub returns-clause-does : goal.returns-clause-does
 returns-clause-does g c =
-    let none = no_fault_said (g.L.Link.fault c.ask_user.new.self.link) (user_by c.args.users.now c.args.add (said_in 0x10 user_of
+    let none = no_fault_said (g.L.Link.fault c.ask_user.new.self.link) (user_by c.args.marks.now c.args.wish.now (said_in 0x10 user_of
     (reply_at 0x10 c.ask_user.new.self.reply))) c.in_ok-user.user c.in_ok-user.ensures.answer in
     let clear = no_fault_said (g.L.Link.fault c.ask_conduits.new.self.link) (said_in 0x2E no_more
     (reply_at 0x2E c.ask_conduits.new.self.reply)) tt c.in_ok-ask_conduits.ensures.answer in
@@ -70,7 +70,7 @@ returns-clause-does g c =
 
 pub returns-clause-greeted : goal.returns-clause-greeted
 returns-clause-greeted g c =
-    greet_second c.args.users.now c.args.add (g.L.Link.talk c.args.self.now.link) (g.L.Link.talk c.ask_user.new.self.link)
+    greet_second c.args.marks.now c.args.wish.now (g.L.Link.talk c.args.self.now.link) (g.L.Link.talk c.ask_user.new.self.link)
     c.ask_user.new.self.reply c.ask_conduits.new.self.reply
     c.in_ok-user.ensures.answer c.in_ok-user.ensures.asked.told (λ none. (c.in_ok-user.ensures.asked.does none).said)
     c.in_ok-ask_conduits.ensures.answer c.in_ok-ask_conduits.ensures.asked.told
