@@ -5,11 +5,14 @@ that are made here.
 CATEGORY H` and `custom NUMBER H` write names into it, `record ID live|deleted open|private
 CATEGORY H` adds a record. Then `txt`, `vcf`, `csv`, `csv-tasks`, `tasks` or `dates`, with
 `-public` or `-kept` behind it, is the text in that form (calendars are made at
-2001-09-09T01:46:40), and `import H` the text of the memos that are read from a text.
+2001-09-09T01:46:40), and `import H` the text of the memos that are read from a text. `id CATEGORY
+ID` writes an id into the block; `like H` imports a text in the categories of the database, and
+tells the category of each record, and each entry of its block that is new: number, label and id.
 """
 import os
+import struct
 
-from files_call import MADE, Call, bytes_of, pdb, put
+from files_call import MADE, Call, bytes_of, pdb, put, records_of
 
 FORMS = {"txt": "txt", "vcf": "vcf", "csv": "csv", "csv-tasks": "csv",
          "tasks": "ics", "dates": "ics"}
@@ -39,8 +42,13 @@ class Exports:
         elif word == "record":
             bits = int(words[4]) | 0x80 * (words[2] == "deleted") | 0x10 * (words[3] == "private")
             self.records.append((bits, int(words[1]), bytes_of(words[5])))
+        elif word == "id":
+            self.app[258 + int(words[1])] = int(words[2])
+            word = "app"
         elif word == "import":
             return self.imported(bytes_of(words[1]))
+        elif word == "like":
+            return self.liked(bytes_of(words[1]))
         else:
             return self.text_as(word)
         return word
@@ -72,6 +80,34 @@ class Exports:
             return said_of(call)
         put(os.path.join(self.tools.scratch, "MemoDB.pdb"), call.printed)
         return said_of(Call(self.tools, "export", "MemoDB.pdb", "--as=txt"))
+
+
+    def liked(self, text):
+        """Where the memos of a text are filed in the categories of the database, or why not."""
+        kind, creator, attributes = self.front
+        app = None if self.app is None else bytes(self.app)
+        file = pdb(b"MemoDB", kind, creator, attributes, self.records, app)
+        put(os.path.join(self.tools.scratch, "MemoDB.pdb"), file)
+        put(os.path.join(self.tools.scratch, "memos.txt"), text)
+        call = Call(self.tools, "import", "memos.txt", "--as=txt", "--like=MemoDB.pdb")
+        if call.status != 0:
+            return said_of(call)
+        said = [str(bits & 15) for bits, _, _ in records_of(call.printed)]
+        (place,) = struct.unpack_from(">I", call.printed, 52)
+        return " ".join(said + entries_of(app, call.printed[place : place + len(app)]))
+
+
+def entries_of(old, new):
+    """The entries that are new in a block, and `other bytes` where others differ."""
+    made, found = bytearray(old), []
+    for number in range(16):
+        begin = 2 + 16 * number
+        if old[begin : begin + 16] != new[begin : begin + 16]:
+            label = new[begin : begin + 16].rstrip(b"\0").decode()
+            found.append(f"{number}={label}:{new[258 + number]}")
+            made[begin : begin + 16] = new[begin : begin + 16]
+            made[258 + number] = new[258 + number]
+    return found + (["other bytes"] if made != new else [])
 
 
 def said_of(call):

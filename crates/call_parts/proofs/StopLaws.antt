@@ -17,9 +17,9 @@ use Rattle.call_parts.specs.declared.report.SessionEnd.TheVariants.{Ended}
 use Rattle.cmd_status.specs.declared.status.Status.{Status}
 use Rattle.cmd_status.specs.declared.status.Status.TheVariants.{Done, Usage, BadWord, BadScript, TooLong, BadFile, TooMany, HandheldFolder, DesktopFolder, SourceRead}
 use Rattle.cmd_status.specs.declared.status.Status.TheVariants.{TraceWrite, OutWrite, NoMemory, LineDown, Unplugged, Aborted, Undetected, OtherUser}
-use Rattle.cmd_status.specs.declared.status.Status.TheVariants.{TooManyUsers, Limit, NewHandheld, WrongSide, InUse, CannotExport, BadRecord, BadText, Overfull, BadTrace, NotProper, CannotInstall, NotBackupFolder, SameDatabase}
+use Rattle.cmd_status.specs.declared.status.Status.TheVariants.{TooManyUsers, Limit, NewHandheld, WrongSide, InUse, CannotExport, BadRecord, BadText, Overfull, BadTrace, NotProper, BadCategories, CannotInstall, NotBackupFolder, SameDatabase}
 use Rattle.cmd_status.specs.declared.status.Status.TheVariants.{StreamEnded, StreamAborted, BadHello, Refused, BadReply}
-use Rattle.cmd_status.specs.declared.status.Status.TheVariants.{PortFailed, NoHandheld, LineSilent, LineEndless, PeerAborted}
+use Rattle.cmd_status.specs.declared.status.Status.TheVariants.{PortFailed, NoHandheld, LineSilent, LineEndless, PeerAborted, PeerBeganAnew}
 
 -- all that is known of a status and the frames behind it
 pub record Spoken (asked : List (List ℕ)) (status : Status) (report : Report) (answered : ℕ) : Type 0 where
@@ -60,6 +60,7 @@ module _ {asked : List (List ℕ)} {report : Report} {answered : ℕ} where
   tells_stop (Overfull what) it why by = absurd it.ends
   tells_stop (BadTrace line) it why by = absurd it.ends
   tells_stop (NotProper rule) it why by = absurd it.ends
+  tells_stop (BadCategories name) it why by = absurd it.ends
   tells_stop (CannotInstall name) it why by = absurd it.ends
   tells_stop NotBackupFolder it why by = absurd it.ends
   tells_stop (SameDatabase first second) it why by = absurd it.ends
@@ -71,6 +72,7 @@ module _ {asked : List (List ℕ)} {report : Report} {answered : ℕ} where
   tells_stop LineSilent it why by = absurd it.ends
   tells_stop LineEndless it why by = absurd it.ends
   tells_stop PeerAborted it why by = absurd it.ends
+  tells_stop PeerBeganAnew it why by = absurd it.ends
   tells_stop (Refused function code) it why by = absurd it.ends
   tells_stop (BadReply function) it why by = absurd it.ends
   tells_stop (OtherUser handheld desktop) it why by = absurd (none_answered it tt by)

@@ -40,9 +40,9 @@ use Rattle.call_parts.specs.declared.report.SessionEnd.TheVariants.{Ended}
 use Rattle.cmd_status.specs.declared.status.Status.{Status}
 use Rattle.cmd_status.specs.declared.status.Status.TheVariants.{Done, Usage, BadWord, BadScript, TooLong, BadFile, TooMany, HandheldFolder, DesktopFolder, SourceRead}
 use Rattle.cmd_status.specs.declared.status.Status.TheVariants.{TraceWrite, OutWrite, NoMemory, LineDown, Unplugged, Aborted, Undetected, OtherUser}
-use Rattle.cmd_status.specs.declared.status.Status.TheVariants.{TooManyUsers, Limit, NewHandheld, WrongSide, InUse, CannotExport, BadRecord, BadText, Overfull, BadTrace, NotProper, CannotInstall, NotBackupFolder, SameDatabase}
+use Rattle.cmd_status.specs.declared.status.Status.TheVariants.{TooManyUsers, Limit, NewHandheld, WrongSide, InUse, CannotExport, BadRecord, BadText, Overfull, BadTrace, NotProper, BadCategories, CannotInstall, NotBackupFolder, SameDatabase}
 use Rattle.cmd_status.specs.declared.status.Status.TheVariants.{StreamEnded, StreamAborted, BadHello, Refused, BadReply}
-use Rattle.cmd_status.specs.declared.status.Status.TheVariants.{PortFailed, NoHandheld, LineSilent, LineEndless, PeerAborted}
+use Rattle.cmd_status.specs.declared.status.Status.TheVariants.{PortFailed, NoHandheld, LineSilent, LineEndless, PeerAborted, PeerBeganAnew}
 
 -- ---- the frames tell one story
 
@@ -194,6 +194,7 @@ module _ {asked : List (List ℕ)} where
   whole_over (Overfull what) some over short whole = absurd over.ends
   whole_over (BadTrace line) some over short whole = absurd over.ends
   whole_over (NotProper rule) some over short whole = absurd over.ends
+  whole_over (BadCategories name) some over short whole = absurd over.ends
   whole_over (CannotInstall name) some over short whole = absurd over.ends
   whole_over NotBackupFolder some over short whole = absurd over.ends
   whole_over (SameDatabase first second) some over short whole = absurd over.ends
@@ -205,6 +206,7 @@ module _ {asked : List (List ℕ)} where
   whole_over LineSilent some over short whole = absurd over.ends
   whole_over LineEndless some over short whole = absurd over.ends
   whole_over PeerAborted some over short whole = absurd over.ends
+  whole_over PeerBeganAnew some over short whole = absurd over.ends
   whole_over (Refused function code) some over short whole = absurd over.ends
   whole_over (BadReply function) some over short whole = absurd over.ends
   whole_over (OtherUser handheld desktop) some over short whole = absurd (stopped_short whole (short tt))

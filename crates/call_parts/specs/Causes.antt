@@ -11,9 +11,9 @@ use Rattle.call_parts.specs.declared.report.SessionEnd.TheVariants.{NotStarted, 
 use Rattle.cmd_status.specs.declared.status.Status.{Status}
 use Rattle.cmd_status.specs.declared.status.Status.TheVariants.{Done, Usage, BadWord, BadScript, TooLong, BadFile, TooMany, HandheldFolder, DesktopFolder, SourceRead}
 use Rattle.cmd_status.specs.declared.status.Status.TheVariants.{TraceWrite, OutWrite, NoMemory, LineDown, Unplugged, Aborted, Undetected, OtherUser}
-use Rattle.cmd_status.specs.declared.status.Status.TheVariants.{TooManyUsers, Limit, NewHandheld, WrongSide, InUse, CannotExport, BadRecord, BadText, Overfull, BadTrace, NotProper, CannotInstall, NotBackupFolder, SameDatabase}
+use Rattle.cmd_status.specs.declared.status.Status.TheVariants.{TooManyUsers, Limit, NewHandheld, WrongSide, InUse, CannotExport, BadRecord, BadText, Overfull, BadTrace, NotProper, BadCategories, CannotInstall, NotBackupFolder, SameDatabase}
 use Rattle.cmd_status.specs.declared.status.Status.TheVariants.{StreamEnded, StreamAborted, BadHello, Refused, BadReply}
-use Rattle.cmd_status.specs.declared.status.Status.TheVariants.{PortFailed, NoHandheld, LineSilent, LineEndless, PeerAborted}
+use Rattle.cmd_status.specs.declared.status.Status.TheVariants.{PortFailed, NoHandheld, LineSilent, LineEndless, PeerAborted, PeerBeganAnew}
 
 -- ---- the status of a session
 
@@ -75,6 +75,7 @@ EndsAs (BadText _) end = ⊥
 EndsAs (Overfull _) end = ⊥
 EndsAs (BadTrace _) end = ⊥
 EndsAs (NotProper _) end = ⊥
+EndsAs (BadCategories _) end = ⊥
 EndsAs (CannotInstall _) end = ⊥
 EndsAs NotBackupFolder end = ⊥
 EndsAs (SameDatabase _ _) end = ⊥
@@ -86,6 +87,7 @@ EndsAs NoHandheld end = ⊥
 EndsAs LineSilent end = ⊥
 EndsAs LineEndless end = ⊥
 EndsAs PeerAborted end = ⊥
+EndsAs PeerBeganAnew end = ⊥
 EndsAs (Refused _ _) end = ⊥
 EndsAs (BadReply _) end = ⊥
 EndsAs other end = end ≡ Stopped

@@ -3,6 +3,9 @@ pub mod ByIdLaws
 pub mod ByLabelLaws
 pub mod FoundLaws
 pub mod JoinedLaws
+pub mod LikeBlockLaws
+pub mod LikeLaws
+pub mod LikeNumberLaws
 pub mod MergedLaws
 pub mod OwnedLaws
 pub mod PlaceLaws

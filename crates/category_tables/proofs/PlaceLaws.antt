@@ -17,7 +17,7 @@ position_or_len-map : {X Y : Type 0} (f : X → Y) (p : Y → Bool) (xs : List X
 position_or_len-map f p [] = refl
 position_or_len-map f p (x ∷ xs) = grind (arith, position_or_len-map f p xs)
 
-position-map : {X Y : Type 0} (f : X → Y) (p : Y → Bool) (xs : List X) → position p (map f xs) ≡ position (λ x. p (f x)) xs
+pub position-map : {X Y : Type 0} (f : X → Y) (p : Y → Bool) (xs : List X) → position p (map f xs) ≡ position (λ x. p (f x)) xs
 position-map f p xs = simp (position_or_len-map f p xs, length-map) refl
 
 number_where-map : (p : CategoryValue → Bool) (entries : List Entry) → number_where p (map entry_value entries)

@@ -1,3 +1,4 @@
+pub mod Likes
 pub mod Makings
 pub mod Merges
 pub mod Owned

@@ -1,7 +1,8 @@
-// What holds of merged tables.
-ghost use Rattle.std.specs.Prelude.{◌≡◌, ◌<◌, All, List, Some, take, true, ℕ};
-ghost use Rattle.category_tables.specs.Tables.{AreTables, IsTable, TableValue, UsesNumber, is_used};
-ghost use Rattle.category_tables.specs.Merges.{StaysOwn, goes_to, merged_table, own_place, places_of};
+// What holds of merged tables, and of a database in the categories of another file.
+ghost use Rattle.std.specs.Prelude.{◌≡◌, ◌<◌, All, List, Some, slice_index, take, true, ℕ};
+ghost use Rattle.category_tables.specs.Tables.{AreTables, IsTable, TableValue, UsesNumber, entry_at, is_used};
+ghost use Rattle.category_tables.specs.Likes.{AreKnown, block_like, liking};
+ghost use Rattle.category_tables.specs.Merges.{StaysOwn, goes_to, merged_table, of_label, own_place, places_of};
 ghost use Rattle.category_tables.specs.Texts.{AreFilled, HasText, HoldsTable, table_in, table_text};
 ghost use Rattle.category_tables.specs.Swaps.{AreSwapped, swapped};
 
@@ -54,4 +55,17 @@ pub fn a_table_is_read_again()
 pub fn a_table_is_written_again()
     ensures { (bytes : List ℕ) → All (λ byte. byte < 256) bytes → HoldsTable bytes → AreFilled bytes
         → take 275 (table_text (table_in bytes)) ≡ take 275 bytes }
+{}
+
+/// A label that the other table has goes to the least number that has it there.
+pub fn labels_keep_their_numbers()
+    ensures { (other made : TableValue) (number place : ℕ) → IsTable other → UsesNumber made number
+        → of_label other.entries (entry_at made.entries number).label ≡ Some place
+        → slice_index (liking other made).places number ≡ place }
+{}
+
+/// Where no label is new in the table of another file, its block stays as it is, byte for byte.
+pub fn a_block_without_new_labels_stays()
+    ensures { (made : TableValue) (block : List ℕ) → HoldsTable block → AreKnown (table_in block) made
+        → block_like (table_in block).entries (liking (table_in block) made).entries block ≡ block }
 {}

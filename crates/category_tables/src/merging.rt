@@ -69,8 +69,8 @@ impl Merging {
         }
     }
 
-    // A number goes to the least entry with its label, or fills an unused one.
-    fn place_label(&mut self, entry: &Entry, number: usize)
+    /// A number goes to the least entry with its label, or fills an unused one.
+    pub fn place_label(&mut self, entry: &Entry, number: usize)
         requires few { number < 16 }
         ensures { merging_value self.new
             ≡ with_entry (entry_value entry.now) number (merging_value self.old) }

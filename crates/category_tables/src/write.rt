@@ -31,8 +31,8 @@ fn push_labels(entries: &[Entry], out: &mut Vec<u8>) -> Result<(), AllocError>
     Ok(())
 }
 
-// Appends a label, filled with zero bytes.
-fn push_label(entry: &Entry, out: &mut Vec<u8>) -> Result<(), AllocError>
+/// Appends a label, filled with zero bytes.
+pub fn push_label(entry: &Entry, out: &mut Vec<u8>) -> Result<(), AllocError>
     ensures { OnOk result (out.new.items ≡ out.old.items ++ label_text (entry_value entry.now)) }
 {
     let label = until_zero(&entry.label);

@@ -3,9 +3,9 @@ use Rattle.std.specs.Prelude.{ℕ}
 use Rattle.cmd_status.specs.declared.status.Status.{Status}
 use Rattle.cmd_status.specs.declared.status.Status.TheVariants.{Done, Usage, BadWord, BadScript, TooLong, BadFile, TooMany, HandheldFolder, DesktopFolder, SourceRead}
 use Rattle.cmd_status.specs.declared.status.Status.TheVariants.{TraceWrite, OutWrite, NoMemory, LineDown, Unplugged, Aborted, Undetected, OtherUser}
-use Rattle.cmd_status.specs.declared.status.Status.TheVariants.{TooManyUsers, Limit, NewHandheld, WrongSide, InUse, CannotExport, BadRecord, BadText, Overfull, BadTrace, NotProper, CannotInstall, NotBackupFolder, SameDatabase}
+use Rattle.cmd_status.specs.declared.status.Status.TheVariants.{TooManyUsers, Limit, NewHandheld, WrongSide, InUse, CannotExport, BadRecord, BadText, Overfull, BadTrace, NotProper, BadCategories, CannotInstall, NotBackupFolder, SameDatabase}
 use Rattle.cmd_status.specs.declared.status.Status.TheVariants.{StreamEnded, StreamAborted, BadHello, Refused, BadReply}
-use Rattle.cmd_status.specs.declared.status.Status.TheVariants.{PortFailed, NoHandheld, LineSilent, LineEndless, PeerAborted}
+use Rattle.cmd_status.specs.declared.status.Status.TheVariants.{PortFailed, NoHandheld, LineSilent, LineEndless, PeerAborted, PeerBeganAnew}
 
 -- the exit status for each status of a call
 abbrev pub code_of : Status → ℕ
@@ -21,6 +21,7 @@ code_of (BadText _) = 3
 code_of (Overfull _) = 3
 code_of (BadTrace _) = 3
 code_of (NotProper _) = 1
+code_of (BadCategories _) = 3
 code_of (TooMany _) = 3
 code_of HandheldFolder = 4
 code_of DesktopFolder = 4
@@ -49,5 +50,6 @@ code_of NoHandheld = 6
 code_of LineSilent = 6
 code_of LineEndless = 6
 code_of PeerAborted = 6
+code_of PeerBeganAnew = 6
 code_of (Refused _ _) = 6
 code_of (BadReply _) = 6

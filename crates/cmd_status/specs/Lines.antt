@@ -19,9 +19,9 @@ use Rattle.cmd_status.specs.declared.status.Surplus.TheVariants as surplus
 use Rattle.cmd_status.specs.declared.status.Status.{Status}
 use Rattle.cmd_status.specs.declared.status.Status.TheVariants.{Done, Usage, BadWord, BadScript, TooLong, BadFile, TooMany, HandheldFolder, DesktopFolder, SourceRead}
 use Rattle.cmd_status.specs.declared.status.Status.TheVariants.{TraceWrite, OutWrite, NoMemory, LineDown, Unplugged, Aborted, Undetected, OtherUser}
-use Rattle.cmd_status.specs.declared.status.Status.TheVariants.{TooManyUsers, Limit, NewHandheld, WrongSide, InUse, CannotExport, BadRecord, BadText, Overfull, BadTrace, NotProper, CannotInstall, NotBackupFolder, SameDatabase}
+use Rattle.cmd_status.specs.declared.status.Status.TheVariants.{TooManyUsers, Limit, NewHandheld, WrongSide, InUse, CannotExport, BadRecord, BadText, Overfull, BadTrace, NotProper, BadCategories, CannotInstall, NotBackupFolder, SameDatabase}
 use Rattle.cmd_status.specs.declared.status.Status.TheVariants.{StreamEnded, StreamAborted, BadHello, Refused, BadReply}
-use Rattle.cmd_status.specs.declared.status.Status.TheVariants.{PortFailed, NoHandheld, LineSilent, LineEndless, PeerAborted}
+use Rattle.cmd_status.specs.declared.status.Status.TheVariants.{PortFailed, NoHandheld, LineSilent, LineEndless, PeerAborted, PeerBeganAnew}
 use Rattle.trace_check.specs.declared.rule.Rule.{Rule}
 use Rattle.trace_check.specs.declared.rule.Rule.TheVariants as rule
 use Rattle.trace_text.specs.declared.frame.End.{End}
@@ -183,6 +183,7 @@ refusal_line (OtherUser handheld desktop) = users_line handheld desktop
 refusal_line TooManyUsers = codes "too many users" ++ line_feed
 refusal_line (Limit name) = word_line (codes "limit ") (stem_of name)
 refusal_line (NewHandheld name) = word_line (codes "new handheld ") (stem_of name)
+refusal_line (BadCategories name) = word_line (codes "bad categories ") (stem_of name)
 refusal_line (CannotInstall name) = word_line (codes "cannot install ") (stem_of name)
 refusal_line NotBackupFolder = codes "not a backup folder" ++ line_feed
 refusal_line (SameDatabase first second) =
@@ -195,5 +196,6 @@ refusal_line NoHandheld = codes "no handheld" ++ line_feed
 refusal_line LineSilent = codes "line silent" ++ line_feed
 refusal_line LineEndless = codes "line endless" ++ line_feed
 refusal_line PeerAborted = codes "handheld aborted" ++ line_feed
+refusal_line PeerBeganAnew = codes "handheld began anew" ++ line_feed
 refusal_line (Refused function code) = refused_line function code.0
 refusal_line (BadReply function) = bad_reply_line function

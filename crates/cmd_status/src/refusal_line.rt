@@ -55,6 +55,7 @@ pub(crate) fn refusal_line(alloc: Global, refusal: &Status) -> Result<String, Al
         Status::TooManyUsers => String::from_str(alloc, "too many users\n"),
         Status::Limit(name) => limit_line(alloc, name),
         Status::NewHandheld(name) => new_handheld_line(alloc, name),
+        Status::BadCategories(name) => bad_categories_line(alloc, name),
         Status::CannotInstall(name) => cannot_install_line(alloc, name),
         Status::NotBackupFolder => String::from_str(alloc, "not a backup folder\n"),
         Status::SameDatabase { first, second } => same_line(alloc, first.as_str(), second.as_str()),
@@ -66,6 +67,7 @@ pub(crate) fn refusal_line(alloc: Global, refusal: &Status) -> Result<String, Al
         Status::LineSilent => String::from_str(alloc, "line silent\n"),
         Status::LineEndless => String::from_str(alloc, "line endless\n"),
         Status::PeerAborted => String::from_str(alloc, "handheld aborted\n"),
+        Status::PeerBeganAnew => String::from_str(alloc, "handheld began anew\n"),
         Status::Refused { function, code } => refused_line(alloc, *function, *code),
         Status::BadReply(function) => bad_reply_line(alloc, *function),
     }
@@ -228,6 +230,15 @@ fn new_handheld_line(alloc: Global, name: &DbName) -> Result<String, AllocError>
 {
     let stem = name.file_stem(alloc)?;
     word_line(alloc, "new handheld ", stem.as_str())
+}
+
+// The line of a database whose app block is not one of categories.
+fn bad_categories_line(alloc: Global, name: &DbName) -> Result<String, AllocError>
+    ensures { IfOk result (λ line. string_bytes line
+        ≡ line_of_refusal (Status.BadCategories name.now)) }
+{
+    let stem = name.file_stem(alloc)?;
+    word_line(alloc, "bad categories ", stem.as_str())
 }
 
 // The line of a read-only database that was to be installed.

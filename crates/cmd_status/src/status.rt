@@ -69,6 +69,8 @@ pub enum Status {
     BadText(u64),
     /// The source has more of these than a database holds.
     Overfull(Surplus),
+    /// The app block of the database of this name is not one of categories.
+    BadCategories(DbName),
     /// The first line of the source, from 1 on, that is none of a trace.
     BadTrace(u32),
     /// The trace breaks this rule, and keeps those before it.
@@ -133,6 +135,8 @@ pub enum Status {
     LineEndless,
     /// The handheld behind the port ended the connection.
     PeerAborted,
+    /// The handheld behind the port greeted once more while a reply was awaited.
+    PeerBeganAnew,
     /// The handheld refused a request of this function with this error.
     Refused {
         function: u8,
@@ -241,6 +245,7 @@ impl Status {
             | Status::BadRecord { .. }
             | Status::BadText(_)
             | Status::Overfull(_)
+            | Status::BadCategories(_)
             | Status::BadTrace(_)
             | Status::TooMany(_) => 3,
             Status::HandheldFolder
@@ -262,6 +267,7 @@ impl Status {
             | Status::LineSilent
             | Status::LineEndless
             | Status::PeerAborted
+            | Status::PeerBeganAnew
             | Status::Refused { .. }
             | Status::BadReply(_) => 6,
             Status::OtherUser { .. }

@@ -1,5 +1,6 @@
 pub mod HelpLaws
 pub mod ExportLaws
 pub mod InstallLaws
+pub mod LikingLaws
 pub mod LookLaws
 pub mod MisuseLaws

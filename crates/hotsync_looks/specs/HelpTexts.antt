@@ -7,7 +7,7 @@ use Rattle.run_words.specs.declared.topic.Topic.{Topic}
 use Rattle.run_words.specs.declared.topic.Topic.TheVariants.{Program, Version, Of}
 use Rattle.cmd_status.specs.Lines.{line_feed}
 use Rattle.hotsync_looks.specs.declared.help_text.OptionLine.{OptionLine}
-use Rattle.hotsync_looks.specs.declared.help_text.OptionLine.TheVariants.{Date, DateNow, Script, Trace, Input, Output, Port, Slow, Actions, ActionsBoth, Only, AddUser, DryRun, AsText, AsCards, AsTable, AsCalendar, WithoutPrivate, KeepBroken, Records}
+use Rattle.hotsync_looks.specs.declared.help_text.OptionLine.TheVariants.{Date, DateNow, Script, Trace, Input, Output, Port, Slow, Actions, ActionsBoth, Only, User, AddUser, DryRun, AsText, AsCards, AsTable, AsCalendar, WithoutPrivate, KeepBroken, Records, Like}
 
 -- the commands, in the order in which help tells them
 abbrev pub commands : List CommandWord
@@ -19,12 +19,12 @@ commands =
 abbrev pub synopsis : CommandWord → List ℕ
 synopsis Run =
     codes "hotsync run HANDHELD DESKTOP --date=D [--script=F] [--trace=F] [--only=L] [--slow] "
-    ++ codes "[--actions=L] [--add-user] [--dry-run]"
+    ++ codes "[--actions=L] [--user=NAME] [--add-user] [--dry-run]"
 synopsis Check = codes "hotsync check FILE"
 synopsis Show = codes "hotsync show FILE [--records]"
 synopsis Export =
     codes "hotsync export FILE --as=FORM [--date=D] [--without-private] [--keep-broken]"
-synopsis Import = codes "hotsync import FILE --as=txt"
+synopsis Import = codes "hotsync import FILE --as=txt [--like=FILE]"
 synopsis Verify = codes "hotsync verify FILE"
 synopsis Picture = codes "hotsync picture FILE"
 synopsis Packet = codes "hotsync packet HEX"
@@ -36,17 +36,18 @@ synopsis Device =
 synopsis Categories = codes "hotsync categories HANDHELD DESKTOP [--script=F] [--trace=F]"
 synopsis Sync =
     codes "hotsync sync PORT DESKTOP --date=D [--only=L] [--trace=F] [--slow] [--actions=L] "
-    ++ codes "[--add-user]"
+    ++ codes "[--user=NAME] [--add-user]"
 synopsis Make = codes "hotsync make SEED N"
 
 -- the options of a command
 abbrev pub options : CommandWord → List OptionLine
 options Run =
-    Date ∷ DateNow ∷ Script ∷ Trace ∷ Only ∷ Slow ∷ Actions ∷ ActionsBoth ∷ AddUser ∷ DryRun ∷ []
+    Date ∷ DateNow ∷ Script ∷ Trace ∷ Only ∷ Slow ∷ Actions ∷ ActionsBoth ∷ User
+    ∷ AddUser ∷ DryRun ∷ []
 options Check = []
 options Show = Records ∷ []
 options Export = AsText ∷ AsCards ∷ AsTable ∷ AsCalendar ∷ WithoutPrivate ∷ KeepBroken ∷ []
-options Import = AsText ∷ []
+options Import = AsText ∷ Like ∷ []
 options Verify = []
 options Picture = []
 options Packet = []
@@ -55,7 +56,7 @@ options Backup = Script ∷ Trace ∷ []
 options Restore = Script ∷ Trace ∷ []
 options Device = Input ∷ Output ∷ Port ∷ Trace ∷ []
 options Categories = Script ∷ Trace ∷ []
-options Sync = Date ∷ DateNow ∷ Only ∷ Trace ∷ Slow ∷ Actions ∷ ActionsBoth ∷ AddUser ∷ []
+options Sync = Date ∷ DateNow ∷ Only ∷ Trace ∷ Slow ∷ Actions ∷ ActionsBoth ∷ User ∷ AddUser ∷ []
 options Make = []
 
 -- what is said of an option
@@ -72,6 +73,7 @@ option_words Actions = codes "--actions=L        what is done with single databa
 option_words ActionsBoth =
     codes "--actions=*:both   keeps what is live on either side, as if they had never met"
 option_words Only = codes "--only=L           the databases that are touched"
+option_words User = codes "--user=NAME        the name of the handheld's user"
 option_words AddUser =
     codes "--add-user         where the handheld's user is unknown to the desktop, a place of its "
     ++ codes "own is made"
@@ -85,6 +87,7 @@ option_words WithoutPrivate = codes "--without-private  without the records that
 option_words KeepBroken =
     codes "--keep-broken      a record that is out of its form stands in the text with its bytes"
 option_words Records = codes "--records          the bytes of each entry as text, behind its line"
+option_words Like = codes "--like=FILE        the categories of the database in FILE"
 
 -- a line behind two spaces
 abbrev pub indented : List ℕ → List ℕ

@@ -3,6 +3,8 @@ pub mod ExportTexts
 pub mod HelpTexts
 pub mod Helped
 pub mod InstallFiles
+pub mod LikingSystems
+pub mod Likings
 pub mod LookTexts
 pub mod Looks
 pub mod Misuses

@@ -53,6 +53,8 @@ pub enum OptionLine {
     ActionsBoth,
     /// `--only=L`.
     Only,
+    /// `--user=NAME`.
+    User,
     /// `--add-user`.
     AddUser,
     /// `--dry-run`.
@@ -71,6 +73,8 @@ pub enum OptionLine {
     KeepBroken,
     /// `--records`.
     Records,
+    /// `--like=FILE`.
+    Like,
 }
 
 // How a command is called.
@@ -79,14 +83,14 @@ fn synopsis(command: CommandWord) -> &'static str
 {
     match command {
         CommandWord::Run => {
-            "hotsync run HANDHELD DESKTOP --date=D [--script=F] [--trace=F] [--only=L] [--slow] [--actions=L] [--add-user] [--dry-run]"
+            "hotsync run HANDHELD DESKTOP --date=D [--script=F] [--trace=F] [--only=L] [--slow] [--actions=L] [--user=NAME] [--add-user] [--dry-run]"
         }
         CommandWord::Check => "hotsync check FILE",
         CommandWord::Show => "hotsync show FILE [--records]",
         CommandWord::Export => {
             "hotsync export FILE --as=FORM [--date=D] [--without-private] [--keep-broken]"
         }
-        CommandWord::Import => "hotsync import FILE --as=txt",
+        CommandWord::Import => "hotsync import FILE --as=txt [--like=FILE]",
         CommandWord::Verify => "hotsync verify FILE",
         CommandWord::Picture => "hotsync picture FILE",
         CommandWord::Packet => "hotsync packet HEX",
@@ -98,7 +102,7 @@ fn synopsis(command: CommandWord) -> &'static str
         }
         CommandWord::Categories => "hotsync categories HANDHELD DESKTOP [--script=F] [--trace=F]",
         CommandWord::Sync => {
-            "hotsync sync PORT DESKTOP --date=D [--only=L] [--trace=F] [--slow] [--actions=L] [--add-user]"
+            "hotsync sync PORT DESKTOP --date=D [--only=L] [--trace=F] [--slow] [--actions=L] [--user=NAME] [--add-user]"
         }
         CommandWord::Make => "hotsync make SEED N",
     }
@@ -118,6 +122,7 @@ fn options(command: CommandWord) -> &'static [OptionLine]
             OptionLine::Slow,
             OptionLine::Actions,
             OptionLine::ActionsBoth,
+            OptionLine::User,
             OptionLine::AddUser,
             OptionLine::DryRun,
         ],
@@ -131,7 +136,7 @@ fn options(command: CommandWord) -> &'static [OptionLine]
             OptionLine::WithoutPrivate,
             OptionLine::KeepBroken,
         ],
-        CommandWord::Import => &[OptionLine::AsText],
+        CommandWord::Import => &[OptionLine::AsText, OptionLine::Like],
         CommandWord::Verify => &[],
         CommandWord::Picture => &[],
         CommandWord::Packet => &[],
@@ -153,6 +158,7 @@ fn options(command: CommandWord) -> &'static [OptionLine]
             OptionLine::Slow,
             OptionLine::Actions,
             OptionLine::ActionsBoth,
+            OptionLine::User,
             OptionLine::AddUser,
         ],
         CommandWord::Make => &[],
@@ -177,6 +183,7 @@ fn option_words(option: OptionLine) -> &'static str
             "--actions=*:both   keeps what is live on either side, as if they had never met"
         }
         OptionLine::Only => "--only=L           the databases that are touched",
+        OptionLine::User => "--user=NAME        the name of the handheld's user",
         OptionLine::AddUser => {
             "--add-user         where the handheld's user is unknown to the desktop, a place of its own is made"
         }
@@ -193,6 +200,7 @@ fn option_words(option: OptionLine) -> &'static str
         OptionLine::Records => {
             "--records          the bytes of each entry as text, behind its line"
         }
+        OptionLine::Like => "--like=FILE        the categories of the database in FILE",
     }
 }
 

@@ -1,0 +1,22 @@
+-- One label behind the other.
+use Rattle.std.proofs.Common.{append_assoc, append-nil, arith, ◌≡◌, ◌∙◌, ◌++◌, List, map, ap, sym, ℕ}
+use Rattle.category_tables.specs.Likes.{label_like, labels_like}
+use Rattle.category_tables.specs.Tables.{CategoryValue, entry_value, table_value}
+use Rattle.category_tables.proofs.LikeBlockLaws.{labels-more}
+use Rattle.category_tables.proofs.like_block.push_labels_like.Goals as goal
+
+pub loop-number-init : goal.loop-number-init
+unfolding labels_like
+loop-number-init c = sym (append-nil c.args.out.now.items)
+
+pub loop-number-preserved : goal.loop-number-preserved
+loop-number-preserved c =
+    let other : List CategoryValue = (table_value c.args.other.now).entries in
+    let entries : List CategoryValue = map entry_value c.args.entries.now in
+    c.in_ok-push_label_like.ensures
+    ∙ ap (λ (l : List ℕ). l ++ label_like other entries c.args.block.now c.loop-number.number) c.loop-number.invariant
+    ∙ append_assoc c.args.out.now.items (labels_like other entries c.args.block.now c.loop-number.number) (label_like other entries c.args.block.now c.loop-number.number)
+    ∙ ap (λ (l : List ℕ). c.args.out.now.items ++ l) (sym (labels-more other entries c.args.block.now c.loop-number.number))
+
+pub returns : goal.returns
+returns c = let last : c.loop-number.number ≡ 16 = omega arith in rw last at c.loop-number.invariant
