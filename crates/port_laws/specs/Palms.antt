@@ -4,6 +4,8 @@
 -- request's transaction until it is acknowledged; it answers as its device's table says, and
 -- changes by nothing but requests. It may break down at any request, which it leaves undone.
 use Rattle.std.specs.Prelude.{◌≡◌, ◌≤◌, ℕ, Bool, true, false, ◌&&◌, not, nat_eq, is_none, List, [], ◌∷◌, ◌++◌, length, Option, Some, None}
+use Rattle.palm_device.specs.Bounds.{IsBounded}
+use Rattle.palm_device.specs.Soundness.{IsDevice}
 use Rattle.port_laws.specs.Cables.{packets_of}
 use Rattle.device_stream.specs.Hands.{Hand, waited_by, with_end}
 use Rattle.device_stream.specs.Talks.{Takes}
@@ -133,7 +135,11 @@ is_woken hand =
 abbrev pub is_first : Palm → Bool
 is_first palm = is_woken palm.hand && is_nil palm.toward && is_nil palm.back && is_nil palm.part
 
--- a palm that is told is a first one
+-- its device is sound, and keeps the bounds of its types, as ours does
+abbrev pub IsOurs : Hand → Type 0
+IsOurs hand = IsDevice hand.device × IsBounded hand.device
+
+-- a palm that is told is a first one, and ours
 abbrev pub IsFirstTold : Option Palm → Type 0
 IsFirstTold None = Unit {0}
-IsFirstTold (Some palm) = is_first palm ≡ true
+IsFirstTold (Some palm) = (is_first palm ≡ true) × IsOurs palm.hand

@@ -3,6 +3,8 @@ ghost use Rattle.std.specs.Prelude.{◌≡◌, ◌≤◌, ◌↔◌, ◌++◌, �
 ghost use Rattle.std.specs.Option.{option_map};
 ghost use Rattle.device_stream.specs.Hands.{woken};
 ghost use Rattle.handheld_files.specs.Openings.{Stands};
+ghost use Rattle.palm_device.specs.Bounds.{IsBounded};
+ghost use Rattle.palm_device.specs.Soundness.{IsDevice};
 ghost use Rattle.line_world.specs.Logs.{texts};
 ghost use Rattle.hs_folders.specs.Causes.{HasCause};
 ghost use Rattle.port_line.specs.Cradles.{palm_before};
@@ -37,14 +39,15 @@ pub struct PalmPort<F: Folder> {
 
 impl<F: Folder> Model for PalmPort<F> {
     ghost use Rattle.std.specs.Prelude.{◌≡◌, true, false};
-    ghost use Rattle.port_laws.specs.Palms.{is_first};
+    ghost use Rattle.std.specs.Prelude.{Some};
+    ghost use Rattle.port_laws.specs.Palms.{IsFirstTold};
     ghost use Rattle.port_line.specs.Cradles.{PalmPortValue, palm_of};
 
     ghost Value = { PalmPortValue F };
 
     ghost view = { λ port. record { cradle = port.cradle; faults = port.faults } };
 
-    ghost invariant = { λ port. port.is_open ≡ false → is_first (palm_of port.cradle) ≡ true };
+    ghost invariant = { λ port. port.is_open ≡ false → IsFirstTold (Some (palm_of port.cradle)) };
 }
 
 impl<F: Folder> PalmPort<F> {
@@ -53,6 +56,8 @@ impl<F: Folder> PalmPort<F> {
     pub fn new(alloc: Global, server: Server<F>, losses: Losses) -> Result<Self, Server<F>>
         requires sound { server.sound ≡ true }
         requires stands { Stands (F.contents server.folder) server.device.databases server.device.user }
+        requires device { IsDevice server.device }
+        requires bounded { IsBounded server.device }
         ensures palm { IfOk result (λ port. ⟦<Self as Port>⟧.palm port
             ≡ Some (palm_before (woken server.device))) }
         ensures up { IfOk result (λ port. port.cradle.handheld.is_down ≡ false) }

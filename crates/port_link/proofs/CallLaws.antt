@@ -1,5 +1,5 @@
 -- The calls of a link.
-use Rattle.std.proofs.Common.{◌≡◌, ℕ, List, [], ◌∷◌, ◌++◌, refl, sym, subst, inl, inr, true}
+use Rattle.std.proofs.Common.{◌≡◌, ℕ, List, [], ◌∷◌, ◌++◌, refl, sym, subst, ◌∙◌, inl, inr, true}
 use Rattle.std.specs.Prelude.{Option, Some, None, Result}
 use Rattle.std.specs.Result.{result_err}
 use Rattle.hs_folders.specs.Causes.{HasCause}
@@ -12,6 +12,8 @@ use Rattle.port_link.specs.declared.port_cause.PortCause.TheVariants.{PortFailed
 use Rattle.port_link.specs.declared.turn.Turn.{Turn}
 use Rattle.port_link.specs.Calls.{Asks, Bears, Call, Converses, Greets, IsCall, LinkValue, Says, SaysHello, Since, is_quiet}
 use Rattle.port_link.specs.Listening.{Listens}
+use Rattle.port_link.specs.Mended.{heard}
+use Rattle.dlp_commands.specs.DeviceSteps.{first_byte}
 use Rattle.port_link.specs.declared.awaited.Awaited.TheVariants.{Tick}
 use Rattle.port_link.specs.Courses.{Course, Scene}
 use Rattle.port_link.specs.Desks.{Event, Awaits, reacts}
@@ -33,12 +35,15 @@ says-behind awaited first later old mid new answer did (inl says) = inl (says.0,
 says-behind awaited first later old mid new answer did (inr says) = inr (says.0, says.1, course-then did says.2)
 
 -- a request was asked
-pub asks-by : (request reply : List ℕ) (old new : LinkValue) (cause : Option PortCause) → new.cause ≡ cause → new.id ≡ id_behind old.id
-    → new.begun ≡ old.begun → new.paths ≡ old.paths → Converses new.id request reply old.scene new.scene cause
+pub asks-by : (request came reply : List ℕ) (old new : LinkValue) (cause : Option PortCause) → new.cause ≡ cause → new.id ≡ id_behind old.id
+    → new.begun ≡ old.begun → new.paths ≡ old.paths → Converses new.id request came old.scene new.scene cause
+    → (cause ≡ None → reply ≡ heard (first_byte request) came)
     → HasCause old.faults new.faults (cause ≡ Some PortFailed) → Asks request reply old new
-asks-by request reply old new cause is id begun paths converses faults =
+asks-by request came reply old new cause is id begun paths converses heard_is faults =
     record {
-      converses = subst (λ (cause : Option PortCause). Converses new.id request reply old.scene new.scene cause) (sym is) converses;
+      came = came;
+      converses = subst (λ (cause : Option PortCause). Converses new.id request came old.scene new.scene cause) (sym is) converses;
+      reply_is = λ fine. heard_is (sym is ∙ fine);
       id = id;
       begun = begun;
       goes_on = record {

@@ -11,7 +11,10 @@ use Rattle.padp_link.specs.Neighbours.{session_id}
 use Rattle.padp_link.specs.Senders.{waiting}
 use Rattle.port_laws.proofs.DeskLaws.{desk_drops, desk_takes}
 use Rattle.port_laws.proofs.StageLaws.{at_stage, desk_greeted, desk_greets, desk_opens, desk_woken, opened}
-use Rattle.port_laws.specs.Palms.{Palm, is_first}
+use Rattle.palm_device.specs.Bounds.{IsBounded}
+use Rattle.palm_device.specs.Devices.{Device}
+use Rattle.palm_device.specs.Soundness.{IsDevice}
+use Rattle.port_laws.specs.Palms.{IsOurs, Palm, is_first}
 use Rattle.port_laws.specs.Talking.{Greeting, Resting, Stage, Stands, Waking, Woken}
 use Rattle.port_line.specs.declared.port_fault.PortFault.{PortFault}
 use Rattle.port_line.specs.declared.port_fault.PortFault.TheVariants.{Failed, NoMemory}
@@ -26,7 +29,8 @@ use Rattle.port_link.specs.Behind.{PalmEnds}
 use Rattle.port_link.specs.Calls.{GoesOnFrom, Greets, Inits, Says, rate_unless}
 use Rattle.port_link.specs.Causes.{cause_of, waking_cause}
 use Rattle.port_link.specs.Courses.{Course, Happens, Scene}
-use Rattle.port_link.specs.Desks.{Awaits, Begins, Came, Event, Reaction, Read, idle_silence, reacts, silence, turn_of, waiting_silence}
+use Rattle.padp_end.specs.Arrivals.{arrival_of}
+use Rattle.port_link.specs.Desks.{Awaits, Begins, Came, Event, Reaction, Read, idle_silence, is_greeting, reacts, silence, turn_of, waiting_silence}
 use Rattle.port_link.specs.Greetings.{init_text}
 use Rattle.port_link.specs.Listening.{EndsWith, Listens}
 use Rattle.port_link.specs.Standing.{IsStill, IsUnsaid}
@@ -114,7 +118,7 @@ event_woken : (was : Hand) (old new : Scene) (event : Event) → Stood (Waking w
 event_woken was old new (Awaits id) stood turn course = cc
 event_woken was old new (Begins id message) stood turn course = cc
 event_woken was old new (Came packet) stood turn course =
-    came_woken was old new stood.palm packet stood.stands stood.told_is (heard-message (end_takes old.desk.end packet).heard turn) course
+    came_woken was old new stood.palm packet stood.stands stood.told_is (heard-message (end_takes old.desk.end packet).heard packet turn) course
 event_woken was old new (Read []) stood turn course = absurd (silence-not_whole old.desk turn)
 event_woken was old new (Read (byte ∷ bytes)) stood turn course = cc
 
@@ -133,6 +137,7 @@ whole_only old new (Ok then.Quiet) none listens = cc
 whole_only old new (Ok then.Spent) none listens = cc
 whole_only old new (Ok then.Silent) none listens = cc
 whole_only old new (Ok then.Aborted) none listens = cc
+whole_only old new (Ok then.Greeted) none listens = cc
 whole_only old new (Err Failed) none listens = cc
 whole_only old new (Err NoMemory) none listens = cc
 
@@ -164,13 +169,6 @@ pub record Greeted (was : Hand) (end : EndValue) (held : List ℕ) (told : Optio
   pub stood : Stood (Resting was) end held told
   pub quiet : waiting end.sender ≡ None
 
-heard-delivered : (hears : Heard) → then.Delivered ≡ turn_of hears → hears ≡ heard.Delivered
-heard-delivered heard.Nothing e = cc
-heard-delivered heard.Tickle e = cc
-heard-delivered heard.Delivered e = refl
-heard-delivered heard.Message e = cc
-heard-delivered heard.Stop e = cc
-
 no-turn : (b : Bool) (x y : Turn) → (then.Delivered ≡ x → ⊥) → (then.Delivered ≡ y → ⊥) → then.Delivered ≡ (if b then x else y) → ⊥
 no-turn true x y not_x not_y e = not_x e
 no-turn false x y not_x not_y e = not_y e
@@ -178,6 +176,14 @@ no-turn false x y not_x not_y e = not_y e
 no-reaction : (b : Bool) (x y : Reaction) → (then.Delivered ≡ x.turn → ⊥) → (then.Delivered ≡ y.turn → ⊥) → then.Delivered ≡ (if b then x else y).turn → ⊥
 no-reaction true x y not_x not_y e = not_x e
 no-reaction false x y not_x not_y e = not_y e
+
+heard-delivered : (hears : Heard) (packet : PacketValue) → then.Delivered ≡ turn_of hears packet → hears ≡ heard.Delivered
+heard-delivered heard.Nothing packet e = absurd (no-turn (is_greeting (arrival_of packet)) then.Greeted then.GoesOn
+    (λ (e : then.Delivered ≡ then.Greeted). cc) (λ (e : then.Delivered ≡ then.GoesOn). cc) e)
+heard-delivered heard.Tickle packet e = cc
+heard-delivered heard.Delivered packet e = refl
+heard-delivered heard.Message packet e = cc
+heard-delivered heard.Stop packet e = cc
 
 silence-not_delivered : (desk : Desk) → then.Delivered ≡ (silence desk).turn → ⊥
 silence-not_delivered desk e =
@@ -206,7 +212,7 @@ event_greeted : (was : Hand) (old new : Scene) (event : Event) → Stood (Greeti
 event_greeted was old new (Awaits id) stood turn course = cc
 event_greeted was old new (Begins id message) stood turn course = cc
 event_greeted was old new (Came packet) stood turn course =
-    came_greeted was old new stood.palm packet stood.stands stood.told_is (heard-delivered (end_takes old.desk.end packet).heard turn) course
+    came_greeted was old new stood.palm packet stood.stands stood.told_is (heard-delivered (end_takes old.desk.end packet).heard packet turn) course
 event_greeted was old new (Read []) stood turn course = absurd (silence-not_delivered old.desk turn)
 event_greeted was old new (Read (byte ∷ bytes)) stood turn course = cc
 
@@ -225,6 +231,7 @@ listens_greeted was old new (Ok then.Quiet) none stood listens = cc
 listens_greeted was old new (Ok then.Spent) none stood listens = cc
 listens_greeted was old new (Ok then.Silent) none stood listens = cc
 listens_greeted was old new (Ok then.Aborted) none stood listens = cc
+listens_greeted was old new (Ok then.Greeted) none stood listens = cc
 listens_greeted was old new (Err fault) none stood listens = absurd (fault-caused fault none)
 
 -- the transaction of what an end says stays while it listens
@@ -273,15 +280,16 @@ pub record HasMet (was : Palm) (new : Scene) (result : Result ℕ PortCause) : T
   pub met : Met was.hand new.desk.end new.held new.palm
   pub still : None ≡ result_err result → IsStill new.desk.end new.held 255 met.palm
 
-still_of : (was : Palm) (end : EndValue) (held : List ℕ) (told : Option Palm) → is_first was ≡ true → (greeted : Greeted was.hand end held told)
+still_of : (was : Palm) (end : EndValue) (held : List ℕ) (told : Option Palm) → is_first was ≡ true → IsOurs was.hand → (greeted : Greeted was.hand end held told)
     → end.sender.id ≡ 255 → IsStill end held 255 greeted.stood.palm
-still_of was end held told first greeted id_is =
+still_of was end held told first ours greeted id_is =
     let start = opened was first in
     let palm = greeted.stood.palm in
     let at = greeted.stood.stands.at in
     let performed : palm.hand.performed ≡ [] = at.did.performed_is ∙ start.performed in
     let replies : palm.hand.replies ≡ [] = at.did.replies_are ∙ start.replies in
     record {
+      ours = subst (λ (d : Device). IsDevice d × IsBounded d) (sym at.did.device_is) ours;
       stands = at_stage (Resting was.hand) (Resting palm.hand) end held palm greeted.stood.stands (record {
         did = record { device_is = refl; performed_is = refl; replies_are = refl };
         over = at.over;
@@ -297,10 +305,10 @@ rate_given : (cause : Option PortCause) (rate : ℕ) → None ≡ result_err (ra
 rate_given None rate none = refl
 rate_given (Some cause) rate none = cc
 
-inits_met : (was : Palm) (old new : Scene) (rate : ℕ) (answer : Result Turn PortFault) → is_first was ≡ true
+inits_met : (was : Palm) (old new : Scene) (rate : ℕ) (answer : Result Turn PortFault) → is_first was ≡ true → IsOurs was.hand
     → Stood (Woken was.hand) old.desk.end old.held old.palm → Says Delivery (Begins 255 init_text ∷ []) old new answer
     → HasMet was new (rate_unless (cause_of answer) rate)
-inits_met was old new rate answer first stood (inl says) =
+inits_met was old new rate answer first ours stood (inl says) =
     let greeting = inits_stood None was.hand old says.0 stood says.1 in
     let listened = listens_stood (Greeting was.hand) Delivery answer says.0 new greeting says.2 in
     go (cause_of answer) refl greeting listened where
@@ -314,9 +322,9 @@ inits_met was old new rate answer first stood (inl says) =
           let greeted = listens_greeted was.hand says.0 new answer (sym is) greeting says.2 in
           record {
             met = record { palm = greeted.stood.palm; told_is = greeted.stood.told_is; did = greeted.stood.stands.at.did };
-            still = λ none. still_of was new.desk.end new.held new.palm first greeted id_is;
+            still = λ none. still_of was new.desk.end new.held new.palm first ours greeted id_is;
           }
-inits_met was old new rate answer first stood (inr says) =
+inits_met was old new rate answer first ours stood (inr says) =
     let greeting = inits_stood (Some says.0) was.hand old new stood says.2 in
     record {
       met = met_greeting was.hand new.desk.end new.held new.palm greeting;
@@ -341,7 +349,7 @@ greets_met was old new id result unsaid told greets = go (waking_cause greets.an
   woke : (wake : Result ℕ PortCause) → None ≡ waking_cause greets.answer → Inits wake greets.between new result → HasMet was new result
   woke (Err cause) none inits = stays result cause inits.0 inits.1
   woke (Ok rate) none inits =
-      subst (HasMet was new) (sym inits.2) (inits_met was greets.between new rate inits.0 unsaid.first
+      subst (HasMet was new) (sym inits.2) (inits_met was greets.between new rate inits.0 unsaid.first unsaid.ours
       (waits_woken was old greets.between id greets.answer none unsaid told greets.waits) inits.1)
 
   go : (cause : Option PortCause) → waking_cause greets.answer ≡ cause → GoesOnFrom cause greets.between new result → HasMet was new result

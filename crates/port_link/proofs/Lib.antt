@@ -4,6 +4,7 @@ pub mod CallLaws
 pub mod CourseLaws
 pub mod GreetLaws
 pub mod LinkLaws
+pub mod MendedLaws
 pub mod PartLaws
 pub mod RanLaws
 pub mod ReplyLaws

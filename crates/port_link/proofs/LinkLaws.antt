@@ -1,5 +1,5 @@
 -- A link and what it tells of the handheld behind its port, from call to call.
-use Rattle.std.proofs.Common.{◌≡◌, ◌≤◌, ℕ, ◌+◌, Bool, true, false, List, [], ◌∷◌, length, inl, inr, refl, sym, ap, subst, ◌∙◌}
+use Rattle.std.proofs.Common.{◌≡◌, ◌≤◌, ◌<◌, ◌^◌, get_or, ℕ, ◌+◌, Bool, true, false, List, [], ◌∷◌, length, inl, inr, refl, sym, ap, subst, ◌∙◌}
 use Rattle.std.specs.Prelude.{Option, Some, None, Result, Ok, Err, IsSome}
 use Rattle.std.specs.Option.{option_map}
 use Rattle.device_stream.specs.Laws.{DidNothing}
@@ -24,7 +24,10 @@ use Rattle.port_link.specs.Desks.{Awaits, Begins, Came, Event, Read, reacts}
 use Rattle.port_link.specs.Greetings.{id_behind}
 use Rattle.port_link.specs.Listening.{EndsWith}
 use Rattle.port_link.specs.Standing.{IsBegun, IsStanding, IsStill, exchanges_of, talk_at, talk_of}
+use Rattle.port_link.specs.Mended.{heard}
+use Rattle.dlp_commands.specs.DeviceSteps.{first_byte}
 use Rattle.port_link.proofs.GreetLaws.{greets_met}
+use Rattle.port_link.proofs.MendedLaws.{heard_own}
 use Rattle.port_link.proofs.ReplyLaws.{asked_left, says_asked, says_taken, taken_answered}
 use Rattle.port_link.proofs.RoundLaws.{round}
 use Rattle.port_laws.proofs.TakeLaws.{some_of}
@@ -87,7 +90,7 @@ Standing link = IsStanding link.cause link.begun link.scene.desk.end link.scene.
 pub standing_first : (end : EndValue) (held : List ℕ) (told : Option Palm) → IsFirstTold told → end ≡ first_end → held ≡ []
     → IsStanding None false end held 255 told
 standing_first end held None first end_is held_is = tt
-standing_first end held (Some palm) first end_is held_is = record { first = first; end_is = end_is; held_is = held_is; id_is = refl }
+standing_first end held (Some palm) first end_is held_is = record { first = first.0; ours = first.1; end_is = end_is; held_is = held_is; id_is = refl }
 
 standing_none : (cause : Option PortCause) (begun : Bool) (end : EndValue) (held : List ℕ) (id : ℕ) (told : Option Palm) → told ≡ None
     → IsStanding cause begun end held id told
@@ -186,9 +189,9 @@ some_cause : (cause : Option PortCause) → (cause ≡ None → ⊥) → (some :
 some_cause None failed = absurd (failed refl)
 some_cause (Some cause) failed = (cause, refl)
 
-pub asks_told : (request reply : List ℕ) (old new : LinkValue) → length request ≤ 65535 → old.cause ≡ None → old.begun ≡ true → Standing old
+pub asks_told : (request reply : List ℕ) (old new : LinkValue) → length request ≤ 65535 → ((i : ℕ) → get_or request i 0 < 2 ^ 8) → old.cause ≡ None → old.begun ≡ true → Standing old
     → Asks request reply old new → AsksTold request reply old new
-asks_told request reply old new short none begun stands asks = go old.scene.palm refl where
+asks_told request reply old new short bytes none begun stands asks = go old.scene.palm refl where
   says : Says Message (Awaits new.id ∷ Begins new.id request ∷ []) old.scene new.scene asks.converses.answer
   says = asks.converses.says
 
@@ -213,10 +216,12 @@ asks_told request reply old new short none begun stands asks = go old.scene.palm
       let taken = λ (fine : new.cause ≡ None). says_taken was request new.id old.id asks.converses.answer old.scene new.scene short still is asks.id
       (sym fine ∙ asks.converses.cause_is) asks.converses.says in
       let done = λ (fine : new.cause ≡ None). taken_answered was request old.id new.id old.scene.desk.end new.scene.desk.end old.scene.held new.scene.held
-      new.scene.palm still next asked.id_is (taken fine) in
+      new.scene.palm bytes still next asked.id_is (taken fine) in
       record {
         answered = λ fine.
-            let reply_is : (taken fine).reply ≡ reply = some_of (sym (taken fine).whole ∙ asks.converses.reply_is fine) in
+            let came : (taken fine).reply ≡ asks.came = some_of (sym (taken fine).whole ∙ asks.converses.reply_is fine) in
+            let reply_is : (taken fine).reply ≡ reply = sym (heard_own was.hand.device (taken fine).hand.device request (taken fine).reply still.ours.0 still.ours.1
+            (taken fine).step) ∙ ap (heard (first_byte request)) came ∙ sym (asks.reply_is fine) in
             let now : option_map (talk_at None true new.id new.scene.desk.end) new.scene.palm ≡ talk_of new
             = ap (λ (c : Option PortCause). option_map (talk_at c true new.id new.scene.desk.end) new.scene.palm) (sym fine)
             ∙ ap (λ (b : Bool). option_map (talk_at new.cause b new.id new.scene.desk.end) new.scene.palm) (sym begun_is) in

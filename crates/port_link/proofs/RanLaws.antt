@@ -12,7 +12,7 @@ use Rattle.device_stream.specs.Laws.{DidNothing, DidOnce, DidOne}
 use Rattle.padp_end.specs.Ends.{EndValue, first_end}
 use Rattle.padp_link.specs.Neighbours.{session_id}
 use Rattle.palm_device.specs.Devices.{Device}
-use Rattle.port_laws.specs.Palms.{IsFirstTold, Palm, is_first}
+use Rattle.port_laws.specs.Palms.{IsFirstTold, IsOurs, Palm, is_first}
 use Rattle.port_laws.specs.Talking.{IsBefore, IsBehind, Resting, Stage, side}
 use Rattle.port_link.specs.declared.awaited.Awaited.TheVariants.{Tick}
 use Rattle.port_link.specs.declared.desk.Desk.{Desk}
@@ -145,7 +145,7 @@ answered-ran from request old new none fine ran asks =
       replies_are = did.replies_are ∙ taken.replies_are;
     } in
     settled-ran from new palm (λ failed. absurd (failed fine)) taken.stood.told_is
-    (asks_told request asks.reply old new asks.short none asks.greeted ran.stands asks.asks).stands (since-once ran.since (inr one))
+    (asks_told request asks.reply old new asks.short asks.bytes none asks.greeted ran.stands asks.asks).stands (since-once ran.since (inr one))
 
 -- it was left
 left-ran : (from : Hand) (request : List ℕ) (cause : PortCause) (old new : LinkValue) → old.cause ≡ None → new.cause ≡ Some cause → RanAt from old
@@ -181,7 +181,7 @@ left-ran from request cause old new none failed ran asks = go asked.stood.stands
       ∙ ap (λ (b : Bool). (talk_at (Some cause) b new.id new.scene.desk.end palm).device) (asks.asks.begun ∙ asks.greeted)
 
   stands : Standing new
-  stands = (asks_told request asks.reply old new asks.short none asks.greeted ran.stands asks.asks).stands
+  stands = (asks_told request asks.reply old new asks.short asks.bytes none asks.greeted ran.stands asks.asks).stands
 
   made : DidOnce was.hand palm.hand → Once (talk_by new palm) palm.hand → RanAt from new
   made did once = record {
@@ -235,10 +235,10 @@ calls-ran from (call ∷ calls) old new ran it = calls-ran from calls it.0 new (
 
 -- from the first call on
 pub first-ran : (given : Option (List (List ℕ))) (taken : Option (List ℕ)) (told : Option Palm) (paths : Option (List (List ℕ))) (faults : ℕ) (palm : Palm)
-    → told ≡ Some palm → is_first palm ≡ true → RanAt palm.hand (first_link given taken told paths faults)
-first-ran given taken told paths faults palm is first =
+    → told ≡ Some palm → is_first palm ≡ true → IsOurs palm.hand → RanAt palm.hand (first_link given taken told paths faults)
+first-ran given taken told paths faults palm is first ours =
     settled-ran palm.hand (first_link given taken told paths faults) palm (λ failed. absurd (failed refl)) is
-    (standing_first first_end [] told (subst IsFirstTold (sym is) first) refl refl) (since-itself palm.hand)
+    (standing_first first_end [] told (subst IsFirstTold (sym is) (first, ours)) refl refl) (since-itself palm.hand)
 
 -- from any time on
 pub later-ran : {from : Hand} {link : LinkValue} → (ran : RanAt from link) → RanAt ran.palm.hand link

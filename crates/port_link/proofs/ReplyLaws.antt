@@ -1,11 +1,12 @@
 -- A reply over a port with a handheld behind it, and a request without one.
-use Rattle.std.proofs.Common.{◌≡◌, ◌⊎◌, ◌≤◌, ℕ, ◌+◌, ◌-◌, true, false, List, [], ◌∷◌, ◌++◌, length, take, nat_eq, inl, inr, refl, sym, ap, subst, ◌∙◌, arith}
+use Rattle.std.proofs.Common.{◌≡◌, ◌⊎◌, ◌≤◌, ◌<◌, ◌^◌, get_or, ℕ, ◌+◌, ◌-◌, true, false, List, [], ◌∷◌, ◌++◌, length, take, nat_eq, inl, inr, refl, sym, ap, subst, ◌∙◌, arith}
 use Rattle.std.specs.Prelude.{Option, Some, None, Result, Ok, Err}
 use Rattle.std.specs.Option.{option_map}
 use Rattle.std.proofs.lemmas.Bool.{cond-false, cond-true, eq-eqb, ne_eqb}
 use Rattle.std.proofs.lemmas.List.{length-append, take-append-le}
 use Rattle.std.proofs.Math.Seq.{take-length}
 use Rattle.dlp_commands.specs.DeviceRuns.{Exchange, exchanged}
+use Rattle.dlp_commands.proofs.StepLaws.{bounded_stays, sound_stays, stepped}
 use Rattle.dlp_commands.specs.DeviceSteps.{DeviceStep}
 use Rattle.dlp_commands.specs.Talks.{WasAnswered, WasLeft}
 use Rattle.device_stream.specs.Hands.{Hand}
@@ -125,7 +126,7 @@ event_taken : (was : Hand) (request : List ℕ) (old new : Scene) (event : Event
 event_taken was request old new (Awaits id) stood turn course = cc
 event_taken was request old new (Begins id message) stood turn course = cc
 event_taken was request old new (Came packet) stood turn course =
-    came_taken was request old new stood.palm packet stood.stands stood.told_is (heard-message (end_takes old.desk.end packet).heard turn) course
+    came_taken was request old new stood.palm packet stood.stands stood.told_is (heard-message (end_takes old.desk.end packet).heard packet turn) course
 event_taken was request old new (Read []) stood turn course = absurd (silence-not_whole old.desk turn)
 event_taken was request old new (Read (byte ∷ bytes)) stood turn course = cc
 
@@ -141,6 +142,7 @@ listens_taken was request id (Ok then.Quiet) old new none asked listens = cc
 listens_taken was request id (Ok then.Spent) old new none asked listens = cc
 listens_taken was request id (Ok then.Silent) old new none asked listens = cc
 listens_taken was request id (Ok then.Aborted) old new none asked listens = cc
+listens_taken was request id (Ok then.Greeted) old new none asked listens = cc
 listens_taken was request id (Err fault) old new none asked listens = absurd (fault-caused fault none)
 
 pub says_taken : (palm : Palm) (request : List ℕ) (id number : ℕ) (answer : Result Turn PortFault) (old new : Scene) → length request ≤ 65535
@@ -173,17 +175,19 @@ but_last-more exchanges exchange =
 
 -- an exchange that was answered
 pub taken_answered : (was : Palm) (request : List ℕ) (number id : ℕ) (old end : EndValue) (oldheld held : List ℕ) (told : Option Palm)
-    → IsStill old oldheld number was → id ≡ session_id (length was.hand.performed + 1) → end.sender.id ≡ id
+    → ((i : ℕ) → get_or request i 0 < 2 ^ 8) → IsStill old oldheld number was → id ≡ session_id (length was.hand.performed + 1) → end.sender.id ≡ id
     → (taken : Taken was.hand request end held told)
     → WasAnswered (talk_at None true number old was) request taken.reply (option_map (talk_at None true id end) told)
     × IsStill end held id taken.stood.palm
-taken_answered was request number id old end oldheld held told still id_is sender_is taken =
+taken_answered was request number id old end oldheld held told bytes still id_is sender_is taken =
     let palm = taken.stood.palm in
     let did = taken.stood.stands.at.did in
     let exchange : Exchange = record { request = request; reply = taken.reply } in
     let performed : palm.hand.performed ≡ was.hand.performed ++ request ∷ [] = did.performed_is ∙ taken.performed_is in
     let replies : palm.hand.replies ≡ was.hand.replies ++ taken.reply ∷ [] = did.replies_are ∙ taken.replies_are in
     let many : length palm.hand.performed ≡ length was.hand.performed + 1 = ap (λ (l : List (List ℕ)). length l) performed ∙ length-append was.hand.performed (request ∷ []) in
+    let stepped_is = stepped was.hand.device palm.hand.device request taken.reply
+    (subst (λ (d : Device). DeviceStep was.hand.device request taken.reply d) (sym did.device_is) taken.step) in
     let more : length palm.hand.replies ≡ length was.hand.replies + 1 = ap (λ (l : List (List ℕ)). length l) replies ∙ length-append was.hand.replies (taken.reply ∷ []) in (
       record {
         device = palm.hand.device;
@@ -194,6 +198,10 @@ taken_answered was request number id old end oldheld held told still id_is sende
             (exchanges_more was.hand palm.hand request taken.reply still.even performed replies);
       },
       record {
+        ours = (
+          sound_stays was.hand.device palm.hand.device request taken.reply still.ours.0 stepped_is,
+          bounded_stays was.hand.device palm.hand.device request taken.reply bytes still.ours.0 still.ours.1 stepped_is,
+        );
         stands = rested palm end held taken.stood.stands;
         quiet = taken.quiet;
         sender_is = sender_is;

@@ -17,20 +17,15 @@ use Rattle.port_link.specs.declared.turn.Turn.TheVariants as then
 use Rattle.port_link.specs.Calls.{Says}
 use Rattle.port_link.specs.Causes.{cause_of}
 use Rattle.port_link.specs.Courses.{Scene}
-use Rattle.port_link.specs.Desks.{Event, Awaits, Begins, Came, Read, Reaction, idle_silence, reacts, silence, turn_of, waiting_silence}
+use Rattle.padp_end.specs.Arrivals.{arrival_of}
+use Rattle.slp_frames.specs.PacketText.{PacketValue}
+use Rattle.port_link.specs.Desks.{Event, Awaits, Begins, Came, Read, Reaction, idle_silence, is_greeting, reacts, silence, turn_of, waiting_silence}
 use Rattle.port_link.specs.Listening.{Listens, EndsWith}
 
 -- the end has a whole message
 pub record HasWhole (desk : Desk) : Type 0 where
   pub message : List ℕ
   pub is : whole_of desk.end.receiver.pieces ≡ Some message
-
-pub heard-message : (hears : Heard) → then.Whole ≡ turn_of hears → hears ≡ heard.Message
-heard-message heard.Nothing e = cc
-heard-message heard.Tickle e = cc
-heard-message heard.Delivered e = cc
-heard-message heard.Message e = refl
-heard-message heard.Stop e = cc
 
 no-turn : (b : Bool) (x y : Turn) → (then.Whole ≡ x → ⊥) → (then.Whole ≡ y → ⊥) → then.Whole ≡ (if b then x else y) → ⊥
 no-turn true x y not_x not_y e = not_x e
@@ -39,6 +34,14 @@ no-turn false x y not_x not_y e = not_y e
 no-reaction : (b : Bool) (x y : Reaction) → (then.Whole ≡ x.turn → ⊥) → (then.Whole ≡ y.turn → ⊥) → then.Whole ≡ (if b then x else y).turn → ⊥
 no-reaction true x y not_x not_y e = not_x e
 no-reaction false x y not_x not_y e = not_y e
+
+pub heard-message : (hears : Heard) (packet : PacketValue) → then.Whole ≡ turn_of hears packet → hears ≡ heard.Message
+heard-message heard.Nothing packet e = absurd (no-turn (is_greeting (arrival_of packet)) then.Greeted then.GoesOn
+    (λ (e : then.Whole ≡ then.Greeted). cc) (λ (e : then.Whole ≡ then.GoesOn). cc) e)
+heard-message heard.Tickle packet e = cc
+heard-message heard.Delivered packet e = cc
+heard-message heard.Message packet e = refl
+heard-message heard.Stop packet e = cc
 
 -- silence makes nothing whole
 pub silence-not_whole : (desk : Desk) → then.Whole ≡ (silence desk).turn → ⊥
@@ -52,7 +55,7 @@ reacts-whole : (desk : Desk) (event : Event) → then.Whole ≡ (reacts desk eve
 reacts-whole desk (Awaits id) e = cc
 reacts-whole desk (Begins id message) e = cc
 reacts-whole desk (Came packet) e =
-    let it = end_takes-whole desk.end packet (heard-message (end_takes desk.end packet).heard e) in
+    let it = end_takes-whole desk.end packet (heard-message (end_takes desk.end packet).heard packet e) in
     record { message = it.message; is = it.whole }
 reacts-whole desk (Read []) e = absurd (silence-not_whole desk e)
 reacts-whole desk (Read (byte ∷ bytes)) e = cc
@@ -77,6 +80,7 @@ answer-whole old new (Ok then.Quiet) none listens = cc
 answer-whole old new (Ok then.Spent) none listens = cc
 answer-whole old new (Ok then.Silent) none listens = cc
 answer-whole old new (Ok then.Aborted) none listens = cc
+answer-whole old new (Ok then.Greeted) none listens = cc
 answer-whole old new (Err Failed) none listens = cc
 answer-whole old new (Err NoMemory) none listens = cc
 

@@ -1,8 +1,9 @@
 -- What a link over a port does at each call.
-use Rattle.std.specs.Prelude.{◌≡◌, ◌⊎◌, ◌<◌, ◌≤◌, length, ℕ, Bool, true, false, List, [], ◌∷◌, Option, Some, None, Result, Ok, Err}
+use Rattle.std.specs.Prelude.{◌≡◌, ◌⊎◌, ◌<◌, ◌≤◌, ◌^◌, get_or, length, ℕ, Bool, true, false, List, [], ◌∷◌, Option, Some, None, Result, Ok, Err}
 use Rattle.std.specs.Option.{option_map, unwrap_or}
 use Rattle.std.specs.Result.{result_err}
 use Rattle.dlp_commands.specs.declared.link.LinkFault.{LinkFault}
+use Rattle.dlp_commands.specs.DeviceSteps.{first_byte}
 use Rattle.hs_folders.specs.Causes.{HasCause}
 use Rattle.padp_link.specs.Receivers.{whole_of}
 use Rattle.port_laws.specs.Palms.{Palm}
@@ -20,6 +21,7 @@ use Rattle.port_link.specs.Desks.{Event, Awaits, Begins, first_desk, lingering}
 use Rattle.port_link.specs.Greetings.{IsWakeAnswer, id_behind, init_text}
 use Rattle.port_link.specs.Listening.{Listens}
 use Rattle.port_link.specs.Logs.{EntryValue}
+use Rattle.port_link.specs.Mended.{heard}
 
 -- the message that a desktop's end took whole
 abbrev pub message_of : Scene → List ℕ
@@ -80,6 +82,7 @@ is_quiet (Ok then.Whole) = false
 is_quiet (Ok then.Spent) = false
 is_quiet (Ok then.Silent) = false
 is_quiet (Ok then.Aborted) = false
+is_quiet (Ok then.Greeted) = false
 is_quiet (Err fault) = false
 
 -- it listened up to one such tick after the other, and was this at each
@@ -156,9 +159,11 @@ pub record SaysHello (result : Result ℕ PortCause) (old new : LinkValue) : Typ
   pub id : new.id ≡ old.id
   pub goes_on : GoesOn old new
 
--- a request is said, under the next transaction
+-- a request is said, under the next transaction; what came is heard as a reply to it
 pub record Asks (request reply : List ℕ) (old new : LinkValue) : Type 0 where
-  pub converses : Converses new.id request reply old.scene new.scene new.cause
+  pub came : List ℕ
+  pub converses : Converses new.id request came old.scene new.scene new.cause
+  pub reply_is : new.cause ≡ None → reply ≡ heard (first_byte request) came
   pub id : new.id ≡ id_behind old.id
   pub begun : new.begun ≡ old.begun
   pub goes_on : GoesOn old new
@@ -192,6 +197,7 @@ pub record HailsFirst (old new : LinkValue) : Type 0 where
 pub record AsksGreeted (request : List ℕ) (old new : LinkValue) : Type 0 where
   pub greeted : old.begun ≡ true
   pub short : length request ≤ 65535
+  pub bytes : (i : ℕ) → get_or request i 0 < 2 ^ 8
   pub reply : List ℕ
   pub asks : Asks request reply old new
 

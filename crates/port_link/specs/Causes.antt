@@ -5,7 +5,7 @@ use Rattle.dlp_commands.specs.declared.link.LinkFault.TheVariants as link
 use Rattle.port_line.specs.declared.port_fault.PortFault.{PortFault}
 use Rattle.port_line.specs.declared.port_fault.PortFault.TheVariants as port
 use Rattle.port_link.specs.declared.port_cause.PortCause.{PortCause}
-use Rattle.port_link.specs.declared.port_cause.PortCause.TheVariants.{PortFailed, NoHandheld, LineDown, LineSilent, Aborted, TooLong, NoMemory}
+use Rattle.port_link.specs.declared.port_cause.PortCause.TheVariants.{PortFailed, NoHandheld, LineDown, LineSilent, Aborted, BeganAnew, TooLong, NoMemory}
 use Rattle.port_link.specs.declared.turn.Turn.{Turn}
 use Rattle.port_link.specs.declared.turn.Turn.TheVariants as then
 
@@ -18,6 +18,7 @@ cause_of (Ok then.Quiet) = Some TooLong
 cause_of (Ok then.Spent) = Some LineDown
 cause_of (Ok then.Silent) = Some LineSilent
 cause_of (Ok then.Aborted) = Some Aborted
+cause_of (Ok then.Greeted) = Some BeganAnew
 cause_of (Err port.Failed) = Some PortFailed
 cause_of (Err port.NoMemory) = Some NoMemory
 
@@ -35,6 +36,7 @@ link_fault NoHandheld = link.Down
 link_fault LineDown = link.Down
 link_fault LineSilent = link.Down
 link_fault Aborted = link.Down
+link_fault BeganAnew = link.Down
 link_fault TooLong = link.Down
 
 -- how often a link went down that answers this

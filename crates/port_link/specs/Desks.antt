@@ -1,6 +1,7 @@
 -- A desktop's end: what it says at a message's beginning, to packets and to silence, and what it is
 -- then (pilot-link's padp.c).
-use Rattle.std.specs.Prelude.{ℕ, ◌-◌, List, [], ◌∷◌, nat_eq, is_some, if◌then◌else◌}
+use Rattle.std.specs.Prelude.{ℕ, ◌-◌, Bool, true, false, List, [], ◌∷◌, nat_eq, is_some, if◌then◌else◌}
+use Rattle.padp_end.specs.Arrivals.{Arrival, Drop, Tickle, Stop, Ack, Data, arrival_of}
 use Rattle.padp_end.specs.Ends.{EndValue, end_begins, end_expects, end_takes, end_waits, first_end, is_spent}
 use Rattle.padp_end.specs.Outgoings.{OutgoingFragment}
 use Rattle.padp_end.specs.declared.heard.Heard.{Heard}
@@ -36,13 +37,21 @@ lingering desk = record { end = desk.end; patience = 3; calm = 3 }
 abbrev pub with_end : Desk → EndValue → Desk
 with_end desk end = record { end = end; patience = desk.patience; calm = desk.calm }
 
--- what follows what an end heard
-abbrev pub turn_of : Heard → Turn
-turn_of heard.Nothing = turn.GoesOn
-turn_of heard.Tickle = turn.GoesOn
-turn_of heard.Delivered = turn.Delivered
-turn_of heard.Message = turn.Whole
-turn_of heard.Stop = turn.Aborted
+-- data under the transaction of greetings
+abbrev pub is_greeting : Arrival → Bool
+is_greeting Drop = false
+is_greeting Tickle = false
+is_greeting Stop = false
+is_greeting (Ack key) = false
+is_greeting (Data id fragment) = nat_eq id 255
+
+-- what follows what an end heard of a packet
+abbrev pub turn_of : Heard → PacketValue → Turn
+turn_of heard.Nothing packet = if is_greeting (arrival_of packet) then turn.Greeted else turn.GoesOn
+turn_of heard.Tickle packet = turn.GoesOn
+turn_of heard.Delivered packet = turn.Delivered
+turn_of heard.Message packet = turn.Whole
+turn_of heard.Stop packet = turn.Aborted
 
 -- to a packet: what the end says, and it has all its patience again
 abbrev pub hearing : Desk → PacketValue → Reaction
@@ -53,7 +62,7 @@ hearing desk packet = record {
     patience = desk.calm;
     calm = desk.calm;
   };
-  turn = turn_of (end_takes desk.end packet).heard;
+  turn = turn_of (end_takes desk.end packet).heard packet;
 }
 
 -- to silence while a piece of its own waits: that piece once more, until it had its ten tries

@@ -10,6 +10,7 @@ pub mod Greetings
 pub mod Hands
 pub mod Listening
 pub mod Logs
+pub mod Mended
 pub mod Runs
 pub mod SinceLaws
 pub mod Standing

@@ -23,6 +23,12 @@ is_message Message = true
 is_message Delivery = false
 is_message Tick = false
 
+abbrev pub is_reply : Awaited → Bool
+is_reply Wake = false
+is_reply Message = true
+is_reply Delivery = false
+is_reply Tick = false
+
 abbrev pub is_delivery : Awaited → Bool
 is_delivery Wake = false
 is_delivery Message = false
@@ -44,6 +50,7 @@ is_over awaited then.Quiet = is_tick awaited
 is_over awaited then.Spent = true
 is_over awaited then.Silent = true
 is_over awaited then.Aborted = true
+is_over awaited then.Greeted = is_reply awaited
 
 -- these events come from outside, and behind each of them the listening goes on
 abbrev pub GoesThrough : Awaited → Desk → List Event → Type 0

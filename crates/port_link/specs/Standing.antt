@@ -8,7 +8,7 @@ use Rattle.padp_end.specs.Ends.{EndValue, first_end}
 use Rattle.padp_link.specs.Neighbours.{session_id}
 use Rattle.padp_link.specs.Senders.{waiting}
 use Rattle.device_stream.specs.Hands.{Hand}
-use Rattle.port_laws.specs.Palms.{Palm, is_first}
+use Rattle.port_laws.specs.Palms.{IsOurs, Palm, is_first}
 use Rattle.port_laws.specs.Talking.{Resting, Stands}
 use Rattle.port_link.specs.Calls.{LinkValue}
 use Rattle.port_link.specs.declared.port_cause.PortCause.{PortCause}
@@ -16,12 +16,14 @@ use Rattle.port_link.specs.declared.port_cause.PortCause.{PortCause}
 -- before its first call nothing was said
 pub record IsUnsaid (end : EndValue) (held : List ℕ) (id : ℕ) (palm : Palm) : Type 0 where
   pub first : is_first palm ≡ true
+  pub ours : IsOurs palm.hand
   pub end_is : end ≡ first_end
   pub held_is : held ≡ []
   pub id_is : id ≡ 255
 
 -- between two requests all was taken that was said, and each request has the next transaction
 pub record IsStill (end : EndValue) (held : List ℕ) (id : ℕ) (palm : Palm) : Type 0 where
+  pub ours : IsOurs palm.hand
   pub stands : Stands (Resting palm.hand) end held palm
   pub quiet : waiting end.sender ≡ None
   pub sender_is : end.sender.id ≡ id

@@ -9,7 +9,7 @@ use crate::turn::Turn;
 pub enum Awaited {
     /// The first message of the other end, which is to be its wake.
     Wake,
-    /// A message of the other end.
+    /// A message of the other end. Behind its greeting it greets nobody but where it begins anew.
     Message,
     /// The acknowledgement of its own message.
     Delivery,
@@ -26,6 +26,7 @@ pub(crate) fn ends(awaited: Awaited, turn: Turn) -> bool
         Turn::Delivered => matches!(awaited, Awaited::Delivery),
         Turn::Whole => matches!(awaited, Awaited::Wake | Awaited::Message),
         Turn::Quiet => matches!(awaited, Awaited::Tick),
+        Turn::Greeted => matches!(awaited, Awaited::Message),
         Turn::Spent | Turn::Silent | Turn::Aborted => true,
     }
 }

@@ -1,12 +1,16 @@
 //! A desktop's end.
-ghost use Rattle.std.specs.Prelude.{◌≡◌, ◌≤◌, IfOk, length};
+ghost use Rattle.std.specs.Prelude.{◌≡◌, ◌≤◌, ℕ, IfOk, length};
+ghost use Rattle.slp_frames.specs.PacketText.{PacketValue};
 ghost use Rattle.slp_frames.specs.PacketValues.{lent_value};
+ghost use Rattle.padp_end.specs.Arrivals.{arrival_of};
 ghost use Rattle.padp_end.specs.Outgoings.{said_text};
-ghost use Rattle.port_link.specs.Desks.{Awaits, Begins, Came, first_desk, lingering, reacts, silence, turn_of};
+ghost use Rattle.port_link.specs.Desks.{Awaits, Begins, Came, first_desk, is_greeting, lingering, reacts, silence, turn_of};
 
+use crate::greeting::GREETING_ID;
 use crate::turn::Turn;
 use arrayvec::ArrayVec;
 use padp_end::{End, Heard, MAX_SAID};
+use padp_link::{Arrived, arrived};
 use slp_frames::PacketLent;
 use std::alloc::{AllocError, Global};
 
@@ -64,7 +68,8 @@ impl Desk {
     {
         out.clear();
         self.patience = self.calm;
-        turn_behind(self.end.take(packet, out))
+        let greets = greets(packet.dest, packet.kind, packet.id, packet.body);
+        turn_behind(self.end.take(packet, out), greets)
     }
 
     /// A tick brought nothing: says the piece that waits once more, or loses patience.
@@ -97,11 +102,29 @@ impl Desk {
     }
 }
 
-// What follows what an end heard.
-fn turn_behind(heard: Heard) -> Turn
-    ensures { result ≡ turn_of heard }
+// Whether a packet with this destination, type, transaction and body is data under the transaction of greetings.
+fn greets(dest: u8, kind: u8, id: u8, body: &[u8]) -> bool
+    ensures { (source : ℕ) → result ≡ is_greeting (arrival_of (record {
+      dest = dest;
+      source = source;
+      kind = kind;
+      id = id;
+      body = body.now;
+    })) }
+{
+    match arrived(dest, kind, id, body) {
+        Arrived::Data(id, _) => id == GREETING_ID,
+        Arrived::Drop | Arrived::Tickle | Arrived::Stop | Arrived::Ack(_) => false,
+    }
+}
+
+// What follows what an end heard of a packet, that greets or doesn't.
+fn turn_behind(heard: Heard, greets: bool) -> Turn
+    ensures { (packet : PacketValue) → greets ≡ is_greeting (arrival_of packet)
+        → result ≡ turn_of heard packet }
 {
     match heard {
+        Heard::Nothing if greets => Turn::Greeted,
         Heard::Nothing | Heard::Tickle => Turn::GoesOn,
         Heard::Delivered => Turn::Delivered,
         Heard::Message => Turn::Whole,

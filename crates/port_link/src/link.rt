@@ -1,16 +1,27 @@
 //! A link over a port as a link.
-ghost use Rattle.std.specs.Prelude.{◌≡◌, false, true, Err, IfSome, IsErrOf, OnErr, OnOk};
+ghost use Rattle.std.specs.Prelude.{◌≡◌, ◌<◌, ◌^◌, ℕ, false, get_or, true, Err, IfSome, IsErrOf, OnErr, OnOk};
 ghost use Rattle.std.specs.Result.{result_err};
+ghost use Rattle.dlp_commands.specs.DeviceSteps.{first_byte};
 ghost use Rattle.dlp_commands.specs.Links.{MayExchange, WentDown, first_fault};
 ghost use Rattle.dlp_commands.specs.Talks.{HasAnswer, LacksAnswer};
 ghost use Rattle.port_link.specs.Calls.{AnswersExchange, AnswersHello};
 
 use crate::greeting::id_of_next;
+use crate::mended::mend;
+use crate::mended_parts::byte_in;
 use crate::port_cause::fault_of;
 use crate::port_link::PortLink;
 use crate::talking::{converse, greet};
 use dlp_commands::{Link, LinkFault, Message};
 use port_line::Port;
+
+// The function of a request.
+fn function_of(request: &[u8]) -> u8
+    ensures function { result ≡ first_byte request.now }
+    ensures bytes { (i : ℕ) → get_or request.now i 0 < 2 ^ 8 }
+{
+    byte_in(request, 0)
+}
 
 // Beside the trait's clauses each method says what the machine of a desktop's end did at the port.
 impl<P: Port> Link for PortLink<P> {
@@ -84,8 +95,12 @@ impl<P: Port> Link for PortLink<P> {
             return Err(fault_of(cause));
         }
         self.id = id_of_next(self.id);
+        let function = function_of(request.bytes());
         match converse(&mut self.cable, &mut self.reader, self.id, request, reply) {
-            Ok(()) => Ok(()),
+            Ok(()) => {
+                mend(function, reply, &mut self.spare);
+                Ok(())
+            }
             Err(cause) => {
                 self.cause = Some(cause);
                 Err(fault_of(cause))

@@ -21,6 +21,8 @@ pub enum PortCause {
     LineSilent,
     /// The other end ended the connection.
     Aborted,
+    /// The other end greeted once more while a reply was awaited: it began anew.
+    BeganAnew,
     /// What was awaited wasn't there behind 1,048,576 packets, bytes and ticks.
     TooLong,
     /// There was no memory.
@@ -38,6 +40,7 @@ pub(crate) fn fault_of(cause: PortCause) -> LinkFault
         | PortCause::LineDown
         | PortCause::LineSilent
         | PortCause::Aborted
+        | PortCause::BeganAnew
         | PortCause::TooLong => LinkFault::Down,
     }
 }
@@ -52,6 +55,7 @@ pub(crate) fn outcome(answer: Result<Turn, PortFault>) -> Result<(), PortCause>
         Ok(Turn::Spent) => Err(PortCause::LineDown),
         Ok(Turn::Silent) => Err(PortCause::LineSilent),
         Ok(Turn::Aborted) => Err(PortCause::Aborted),
+        Ok(Turn::Greeted) => Err(PortCause::BeganAnew),
         Err(PortFault::Failed) => Err(PortCause::PortFailed),
         Err(PortFault::NoMemory) => Err(PortCause::NoMemory),
     }

@@ -11,6 +11,7 @@ use crate::greeting::GREETING_ID;
 use crate::log::Log;
 use crate::port_cause::PortCause;
 use crate::talking::linger;
+use dlp_commands::Message;
 use port_line::Port;
 use slp_frames::SlpReader;
 use std::alloc::{AllocError, Global};
@@ -21,6 +22,8 @@ use std::marker::Model;
 pub struct PortLink<P: Port> {
     pub(crate) cable: Cable<P>,
     pub(crate) reader: SlpReader,
+    // A reply that is mended.
+    pub(crate) spare: Message,
     // The transaction of the last message.
     pub(crate) id: u8,
     pub(crate) begun: bool,
@@ -59,20 +62,22 @@ impl<P: Port> PortLink<P> {
             ≡ first_link (P.given port) (P.taken port) (P.palm port) (P.paths port) (P.faults port)) }
         ensures back { IfErr result (λ refused. refused.1 ≡ port) }
     {
-        match Desk::new(alloc) {
-            Ok(desk) => Ok(PortLink {
-                cable: Cable {
-                    port,
-                    desk,
-                    log: Log::new(alloc),
-                },
-                reader: SlpReader::new(),
-                id: GREETING_ID,
-                begun: false,
-                cause: None,
-            }),
-            Err(refused) => Err((refused, port)),
-        }
+        let (desk, spare) = match (Desk::new(alloc), Message::new(alloc)) {
+            (Ok(desk), Ok(spare)) => (desk, spare),
+            (Err(refused), _) | (_, Err(refused)) => return Err((refused, port)),
+        };
+        Ok(PortLink {
+            cable: Cable {
+                port,
+                desk,
+                log: Log::new(alloc),
+            },
+            reader: SlpReader::new(),
+            spare,
+            id: GREETING_ID,
+            begun: false,
+            cause: None,
+        })
     }
 
     /// Why it answers no more, if it doesn't.
@@ -96,6 +101,7 @@ impl<P: Port> PortLink<P> {
         let PortLink {
             mut cable,
             mut reader,
+            spare: _spare,
             id: _id,
             begun,
             cause,

@@ -17,4 +17,6 @@ pub enum Turn {
     Silent,
     /// The other end ended the connection.
     Aborted,
+    /// A piece of the other end's greeting came, and told nothing new.
+    Greeted,
 }

@@ -1,12 +1,11 @@
 -- What is known of the handheld behind a link once its session is over, and of both sides then.
-use Rattle.std.proofs.Common.{◌≡◌, ◌<◌, ◌^◌, ℕ, true, false, List, [], ◌∷◌, ◌++◌, drop, map, inl, inr, sym, ap, subst, ◌∙◌, append_assoc}
-use Rattle.std.specs.Prelude.{Option, Some, None, Result}
+use Rattle.std.proofs.Common.{◌≡◌, ℕ, true, false, List, [], ◌∷◌, ◌++◌, drop, map, inl, inr, sym, ap, subst, ◌∙◌, append_assoc}
+use Rattle.std.specs.Prelude.{Some, None, Result}
 use Rattle.std.specs.Option.{option_map}
 use Rattle.std.specs.Global.{Vec}
 use Rattle.palm_device.specs.Devices.{Device}
 use Rattle.dlp_commands.specs.DeviceRuns.{DeviceRun, Exchange, exchanged}
 use Rattle.dlp_commands.specs.Talks.{Talk, fresh}
-use Rattle.dlp_commands.specs.declared.link.LinkFault.{LinkFault}
 use Rattle.desk_store.specs.Bounds.{AreBounded}
 use Rattle.desk_store.specs.Shelves.{SlotValue}
 use Rattle.desktop_session.specs.Acts.{Act, text}
@@ -15,7 +14,7 @@ use Rattle.device_stream.specs.Hands.{Hand}
 use Rattle.device_stream.specs.Laws.{DidNothing}
 use Rattle.padp_end.specs.Ends.{first_end}
 use Rattle.port_laws.proofs.StageLaws.{opened}
-use Rattle.port_laws.specs.Palms.{Palm, is_first}
+use Rattle.port_laws.specs.Palms.{IsOurs, Palm, is_first}
 use Rattle.port_link.specs.Calls.{LinkValue, Since}
 use Rattle.port_link.specs.Hands.{HandRan}
 use Rattle.port_link.specs.Logs.{EntryValue}
@@ -28,6 +27,7 @@ use Rattle.session_plan.specs.Tasks.{meeting_of}
 use Rattle.session_plan.specs.declared.wishes.Wishes.{Wishes}
 use Rattle.call_parts.specs.Closings.{left_databases, left_end}
 use Rattle.call_parts.specs.Told.{FolderTold}
+use Rattle.front_laws.specs.Sound.{AreSoundWishes}
 use Rattle.front_laws.proofs.RequestLaws.{sound_meeting}
 use Rattle.port_run.specs.Ends.{LeftFor}
 use Rattle.port_run.specs.Links.{LinkRan, answered, fault_of_link, link_over}
@@ -118,13 +118,13 @@ fresh-told port palm is first =
 -- what is left of both sides by a session over a port that told its handheld
 pub left_for : (downs : LinkValue → ℕ) {cable : Cable} {wishes : Wishes} (slots : List SlotValue)
     (port after : PortTold) (palm : Palm) (desk desk_after : FolderTold) (report : CableReport) (log : List EntryValue) (answer : Result (Vec DbReport) Stop)
-    → port.palm ≡ Some palm → is_first palm ≡ true → IsAtRest palm.hand.device → AsksFor cable wishes → AreBounded slots → wishes.date < 2 ^ 32
+    → port.palm ≡ Some palm → is_first palm ≡ true → IsOurs palm.hand → IsAtRest palm.hand.device → AsksFor cable wishes → AreBounded slots → AreSoundWishes wishes
     → report.end ≡ left_end answer → report.databases.items ≡ left_databases answer → (ran : LinkRan port after report.cause log)
     → EndsOver fault_of_link downs (meeting_of palm.hand.device slots wishes) (link_over port) ran.last desk desk_after answer
     → LeftFor cable palm.hand.device slots after.palm desk desk_after (answered (link_over port) ran.last answer) report
-left_for downs {cable} {wishes} slots port after palm desk desk_after report log answer is first rests asked bounded date end databases ran ends =
+left_for downs {cable} {wishes} slots port after palm desk desk_after report log answer is first ours rests asked bounded date end databases ran ends =
     let start = opened palm first in
-    let fresh_ran = first-ran port.given port.taken port.palm port.paths port.faults palm is first in
+    let fresh_ran = first-ran port.given port.taken port.palm port.paths port.faults palm is first ours in
     let last_ran = calls-ran palm.hand ran.since.0 (link_over port) ran.last fresh_ran ran.since.1 in
     let last = last-palm ran.last last_ran after.given after.taken after.palm log ran.leaves in
     let talk = talk_at ran.last.cause ran.last.begun ran.last.id ran.last.scene.desk.end last_ran.palm in

@@ -71,7 +71,7 @@ module _ {cable : Cable} {device : Device} {after : Option Palm} {desk desk_afte
         desktop = ended.desktop;
         each = λ name active shown. subst (λ (d : Device). HasEqualSides (holding d (slot_at (merged_slots m given) m.picked) name)) (sym ended.handheld)
             (subst (λ (slot : SlotValue). HasEqualSides (holding (merged_device m given) slot name))
-            (sym (merged-picked m given (picked-near m m.wishes.add_user both.meets.picked)))
+            (sym (merged-picked m given (picked-near m m.wishes.user both.meets.picked)))
             (holds-equal m given name both.left.sound active shown (stands.free name active)));
       }
 

@@ -1,5 +1,5 @@
 -- What is known of a session over a cable, by all that its calls answered.
-use Rattle.std.proofs.Common.{◌≡◌, ◌∙◌, ◌<◌, ◌≤◌, ◌^◌, ℕ, true, List, Option, Some, None, Vec, Global, refl, sym, subst, ap, arith}
+use Rattle.std.proofs.Common.{◌≡◌, ◌∙◌, ◌≤◌, ℕ, true, List, Option, Some, None, Vec, Global, refl, sym, subst, ap, arith}
 use Rattle.std.specs.Option.{option_map}
 use Rattle.std.specs.Prelude.{IfErr, IfSome, Result, length}
 use Rattle.hs_folders.specs.Causes.{Rose}
@@ -10,7 +10,6 @@ use Rattle.desk_journal.specs.Overlays.{FinishesAs}
 use Rattle.desk_store.specs.Bounds.{AreBounded}
 use Rattle.desk_store.specs.Shelves.{SlotValue}
 use Rattle.dlp_commands.specs.Talks.{Talk, fresh}
-use Rattle.dlp_commands.specs.declared.link.LinkFault.{LinkFault}
 use Rattle.sync_session.specs.Leaving.{LeavesFolder}
 use Rattle.session_parts.specs.Rests.{IsAtRest}
 use Rattle.session_parts.specs.declared.outcome.Outcome.{Outcome}
@@ -18,7 +17,7 @@ use Rattle.session_parts.specs.declared.report.DbReport.{DbReport}
 use Rattle.session_parts.specs.declared.stop.Stop.{Stop}
 use Rattle.session_plan.specs.Tasks.{meeting_of}
 use Rattle.session_plan.specs.declared.wishes.Wishes.{Wishes}
-use Rattle.port_laws.specs.Palms.{IsFirstTold, Palm, is_first}
+use Rattle.port_laws.specs.Palms.{IsFirstTold, IsOurs, Palm, is_first}
 use Rattle.run_words.specs.Cables.{Cable}
 use Rattle.port_link.specs.Calls.{LeavesWith, LinkValue, Since}
 use Rattle.port_link.specs.Logs.{log_entries}
@@ -32,6 +31,7 @@ use Rattle.call_parts.specs.declared.report.SessionEnd.{SessionEnd}
 use Rattle.call_parts.proofs.SpokeLaws.{by_left, ended_ok}
 use Rattle.cmd_status.specs.declared.status.Status.{Status}
 use Rattle.cmd_status.specs.declared.status.Status.TheVariants.{NoMemory}
+use Rattle.front_laws.specs.Sound.{AreSoundWishes}
 use Rattle.port_run.specs.Ends.{LeftFor}
 use Rattle.port_link.specs.Causes.{link_fault}
 use Rattle.sync_session.specs.StopCauses.{IsStopBy}
@@ -85,7 +85,7 @@ desk_ran {contents = contents} {moments} {folder = folder} {outcome} is left = r
 -- what is left of both sides, where the port told a handheld
 both_left : (downs : LinkValue → ℕ) {cable : Cable} {wishes : Wishes} (slots : List SlotValue) (link last : LinkValue)
     (after : PortTold) (desk desk_after : FolderTold) (report : CableReport) (answer : Result (Vec DbReport Global) Stop) → link ≡ link_over (port_of link)
-    → IsFirstTold link.scene.palm → AsksFor cable wishes → AreBounded slots → wishes.date < 2 ^ 32 → report.end ≡ left_end answer
+    → IsFirstTold link.scene.palm → AsksFor cable wishes → AreBounded slots → AreSoundWishes wishes → report.end ≡ left_end answer
     → report.databases.items ≡ left_databases answer
     → ((told : Talk) → talk_of link ≡ Some told → IsAtRest told.device
     → EndsOver fault_of_link downs (meeting_of told.device slots wishes) link last desk desk_after answer)
@@ -98,10 +98,10 @@ both_left downs {cable} {wishes} slots link last after desk desk_after report an
           → LeftFor cable palm.hand.device slots after.palm desk desk_after (answered (link_over (port_of link)) ran.last answer) report)
       go None is = tt
       go (Some palm) is = λ rests.
-          let woken : is_first palm ≡ true = subst IsFirstTold is first in
-          let told : talk_of link ≡ Some (fresh palm.hand.device) = ap (λ (l : LinkValue). talk_of l) was ∙ fresh-told (port_of link) palm is woken in
+          let woken : (is_first palm ≡ true) × IsOurs palm.hand = subst IsFirstTold is first in
+          let told : talk_of link ≡ Some (fresh palm.hand.device) = ap (λ (l : LinkValue). talk_of l) was ∙ fresh-told (port_of link) palm is woken.0 in
           let over = ends (fresh palm.hand.device) told rests in
-          left_for downs slots (port_of link) after palm desk desk_after report (log_entries report.log) answer is woken rests asked bounded date end databases ran
+          left_for downs slots (port_of link) after palm desk desk_after report (log_entries report.log) answer is woken.0 woken.1 rests asked bounded date end databases ran
           (subst (λ (l : LinkValue). EndsOver fault_of_link downs (meeting_of palm.hand.device slots wishes) l ran.last desk desk_after answer) was
           (subst (λ (l : LinkValue). EndsOver fault_of_link downs (meeting_of palm.hand.device slots wishes) link l desk desk_after answer) (sym same) over))
 
@@ -109,7 +109,7 @@ both_left downs {cable} {wishes} slots link last after desk desk_after report an
 pub has_talked : {D : Type 0} {contents : D → Option FileMap} {moments : D → Moments} {paths : D → Option (List (List ℕ))} {faults : D → ℕ}
     (downs : LinkValue → ℕ) {cable : Cable} {wishes : Wishes} (slots : List SlotValue) {folder : D} (link : LinkValue)
     {outcome : Outcome LinkValue D} {after : PortTold} {closed : Closed} {report : CableReport} → link ≡ link_over (port_of link)
-    → IsFirstTold link.scene.palm → AsksFor cable wishes → AreBounded slots → wishes.date < 2 ^ 32
+    → IsFirstTold link.scene.palm → AsksFor cable wishes → AreBounded slots → AreSoundWishes wishes
     → (ran : LinkRan (port_of link) after report.cause (log_entries report.log)) × (ran.last ≡ outcome.link)
     → LeavesFolder contents moments paths faults folder outcome
     → ((told : Talk) → talk_of link ≡ Some told → IsAtRest told.device

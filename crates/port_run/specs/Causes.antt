@@ -8,7 +8,7 @@ use Rattle.session_parts.specs.declared.stop.Stop.{Stop}
 use Rattle.session_parts.specs.declared.stop.Stop.TheVariants as stop
 use Rattle.trace_text.specs.declared.frame.End.TheVariants.{Desktop}
 use Rattle.cmd_status.specs.declared.status.Status.{Status}
-use Rattle.cmd_status.specs.declared.status.Status.TheVariants.{PortFailed, NoHandheld, LineDown, LineSilent, PeerAborted, LineEndless, NoMemory}
+use Rattle.cmd_status.specs.declared.status.Status.TheVariants.{PortFailed, NoHandheld, LineDown, LineSilent, PeerAborted, PeerBeganAnew, LineEndless, NoMemory}
 use Rattle.cmd_status.specs.declared.status.Status.TheVariants.{OtherUser, TooManyUsers, Limit, NewHandheld, DesktopFolder, Refused, BadReply}
 
 -- of one whose link answers no more
@@ -19,6 +19,7 @@ down_status (Some cause.NoHandheld) = NoHandheld
 down_status (Some cause.LineDown) = LineDown Desktop
 down_status (Some cause.LineSilent) = LineSilent
 down_status (Some cause.Aborted) = PeerAborted
+down_status (Some cause.BeganAnew) = PeerBeganAnew
 down_status (Some cause.TooLong) = LineEndless
 down_status (Some cause.NoMemory) = NoMemory
 

@@ -119,7 +119,7 @@ pub record Meets (cable : Cable) (device : Device) (kept : Option FileMap) (meet
     : Type 0 where
   pub handheld : meeting.device ≡ device
   pub desktop : IsDesk (option_map finished kept) meeting.slots
-  pub picked : meeting.picked ≡ place_for meeting.device meeting.slots meeting.wishes.add_user
+  pub picked : meeting.picked ≡ place_for meeting.device meeting.slots meeting.wishes.user
   pub asked : AsksFor cable meeting.wishes
 
 -- The session of this handheld, which the opened port told, with the desktop; why it stopped, where

@@ -77,6 +77,7 @@ fn down_status(cause: Option<PortCause>) -> Status
         Some(PortCause::LineDown) => Status::LineDown(End::Desktop),
         Some(PortCause::LineSilent) => Status::LineSilent,
         Some(PortCause::Aborted) => Status::PeerAborted,
+        Some(PortCause::BeganAnew) => Status::PeerBeganAnew,
         Some(PortCause::TooLong) => Status::LineEndless,
         Some(PortCause::NoMemory) | None => Status::NoMemory,
     }

@@ -1,6 +1,7 @@
 // The session over a cable.
-ghost use Rattle.std.specs.Prelude.{◌≡◌, ◌<◌, ◌^◌};
+ghost use Rattle.std.specs.Prelude.{◌≡◌};
 ghost use Rattle.desk_store.specs.Bounds.{AreBounded};
+ghost use Rattle.front_laws.specs.Sound.{AreSoundWishes};
 ghost use Rattle.desk_store.specs.Shelves.{AreInOrder};
 ghost use Rattle.call_parts.specs.Causes.{IsUnsaid};
 ghost use Rattle.port_laws.specs.Palms.{IsFirstTold};
@@ -63,7 +64,7 @@ fn speak<P: Port, D: Folder>(
     requires asked { AsksFor (cable_view words.now) wishes.now }
     requires ordered { AreInOrder desk.slots }
     requires bounded { AreBounded desk.slots }
-    requires date { wishes.now.date < 2 ^ 32 }
+    requires sound { AreSoundWishes wishes.now }
     ensures talked { HasTalked (cable_view words.now) desk.slots (port_of link)
         (port_told P.Port result.port) (desk_told D.Folder desk.folder)
         (desk_told D.Folder result.desk) result.status result.report }

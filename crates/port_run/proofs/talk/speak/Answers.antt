@@ -12,7 +12,7 @@ returns-clause-talked g c =
     let outcome = c.run_session-outcome in
     let parts = c.into_parts-port in
     has_talked (λ link. downs_of (option_map link_fault link.cause)) c.args.desk.slots c.args.link c.requires.fresh
-    c.requires.first c.requires.asked c.requires.bounded c.requires.date
+    c.requires.first c.requires.asked c.requires.bounded c.requires.sound
     (link_ran parts.result.1 c.requires.fresh outcome.ensures.link.later parts.ensures.leaves parts.ensures.cause parts.ensures.paths parts.ensures.later)
     outcome.ensures.folder (λ told is rests. outcome.ensures.ends told c.requires.ordered is rests)
     (subst (λ cause. IfErr outcome.result.end (IsStopBy (option_map link_fault cause) (length c.args.desk.slots))) (sym parts.ensures.cause) outcome.ensures.cause)
