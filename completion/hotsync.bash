@@ -36,7 +36,7 @@ _hotsync() {
     import--as) _hotsync_words txt ;;
     *--as) _hotsync_words 'txt vcf csv ics' ;;
     *--date) _hotsync_words now ;;
-    *--script | *--trace | *--in | *--out | *--port) _hotsync_files -f ;;
+    *--script | *--trace | *--in | *--out | *--port | *--like) _hotsync_files -f ;;
     esac
     if [ -n "$option" ]; then return; fi
 
@@ -53,7 +53,7 @@ _hotsync() {
     case ${COMP_WORDS[1]} in
     run)
         case $word in
-        -*) _hotsync_options '--date=now --date= --script= --trace= --only= --slow --actions= --actions=*: --add-user --dry-run' ;;
+        -*) _hotsync_options '--date=now --date= --script= --trace= --only= --slow --actions= --actions=*: --user= --add-user --dry-run' ;;
         *) _hotsync_files -d ;;
         esac
         ;;
@@ -65,7 +65,7 @@ _hotsync() {
         ;;
     import)
         case $word in
-        -*) _hotsync_options '--as=txt' ;;
+        -*) _hotsync_options '--as=txt --like=' ;;
         *) _hotsync_files -f ;;
         esac
         ;;
@@ -89,7 +89,7 @@ _hotsync() {
         ;;
     sync)
         case $word in
-        -*) _hotsync_options '--date=now --date= --only= --trace= --slow --actions= --actions=*: --add-user' ;;
+        -*) _hotsync_options '--date=now --date= --only= --trace= --slow --actions= --actions=*: --user= --add-user' ;;
         *) _hotsync_files -f ;;
         esac
         ;;

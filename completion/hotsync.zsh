@@ -34,6 +34,7 @@ _hotsync() {
             '--date=-[the date of the session]:date:(now)' '--script=-[the line script]:file:_files' \
             '--trace=-[the file for the trace]:file:_files' '--only=-[the databases that are touched]:stems:' \
             '--slow[read all records]' '--actions=-[what is done with each database]:actions:(*\:sync *\:both *\:handheld *\:desktop)' \
+            '--user=-[the name of the handheld'\''s user]:name:' \
             '--add-user[give the handheld a user of its own on the desktop]' \
             '--dry-run[print what the run would do, and change neither folder]'
         ;;
@@ -42,7 +43,7 @@ _hotsync() {
             '--date=-[the time at which the calendar is made]:date:(now)' \
             '--without-private[leave private records out]' '--keep-broken[keep records that are out of their form]'
         ;;
-    import) _arguments '1:file:_files' '--as=-[the form]:form:(txt)' ;;
+    import) _arguments '1:file:_files' '--as=-[the form]:form:(txt)' '--like=-[the file with the categories]:file:_files' ;;
     install) _arguments '1:handheld:_files -/' '2:file:_files' '--trace=-[the file for the trace]:file:_files' ;;
     backup | restore)
         _arguments '1:handheld:_files -/' '2:folder:_files -/' '--script=-[the line script]:file:_files' \
@@ -58,6 +59,7 @@ _hotsync() {
             '--date=-[the date of the session]:date:(now)' '--only=-[the databases that are touched]:stems:' \
             '--trace=-[the file for the trace]:file:_files' '--slow[read all records]' \
             '--actions=-[what is done with each database]:actions:(*\:sync *\:both *\:handheld *\:desktop)' \
+            '--user=-[the name of the handheld'\''s user]:name:' \
             '--add-user[give the handheld a user of its own on the desktop]'
         ;;
     show) _arguments '1:file:_files' '--records[show the bytes of each entry]' ;;

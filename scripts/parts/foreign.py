@@ -15,15 +15,13 @@ DATA, ACKNOWLEDGEMENT = 1, 2
 NOT_FOUND, EXISTS, ILLEGAL = 5, 9, 2
 # The habits that change nothing, and those that are told, with the lines and the status.
 HARMLESS = ("wake_of_another_version", "three_wakes", "tickles", "each_packet_twice", "noise", "indices_with_gaps",
-            "many_entries_a_reply", "more_to_the_end", "five_ids_a_reply", "handle_0", "dates_of_zeros", "a_password", "busy_records", "archived_without_deleted")
+            "many_entries_a_reply", "more_to_the_end", "five_ids_a_reply", "handle_0", "dates_of_zeros", "a_password", "busy_records", "archived_without_deleted",
+            "a_date_that_is_none", "a_user_date_that_is_none", "entries_with_more", "bytes_behind_the_user", "a_second_argument",
+            "a_zero_behind_odd_arguments", "an_argument_beside_an_error", "a_name_with_more_zeros", "a_name_without_a_zero")
 TOLD = {
-    "a_date_that_is_none": (b"bad reply 16\n", 6),
-    "a_user_date_that_is_none": (b"bad reply 10\n", 6),
-    "entries_with_more": (b"bad reply 16\n", 6),
-    "bytes_behind_the_user": (b"bad reply 10\n", 6),
-    "a_second_argument": (b"bad reply 10\n", 6),
     "records_cut_to_40_bytes": (b"bad reply 1f\n", 6),
     "the_same_five_ids": (b"bad reply 31\n", 6),
+    "begins_anew": (b"handheld began anew\n", 6),
 }
 DATE = bytes([2001 >> 8, 2001 & 255, 9, 8, 12, 0, 0, 0])
 
@@ -221,6 +219,10 @@ class Handheld:
         if self.has("a_user_date_that_is_none"):
             last = bytes.fromhex("07d1ff2a00000000")
         name = name + b"\0" if name else b""
+        if name and self.has("a_name_with_more_zeros"):
+            name += b"\0\0"
+        if name and self.has("a_name_without_a_zero") and not self.has("a_name_with_more_zeros"):
+            name = name[:-1]
         password = bytes(range(32)) if self.has("a_password") else b""
         said = struct.pack(">III", number, viewer, pc) + good + last
         said += bytes([len(name), len(password)]) + name + password

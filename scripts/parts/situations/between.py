@@ -3,7 +3,7 @@ import os
 import shutil
 
 from situations.rig import (
-    DATE, DIRTY, LATER, LATEST, all_files, blocks_of, call, memos, pdb, put, records_of, texts, two_sides, want, want_line, want_run, situation,
+    DATE, DIRTY, LATER, LATEST, all_files, blocks_of, call, call_into, memos, pdb, put, records_of, texts, two_sides, want, want_line, want_run, situation,
 )
 
 THREE = [b"one\0", b"three\0", b"two\0"]
@@ -152,6 +152,43 @@ def a_desktops_new_file_has_no_blocks():
     want_run("h", "d", DATE)
     want(blocks_of("d/MemoDB.pdb"), (b"", b""), "blocks of the desktop's")
     want(blocks_of("h/MemoDB.pdb"), (b"labels\0", b"\1\2"), "blocks of the handheld's")
+
+
+def table(**labels):
+    """An application block whose categories have these labels, by their numbers, and ids."""
+    names, ids = [b""] * 16, [0] * 16
+    for word, label in labels.items():
+        number = int(word[1:])
+        names[number], ids[number] = label.encode(), number
+    return b"\0\0" + b"".join(name.ljust(16, b"\0") for name in names) + bytes([*ids, 15]) + b"\0" * 7
+
+
+def filed(path):
+    """The contents of the records of a database file, each behind the number of its category."""
+    return sorted((attributes & 15, text) for attributes, _, text in records_of(path))
+
+
+@situation
+def memos_that_are_edited_as_text_keep_their_categories():
+    """A text of the desktop's memos gets a new one and is imported like the file that it came from: no memo is filed anew."""
+    block = table(n0="Unfiled", n2="Home", n5="Work")
+    three = [(5, 1, b"one\0"), (2, 2, b"two\0"), (0, 3, b"three\0")]
+    put("h/MemoDB.pdb", pdb("MemoDB", three, app=block, creator=b"memo", attributes=8))
+    os.makedirs("d")
+    want_run("h", "d", DATE)
+    put("d/MemoDB.pdb", pdb("MemoDB", records_of("d/MemoDB.pdb"), app=block, creator=b"memo", attributes=8))
+    want(call_into("memos.txt", "export", "d/MemoDB.pdb", "--as=txt"), (0, []), "an export")
+    with open("memos.txt", "ab") as text:
+        text.write(b"--- new Garden\nfour\n")
+    words = ("import", "memos.txt", "--as=txt", "--like=d/MemoDB.pdb")
+    want(call_into("new.pdb", *words), (0, []), "an import like the file that is there")
+    os.replace("new.pdb", "d/MemoDB.pdb")
+    want_run("h", "d", LATER)
+    wanted = [(0, b"three\0"), (1, b"four\0"), (2, b"two\0"), (5, b"one\0")]
+    want((filed("h/MemoDB.pdb"), filed("d/MemoDB.pdb")), (wanted, wanted), "categories of both sides")
+    made = bytearray(block)
+    made[18:34], made[259] = b"Garden".ljust(16, b"\0"), 128
+    want((blocks_of("h/MemoDB.pdb")[0], blocks_of("d/MemoDB.pdb")[0]), (block, bytes(made)), "blocks of both sides")
 
 
 @situation

@@ -16,15 +16,15 @@ SITUATIONS = []
 # ---- files
 
 
-def pdb(name, records, app=b"", sort=b""):
+def pdb(name, records, app=b"", sort=b"", creator=b"test", attributes=0):
     """The bytes of a database with these records: attributes, id, bytes; and with these blocks, where they have bytes."""
     start = 78 + 8 * len(records) + 2
     place = start + len(app) + len(sort)
     places = (start if app else 0, start + len(app) if sort else 0)
-    head = struct.pack(">32sHHIIIIII4s4sIIH", name.encode(), 0, 0, 1, 1, 0, 0, *places, b"DATA", b"test", 0, 0, len(records))
+    head = struct.pack(">32sHHIIIIII4s4sIIH", name.encode(), attributes, 0, 1, 1, 0, 0, *places, b"DATA", creator, 0, 0, len(records))
     entries, data = b"", b""
-    for attributes, number, text in records:
-        entries += struct.pack(">IB", place + len(data), attributes) + number.to_bytes(3, "big")
+    for bits, number, text in records:
+        entries += struct.pack(">IB", place + len(data), bits) + number.to_bytes(3, "big")
         data += text
     return head + entries + b"\0\0" + app + sort + data
 
@@ -95,6 +95,13 @@ def call(*words, before=None, **given):
     """What a call of the program came to: its status, the lines that it printed, and those on standard error."""
     done = subprocess.run([PROGRAM, *words], stdout=subprocess.PIPE, stderr=subprocess.PIPE, preexec_fn=before, timeout=60, **given)
     return done.returncode, done.stdout.decode().splitlines(), done.stderr.decode().splitlines()
+
+
+def call_into(path, *words):
+    """The same, with what it printed as the bytes of a file."""
+    done = subprocess.run([PROGRAM, *words], stdout=subprocess.PIPE, stderr=subprocess.PIPE, timeout=60)
+    put(path, done.stdout)
+    return done.returncode, done.stderr.decode().splitlines()
 
 
 def want(found, wanted, what):
