@@ -1,6 +1,6 @@
 -- A session that stopped, and one behind it, leave what one alone leaves.
 use Rattle.std.proofs.Math.Seq.{drop-append_seam, take-append_seam}
-use Rattle.std.proofs.Common.{arith, ◌≡◌, ◌∙◌, ap, refl, sym, subst, ℕ, ◌<◌, ◌==◌, Bool, true, false, not, List, [], ◌∷◌, ◌++◌}
+use Rattle.std.proofs.Common.{arith, inl, inr, ◌⊎◌, ◌≡◌, ◌∙◌, ap, refl, sym, subst, ℕ, ◌<◌, ◌==◌, Bool, true, false, not, List, [], ◌∷◌, ◌++◌}
 use Rattle.std.proofs.Common.{drop, get_or, length, map, take}
 use Rattle.std.specs.Str.{bytes_eq}
 use Rattle.pdb_values.proofs.NamedLaws.{bytes_eq-own}
@@ -11,11 +11,11 @@ use Rattle.pdb_values.specs.declared.record.Record.{Record}
 use Rattle.category_tables.specs.Merges.{merged_table, places_of}
 use Rattle.category_tables.specs.Tables.{IsTable, TableValue}
 use Rattle.category_tables.specs.Texts.{table_in, table_text}
-use Rattle.category_tables.proofs.MergedLaws.{merged_again, merged_is_merged, merged_is_table, own_same, own_stays, places_used}
+use Rattle.category_tables.proofs.MergedLaws.{merged_again, merged_is_merged, merged_is_table, own_same, own_stays, places_used, self_again}
 use Rattle.category_tables.proofs.TextLaws.{table-read, text_holds}
-use Rattle.category_mirror.specs.Blocks.{MergeValue, begins_with, block_table, blocks_merge, head_table, holds_table, merged_block, tables_merge, written_block}
+use Rattle.category_mirror.specs.Blocks.{MergeValue, begins_with, block_bytes, block_table, blocks_merge, desktop_block, handheld_block, head_table, holds_table, merged_block, rest_for, side_block, tables_merge, written_block}
 use Rattle.category_mirror.specs.Filings.{AreOfCategories, block_by, filed_block, filed_rows, rows_by}
-use Rattle.category_mirror.specs.Refiled.{block_bytes, is_moved, is_refiled, moved_count, refiled_record, refiled_rows}
+use Rattle.category_mirror.specs.Refiled.{is_moved, is_refiled, moved_count, refiled_record, refiled_rows}
 use Rattle.category_mirror.proofs.BlockLaws.{holds-is, numbers_small, table-at}
 use Rattle.category_mirror.proofs.LabelLaws.{AreLabels, length-text, merged_labels, merged_text, read_labels}
 
@@ -50,21 +50,25 @@ module _ (handheld desktop : TableValue) (one : IsRead handheld) (other : IsRead
   merged_whole =
       length-text merged (merged_labels handheld desktop one.labels other.labels) (merged_is_table handheld desktop one.table_is other.table_is).whole
 
-  head_merged : (block : List ℕ) → take 276 (merged_block merged block) ≡ table_text merged
-  head_merged block = ap (λ n. take n (table_text merged ++ drop 276 block)) (sym merged_whole) ∙ take-append_seam (table_text merged) (drop 276 block)
+  -- a block with it at its head, whatever stands behind it
+  abbrev text_then : List ℕ → List ℕ
+  text_then rest = table_text merged ++ rest
 
-  rest_merged : (block : List ℕ) → drop 276 (merged_block merged block) ≡ drop 276 block
-  rest_merged block = ap (λ n. drop n (table_text merged ++ drop 276 block)) (sym merged_whole) ∙ drop-append_seam (table_text merged) (drop 276 block)
+  head_then : (rest : List ℕ) → take 276 (text_then rest) ≡ table_text merged
+  head_then rest = ap (λ n. take n (text_then rest)) (sym merged_whole) ∙ take-append_seam (table_text merged) rest
 
-  pub merged_same : (block : List ℕ) → merged_block merged (merged_block merged block) ≡ merged_block merged block
-  merged_same block = ap (λ rest. table_text merged ++ rest) (rest_merged block)
+  pub rest_then : (rest : List ℕ) → drop 276 (text_then rest) ≡ rest
+  rest_then rest = ap (λ n. drop n (text_then rest)) (sym merged_whole) ∙ drop-append_seam (table_text merged) rest
+
+  pub merged_same : (rest : List ℕ) → merged_block merged (text_then rest) ≡ text_then rest
+  merged_same rest = ap text_then (rest_then rest)
 
   -- it is read as the merged table
-  pub merged_read : (block : List ℕ) → block_table (Some (merged_block merged block)) ≡ Some merged
+  pub merged_read : (rest : List ℕ) → block_table (Some (text_then rest)) ≡ Some merged
   unfolding block_table
-  merged_read block =
+  merged_read rest =
       let has = merged_text handheld desktop one.table_is other.table_is one.labels other.labels in
-      ap head_table (head_merged block) ∙ table-at (table_text merged) (text_holds merged has) ∙ ap (λ t. Some t) (table-read merged has)
+      ap head_table (head_then rest) ∙ table-at (table_text merged) (text_holds merged has) ∙ ap (λ t. Some t) (table-read merged has)
 
   -- ---- rows
 
@@ -84,23 +88,25 @@ module _ (handheld desktop : TableValue) (one : IsRead handheld) (other : IsRead
       ap (λ first. first ∷ map (refiled_record (places_of merged merged)) (map (refiled_record (places_of handheld desktop)) records)) (record_stays item all.0)
       ∙ ap (λ rest. refiled_record (places_of handheld desktop) item ∷ rest) (records_stay records all.1)
 
-  abbrev the_merge : MergeValue
-  the_merge = record { table = merged; numbers = places_of handheld desktop }
+  abbrev pub the_merge : List ℕ → MergeValue
+  the_merge rest = record { table = merged; numbers = places_of handheld desktop; rest = rest }
 
-  abbrev own_merge : MergeValue
-  own_merge = record { table = merged; numbers = places_of merged merged }
+  abbrev own_merge : List ℕ → MergeValue
+  own_merge rest = record { table = merged; numbers = places_of merged merged; rest = rest }
 
-  rows_stay : (rows : DatabaseValue) → AreOfCategories rows.records → refiled_rows own_merge (refiled_rows the_merge rows) ≡ refiled_rows the_merge rows
+  -- what stands behind the table does not matter to rows with a block
+  pub rows_again : (rest own : List ℕ) (rows : DatabaseValue) → AreOfCategories rows.records
+      → refiled_rows (own_merge own) (refiled_rows (the_merge rest) rows) ≡ refiled_rows (the_merge rest) rows
   unfolding refiled_rows
-  rows_stay rows all =
+  rows_again rest own rows all =
       ap (λ (block : List ℕ). record rows {
         app = Some block;
         records = map (refiled_record (places_of merged merged)) (map (refiled_record (places_of handheld desktop)) rows.records);
-      }) (merged_same (block_bytes rows.app))
-      ∙ ap (λ (records : List Record). record rows { app = Some (merged_block merged (block_bytes rows.app)); records = records }) (records_stay rows.records all)
+      }) (merged_same (rest_for (the_merge rest) rows.app))
+      ∙ ap (λ (records : List Record). record rows { app = Some (side_block (the_merge rest) rows.app); records = records }) (records_stay rows.records all)
 
-  begins_merged : (block : List ℕ) → begins_with merged (merged_block merged block) ≡ true
-  begins_merged block = ap (λ head. bytes_eq head (table_text merged)) (head_merged block) ∙ bytes_eq-own (table_text merged)
+  begins_merged : (rest : List ℕ) → begins_with merged (text_then rest) ≡ true
+  begins_merged rest = ap (λ head. bytes_eq head (table_text merged)) (head_then rest) ∙ bytes_eq-own (table_text merged)
 
   item_still : (item : Record) → item.content.category < 16
       → is_moved (places_of merged merged) (refiled_record (places_of handheld desktop) item) ≡ false
@@ -118,23 +124,28 @@ module _ (handheld desktop : TableValue) (one : IsRead handheld) (other : IsRead
   items_still [] all = refl
   items_still (item ∷ records) all = rw (item_still item all.0) (items_still records all.1)
 
-  rows_still : (rows : DatabaseValue) → AreOfCategories rows.records → is_refiled own_merge (refiled_rows the_merge rows) ≡ false
+  rows_still : (rest own : List ℕ) (rows : DatabaseValue) → AreOfCategories rows.records → is_refiled (own_merge own) (refiled_rows (the_merge rest) rows) ≡ false
   unfolding refiled_rows
-  rows_still rows all = rw (begins_merged (block_bytes rows.app), items_still rows.records all) refl
+  rows_still rest own rows all = rw (begins_merged (rest_for (the_merge rest) rows.app), items_still rows.records all) refl
 
   -- ---- both cases of a stop
 
-  pub again_before : tables_merge (Some merged) (Some desktop) ≡ Some the_merge
-  again_before =
+  pub again_before : (rest : List ℕ) → tables_merge rest (Some merged) (Some desktop) ≡ Some (the_merge rest)
+  again_before rest =
       let same = merged_again handheld desktop one.table_is other.table_is in
-      ap (λ t. Some (record { table = t; numbers = places_of merged desktop })) same.0 ∙ ap (λ n. Some (record { table = merged; numbers = n })) same.1
+      ap (λ t. Some (record { table = t; numbers = places_of merged desktop; rest = rest })) same.0
+      ∙ ap (λ n. Some (record { table = merged; numbers = n; rest = rest })) same.1
 
-  pub again_behind : tables_merge (Some merged) (Some merged) ≡ Some own_merge
-  again_behind =
-      ap (λ t. Some (record { table = t; numbers = places_of merged merged })) (own_same merged (merged_is_merged handheld desktop one.table_is other.table_is))
+  pub again_behind : (rest : List ℕ) → tables_merge rest (Some merged) (Some merged) ≡ Some (own_merge rest)
+  again_behind rest =
+      ap (λ t. Some (record { table = t; numbers = places_of merged merged; rest = rest }))
+      (own_same merged (merged_is_merged handheld desktop one.table_is other.table_is))
 
-  pub rows_again : (rows : DatabaseValue) → AreOfCategories rows.records → refiled_rows own_merge (refiled_rows the_merge rows) ≡ refiled_rows the_merge rows
-  rows_again rows all = rows_stay rows all
+-- one side's table alone, which both sides have then
+pub again_alone : (t : TableValue) (one : IsRead t) (rest : List ℕ)
+    → tables_merge rest (Some (merged_table t t)) (Some (merged_table t t)) ≡ Some (the_merge t t one one rest)
+again_alone t one rest =
+    again_behind t t one one rest ∙ ap (λ n. Some (record { table = merged_table t t; numbers = n; rest = rest })) (self_again t one.table_is)
 
 -- ---- the blocks of both sides
 
@@ -149,7 +160,7 @@ pub record IsMade (handheld : Option (List ℕ)) (rows : DatabaseValue) : Type 0
 none_made : (handheld : Option (List ℕ)) (rows : DatabaseValue) → blocks_merge handheld rows.app ≡ None → IsMade handheld rows
 unfolding filed_block filed_rows
 none_made handheld rows none =
-    let block : block_by handheld (blocks_merge handheld rows.app) ≡ handheld = rw none (same handheld) in
+    let block : block_by handheld (blocks_merge handheld rows.app) ≡ handheld = rw none refl in
     let here : rows_by (blocks_merge handheld rows.app) rows ≡ rows = rw none refl in
     record {
       before_block = rw block block;
@@ -157,43 +168,112 @@ none_made handheld rows none =
       behind_block = λ all. rw (here, block) block;
       behind_rows = λ all. rw (here, block) here;
     }
-  where
-    same : (o : Option (List ℕ)) → block_by o None ≡ o
-    same None = refl
-    same (Some block) = refl
 
-some_made : (block : List ℕ) (rows : DatabaseValue) (handheld desktop : TableValue) → block_table (Some block) ≡ Some handheld → block_table rows.app ≡ Some desktop
-    → IsMade (Some block) rows
-unfolding filed_block filed_rows blocks_merge refiled_rows
-some_made block rows handheld desktop here there =
-    let one = block_read (Some block) handheld here in
-    let other = block_read rows.app desktop there in
-    let first : tables_merge (block_table (Some block)) (block_table rows.app) ≡ Some (the_merge handheld desktop one other) = rw (here, there) refl in
-    let read = merged_read handheld desktop one other block in
-    let read_rows = merged_read handheld desktop one other (block_bytes rows.app) in
-    let second : tables_merge (block_table (Some (merged_block (merged_table handheld desktop) block))) (block_table rows.app)
-    ≡ Some (the_merge handheld desktop one other) = rw (read, there) (again_before handheld desktop one other) in
-    let third : tables_merge (block_table (Some (merged_block (merged_table handheld desktop) block)))
-    (block_table (Some (merged_block (merged_table handheld desktop) (block_bytes rows.app)))) ≡ Some (own_merge handheld desktop one other) =
-    rw (read, read_rows) (again_behind handheld desktop one other) in
-    let same = ap (λ (b : List ℕ). Some b) (merged_same handheld desktop one other block) in
+-- what both sides come together by
+pub record ComeTogether (handheld desktop : Option (List ℕ)) : Type 0 where
+  pub own : TableValue
+  pub other : TableValue
+  pub own_is : IsRead own
+  pub other_is : IsRead other
+  pub rest : List ℕ
+  pub rest_is : rest ≡ drop 276 (block_bytes (desktop_block handheld desktop))
+  pub here : block_table (handheld_block handheld desktop) ≡ Some own
+  pub there : block_table (desktop_block handheld desktop) ≡ Some other
+  pub merge : blocks_merge handheld desktop ≡ Some (the_merge own other own_is other_is rest)
+
+-- or they don't
+pub together : (handheld desktop : Option (List ℕ)) → (blocks_merge handheld desktop ≡ None) ⊎ ComeTogether handheld desktop
+unfolding blocks_merge
+together handheld desktop = by (block_table (handheld_block handheld desktop)) refl (block_table (desktop_block handheld desktop)) refl
+  where
+    by : (one : Option TableValue) → block_table (handheld_block handheld desktop) ≡ one → (other : Option TableValue)
+        → block_table (desktop_block handheld desktop) ≡ other
+        → (tables_merge (drop 276 (block_bytes (desktop_block handheld desktop))) (block_table (handheld_block handheld desktop))
+        (block_table (desktop_block handheld desktop)) ≡ None) ⊎ ComeTogether handheld desktop
+    by None here other there = inl (rw here refl)
+    by (Some own) here None there = inl (rw (here, there) refl)
+    by (Some own) here (Some other) there = inr (record {
+      own = own;
+      other = other;
+      own_is = block_read (handheld_block handheld desktop) own here;
+      other_is = block_read (desktop_block handheld desktop) other there;
+      rest = drop 276 (block_bytes (desktop_block handheld desktop));
+      rest_is = refl;
+      here = here;
+      there = there;
+      merge = rw (here, there) refl;
+    })
+
+abbrev pub merge_of_both : {handheld desktop : Option (List ℕ)} → ComeTogether handheld desktop → MergeValue
+merge_of_both both = the_merge both.own both.other both.own_is both.other_is both.rest
+
+pub own_read : {handheld desktop : Option (List ℕ)} (both : ComeTogether handheld desktop) (block : Option (List ℕ))
+    → block_table (Some (side_block (merge_of_both both) block)) ≡ Some (merged_table both.own both.other)
+own_read both block = merged_read both.own both.other both.own_is both.other_is (rest_for (merge_of_both both) block)
+
+alone : (own other : TableValue) → own ≡ other → IsRead own → (rest : List ℕ)
+    → tables_merge rest (Some (merged_table own other)) (Some (merged_table own other))
+    ≡ Some (record { table = merged_table own other; numbers = places_of own other; rest = rest })
+alone own other same is rest =
+    subst (λ (t : TableValue). tables_merge rest (Some (merged_table own t)) (Some (merged_table own t))
+    ≡ Some (record { table = merged_table own t; numbers = places_of own t; rest = rest })) same (again_alone own is rest)
+
+-- where the handheld has its block then, they come together as before
+pub behind_own : (handheld desktop : Option (List ℕ)) (both : ComeTogether handheld desktop)
+    → blocks_merge (Some (side_block (merge_of_both both) handheld)) desktop ≡ Some (merge_of_both both)
+unfolding blocks_merge block_table
+behind_own handheld (Some block) both =
+    ap (λ (t : Option TableValue). tables_merge (drop 276 block) t (block_table (Some block))) (own_read both handheld)
+    ∙ ap (tables_merge (drop 276 block) (Some (merged_table both.own both.other))) both.there
+    ∙ again_before both.own both.other both.own_is both.other_is (drop 276 block)
+    ∙ ap (λ rest. Some (the_merge both.own both.other both.own_is both.other_is rest)) (sym both.rest_is)
+behind_own None None both = absurd (let none = both.there in cc)
+behind_own (Some block) None both =
+    let same : both.own ≡ both.other = let twice = sym both.here ∙ both.there in cc in
+    let text = side_block (merge_of_both both) (Some block) in
+    ap (λ rest. tables_merge rest (block_table (Some text)) (block_table (Some text)))
+    (rest_then both.own both.other both.own_is both.other_is (drop 276 block))
+    ∙ ap (λ (t : Option TableValue). tables_merge (drop 276 block) t t) (own_read both (Some block))
+    ∙ alone both.own both.other same both.own_is (drop 276 block)
+    ∙ ap (λ rest. Some (the_merge both.own both.other both.own_is both.other_is rest)) (sym both.rest_is)
+
+abbrev merge_behind : {handheld desktop : Option (List ℕ)} → ComeTogether handheld desktop → MergeValue
+merge_behind {desktop = desktop} both =
+    own_merge both.own both.other both.own_is both.other_is (drop 276 (side_block (merge_of_both both) desktop))
+
+-- where both have theirs
+behind_both : (handheld desktop : Option (List ℕ)) (both : ComeTogether handheld desktop)
+    → blocks_merge (Some (side_block (merge_of_both both) handheld)) (Some (side_block (merge_of_both both) desktop)) ≡ Some (merge_behind both)
+unfolding blocks_merge
+behind_both handheld desktop both =
+    let rest = drop 276 (side_block (merge_of_both both) desktop) in
+    ap (λ (t : Option TableValue). tables_merge rest t (block_table (Some (side_block (merge_of_both both) desktop)))) (own_read both handheld)
+    ∙ ap (tables_merge rest (Some (merged_table both.own both.other))) (own_read both desktop)
+    ∙ again_behind both.own both.other both.own_is both.other_is rest
+
+refiled_app : (merge : MergeValue) (rows : DatabaseValue) → (refiled_rows merge rows).app ≡ Some (side_block merge rows.app)
+unfolding refiled_rows
+refiled_app merge rows = refl
+
+some_made : (handheld : Option (List ℕ)) (rows : DatabaseValue) → ComeTogether handheld rows.app → IsMade handheld rows
+unfolding filed_block filed_rows
+some_made handheld rows both =
+    let merge = merge_of_both both in
+    let first = both.merge in
+    let second = behind_own handheld rows.app both in
+    let third : blocks_merge (Some (side_block merge handheld)) (refiled_rows merge rows).app ≡ Some (merge_behind both) =
+    ap (blocks_merge (Some (side_block merge handheld))) (refiled_app merge rows) ∙ behind_both handheld rows.app both in
+    let same : ◌≡◌ {A = Option (List ℕ)} (Some (side_block merge (Some (side_block merge handheld)))) (Some (side_block merge handheld)) =
+    ap (λ (b : List ℕ). Some b) (merged_same both.own both.other both.own_is both.other_is (rest_for merge handheld)) in
     record {
       before_block = rw (first, second) same;
       before_rows = rw (first, second) refl;
       behind_block = λ all. rw (first, third) same;
-      behind_rows = λ all. rw (first, third) (rows_again handheld desktop one other rows all);
+      behind_rows = λ all. rw (first, third) (rows_again both.own both.other both.own_is both.other_is both.rest (drop 276 (side_block merge rows.app)) rows all);
     }
 
 pub made : (handheld : Option (List ℕ)) (rows : DatabaseValue) → IsMade handheld rows
-unfolding blocks_merge block_table
-made handheld rows = by handheld (block_table handheld) refl (block_table rows.app) refl
-  where
-    by : (block : Option (List ℕ)) (one : Option TableValue) → block_table block ≡ one → (other : Option TableValue) → block_table rows.app ≡ other
-        → IsMade block rows
-    by None one is other there = none_made None rows refl
-    by (Some block) None is other there = none_made (Some block) rows (rw is refl)
-    by (Some block) (Some table) is None there = none_made (Some block) rows (rw (is, there) refl)
-    by (Some block) (Some table) is (Some desktop) there = some_made block rows table desktop is there
+made handheld rows = elim (together handheld rows.app) [ inl none ↦ none_made handheld rows none | inr both ↦ some_made handheld rows both ]
 
 -- ---- once more behind the end
 
@@ -206,42 +286,24 @@ pub record IsStill (handheld : Option (List ℕ)) (rows : DatabaseValue) : Type 
 none_still : (handheld : Option (List ℕ)) (rows : DatabaseValue) → blocks_merge handheld rows.app ≡ None → IsStill handheld rows
 unfolding filed_block filed_rows
 none_still handheld rows none =
-    let block : block_by handheld (blocks_merge handheld rows.app) ≡ handheld = rw none (same handheld) in
+    let block : block_by handheld (blocks_merge handheld rows.app) ≡ handheld = rw none refl in
     let here : rows_by (blocks_merge handheld rows.app) rows ≡ rows = rw none refl in
     record {
-      block = rw (here, block, none) (unwritten handheld);
+      block = rw (here, block, none) refl;
       rows_too = λ merge is. absurd (let no : None ≡ Some merge = sym (rw (here, block) none) ∙ is in cc);
     }
-  where
-    same : (o : Option (List ℕ)) → block_by o None ≡ o
-    same None = refl
-    same (Some block) = refl
 
-    unwritten : (o : Option (List ℕ)) → written_block o None ≡ None
-    unwritten None = refl
-    unwritten (Some block) = refl
-
-refiled_app : (merge : MergeValue) (rows : DatabaseValue) → (refiled_rows merge rows).app ≡ Some (merged_block merge.table (block_bytes rows.app))
-unfolding refiled_rows
-refiled_app merge rows = refl
-
-some_still : (block : List ℕ) (rows : DatabaseValue) (handheld desktop : TableValue) → AreOfCategories rows.records → block_table (Some block) ≡ Some handheld
-    → block_table rows.app ≡ Some desktop → IsStill (Some block) rows
-unfolding filed_block filed_rows blocks_merge
-some_still block rows handheld desktop all here there =
-    let one = block_read (Some block) handheld here in
-    let other = block_read rows.app desktop there in
-    let first : tables_merge (block_table (Some block)) (block_table rows.app) ≡ Some (the_merge handheld desktop one other) = rw (here, there) refl in
-    let left : (refiled_rows (the_merge handheld desktop one other) rows).app ≡ Some (merged_block (merged_table handheld desktop) (block_bytes rows.app)) =
-    refiled_app (the_merge handheld desktop one other) rows in
-    let third : tables_merge (block_table (Some (merged_block (merged_table handheld desktop) block)))
-    (block_table (refiled_rows (the_merge handheld desktop one other) rows).app) ≡ Some (own_merge handheld desktop one other) =
-    rw (left, merged_read handheld desktop one other block, merged_read handheld desktop one other (block_bytes rows.app))
-    (again_behind handheld desktop one other) in
+some_still : (handheld : Option (List ℕ)) (rows : DatabaseValue) → AreOfCategories rows.records → ComeTogether handheld rows.app → IsStill handheld rows
+unfolding filed_block filed_rows
+some_still handheld rows all both =
+    let merge = merge_of_both both in
+    let first = both.merge in
+    let third : blocks_merge (Some (side_block merge handheld)) (refiled_rows merge rows).app ≡ Some (merge_behind both) =
+    ap (blocks_merge (Some (side_block merge handheld))) (refiled_app merge rows) ∙ behind_both handheld rows.app both in
     record {
-      block = rw (first, third, begins_merged handheld desktop one other block) refl;
-      rows_too = λ merge is. rw first (by (refiled_rows (the_merge handheld desktop one other) rows) merge (sym third ∙ (rw first at is))
-          (rows_still handheld desktop one other rows all));
+      block = rw (first, third, begins_merged both.own both.other both.own_is both.other_is (rest_for merge handheld)) refl;
+      rows_too = λ next is. rw first (by (refiled_rows merge rows) next (sym third ∙ (rw first at is))
+          (rows_still both.own both.other both.own_is both.other_is both.rest (drop 276 (side_block merge rows.app)) rows all));
     }
   where
     by : {own : MergeValue} (left : DatabaseValue) (merge : MergeValue) → ◌≡◌ {A = Option MergeValue} (Some own) (Some merge) → is_refiled own left ≡ false
@@ -249,12 +311,5 @@ some_still block rows handheld desktop all here there =
     by {own} left merge is still = let same : own ≡ merge = cc in subst (λ (m : MergeValue). is_refiled m left ≡ false) same still
 
 pub still : (handheld : Option (List ℕ)) (rows : DatabaseValue) → AreOfCategories rows.records → IsStill handheld rows
-unfolding blocks_merge block_table
-still handheld rows all = by handheld (block_table handheld) refl (block_table rows.app) refl
-  where
-    by : (block : Option (List ℕ)) (one : Option TableValue) → block_table block ≡ one → (other : Option TableValue) → block_table rows.app ≡ other
-        → IsStill block rows
-    by None one is other there = none_still None rows refl
-    by (Some block) None is other there = none_still (Some block) rows (rw is refl)
-    by (Some block) (Some table) is None there = none_still (Some block) rows (rw (is, there) refl)
-    by (Some block) (Some table) is (Some desktop) there = some_still block rows table desktop all is there
+still handheld rows all =
+    elim (together handheld rows.app) [ inl none ↦ none_still handheld rows none | inr both ↦ some_still handheld rows all both ]

@@ -98,6 +98,6 @@ pub read_is : (head : List ℕ) (r : Option Table) → MatchOption r (¬ HoldsTa
 read_is head None is = sym (unread head is)
 read_is head (Some table) is = ap (λ t. Some t) is.1 ∙ sym (table-at head is.0)
 
-pub no_desktop : (handheld : Option TableValue) → tables_merge handheld None ≡ None
-no_desktop None = refl
-no_desktop (Some table) = refl
+pub no_desktop : (rest : List ℕ) (handheld : Option TableValue) → tables_merge rest handheld None ≡ None
+no_desktop rest None = refl
+no_desktop rest (Some table) = refl

@@ -16,10 +16,10 @@ use Rattle.conduit_rules.specs.Contents.{same_content}
 use Rattle.conduit_rules.specs.States.{BaseState, SideState, archived, base_at, based_under, based_where, first, gone, held, held_by, held_where, live, no_base, nothing, row, state}
 use Rattle.conduit_rules.specs.declared.table.Side.{Side}
 use Rattle.conduit_rules.specs.declared.table.Side.TheVariants.{ArchivedChanged, ArchivedSame, Changed, Deleted, Gone, Same}
-use Rattle.category_mirror.specs.Blocks.{MergeValue, begins_with}
+use Rattle.category_mirror.specs.Blocks.{MergeValue, begins_with, block_bytes}
 use Rattle.category_mirror.specs.Edits.{AreRowsOf, GoApart, GoApartBy, GoApartUnder, RowsGoApart, is_edited, row_state, same_text, state_under}
 use Rattle.category_mirror.specs.Filings.{rows_by}
-use Rattle.category_mirror.specs.Refiled.{block_bytes, is_refiled, moved_count, refiled_base, refiled_base_row, refiled_record, refiled_rows}
+use Rattle.category_mirror.specs.Refiled.{is_refiled, moved_count, refiled_base, refiled_base_row, refiled_record, refiled_rows}
 use Rattle.category_mirror.specs.Sides.{Filing, base_by, change_by, filed_base, filed_rows, merge_named, shelves_of}
 use Rattle.category_mirror.proofs.BaseLaws.{base-quiet}
 use Rattle.category_mirror.proofs.NamedMaps.{find-map}

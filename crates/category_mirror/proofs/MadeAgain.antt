@@ -1,6 +1,6 @@
 -- A merge that is made again, and a filing that stopped in front of its commit.
 use Rattle.std.proofs.lemmas.Simd.{map-map}
-use Rattle.std.proofs.Common.{◌≡◌, ◌∙◌, ap, refl, sym, ℕ, Bool, true, false, cond, List, [], ◌∷◌, map}
+use Rattle.std.proofs.Common.{inl, inr, ◌⊎◌, ◌≡◌, ◌∙◌, ap, refl, sym, ℕ, Bool, true, false, cond, List, [], ◌∷◌, map}
 use Rattle.std.specs.Prelude.{Option, Some, None, flat_map, not, option_and_then, slice_set}
 use Rattle.std.specs.Option.{option_map}
 use Rattle.pdb_values.specs.Databases.{DatabaseValue}
@@ -13,51 +13,39 @@ use Rattle.desk_store.specs.declared.change.DbChange.{DbChange}
 use Rattle.session_parts.specs.declared.skip.Skip.{Skip}
 use Rattle.session_plan.specs.Jobs.{names_with}
 use Rattle.category_mirror.specs.declared.job.FilingJob.{FilingJob}
-use Rattle.category_mirror.specs.Blocks.{MergeValue, block_table, blocks_merge, merged_block, tables_merge}
+use Rattle.category_mirror.specs.Blocks.{MergeValue, block_table, blocks_merge, rest_for}
 use Rattle.category_mirror.specs.Changes.{change_filed}
 use Rattle.category_mirror.specs.FilingActs.{marked_user, rows_app}
 use Rattle.category_mirror.specs.Filings as one
 use Rattle.category_mirror.specs.Filings.{block_by, rows_by}
 use Rattle.category_mirror.specs.Jobs.{filing_job}
 use Rattle.category_mirror.specs.Sides.{Filing, app_named, archive_by, base_by, change_by, device_among, filed_database, filed_device, filed_shelves, filed_slots, filed_where, filing_changes, heads_of, is_among, job_named, merge_named, merge_of, merge_unless, names, shelves_of, slot_of, with_merge}
-use Rattle.category_mirror.proofs.AgainLaws.{again_before, block_read, made, merged_read, merged_same}
+use Rattle.category_mirror.proofs.AgainLaws.{ComeTogether, behind_own, made, merge_of_both, merged_same, together}
 use Rattle.category_mirror.proofs.EvolveLaws.{merge_none, whole}
 use Rattle.category_mirror.proofs.NamedMaps.{KeepsNames, database_of-map}
-use Rattle.category_mirror.proofs.WrittenLaws.{tables_both}
 
 -- ---- a merge that is made again
 
 -- where the handheld has the merged block, both come together as before
 merges_again : (block rows : Option (List ℕ)) → blocks_merge (block_by block (blocks_merge block rows)) rows ≡ blocks_merge block rows
-unfolding blocks_merge
-merges_again block rows = by block (tables_merge (block_table block) (block_table rows)) refl
-  where
-    by : (b : Option (List ℕ)) (m : Option MergeValue) → tables_merge (block_table b) (block_table rows) ≡ m
-        → tables_merge (block_table (block_by b m)) (block_table rows) ≡ m
-    by None m is = is
-    by (Some bytes) None is = is
-    by (Some bytes) (Some merge) is =
-        let both = tables_both (block_table (Some bytes)) (block_table rows) merge is in
-        let first = block_read (Some bytes) both.0 both.2 in
-        let other = block_read rows both.1 both.3 in
-        ap (λ (m : MergeValue). tables_merge (block_table (Some (merged_block m.table bytes))) (block_table rows)) both.4
-        ∙ ap (λ t. tables_merge t (block_table rows)) (merged_read both.0 both.1 first other bytes)
-        ∙ ap (tables_merge (Some _)) both.3
-        ∙ again_before both.0 both.1 first other ∙ ap (λ (m : MergeValue). Some m) (sym both.4)
+merges_again block rows = elim (together block rows) [
+  | inl none ↦ ap (λ (m : Option MergeValue). blocks_merge (block_by block m) rows) none
+  | inr both ↦ ap (λ (m : Option MergeValue). blocks_merge (block_by block m) rows) both.merge ∙ behind_own block rows both ∙ sym both.merge
+]
 
 -- the merged table is put at the head of a block once
 block_twice : (block other rows : Option (List ℕ)) (merge : Option MergeValue) → merge ≡ blocks_merge other rows
     → block_by (block_by block merge) merge ≡ block_by block merge
-unfolding blocks_merge
-block_twice None other rows merge is = refl
-block_twice (Some bytes) other rows None is = refl
-block_twice (Some bytes) other rows (Some merge) is =
-    let both = tables_both (block_table other) (block_table rows) merge (sym is) in
-    let first = block_read other both.0 both.2 in
-    let second = block_read rows both.1 both.3 in
-    ap (λ (m : MergeValue). let b : Option (List ℕ) = Some (merged_block m.table (merged_block m.table bytes)) in b) both.4
-    ∙ ap (λ (b : List ℕ). Some b) (merged_same both.0 both.1 first second bytes)
-    ∙ ap (λ (m : MergeValue). let b : Option (List ℕ) = Some (merged_block m.table bytes) in b) (sym both.4)
+block_twice block other rows merge is = by (together other rows)
+  where
+    twice : (m : Option MergeValue) → merge ≡ m → block_by (block_by block m) m ≡ block_by block m → block_by (block_by block merge) merge ≡ block_by block merge
+    twice m same once = ap (λ (m : Option MergeValue). block_by (block_by block m) m) same ∙ once ∙ sym (ap (block_by block) same)
+
+    by : (blocks_merge other rows ≡ None) ⊎ ComeTogether other rows → block_by (block_by block merge) merge ≡ block_by block merge
+    by (inl none) = twice None (is ∙ none) refl
+    by (inr both) =
+        twice (Some (merge_of_both both)) (is ∙ both.merge)
+        (ap (λ (b : List ℕ). Some b) (merged_same both.own both.other both.own_is both.other_is (rest_for (merge_of_both both) block)))
 
 pub map-same : {A B : Type 0} (f g : A → B) (xs : List A) → ((x : A) → f x ≡ g x) → map f xs ≡ map g xs
 map-same f g xs each = λ k. map (λ x. each x k) xs

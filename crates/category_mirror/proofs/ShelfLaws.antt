@@ -2,7 +2,7 @@
 use Rattle.std.proofs.lemmas.Bool.Decides.{nat_tests}
 use Rattle.std.proofs.lemmas.List.{set-get_or}
 use Rattle.std.proofs.Common.{arith, inl, inr, ◌⊎◌, ◌≡◌, ◌∙◌, ◌<◌, ◌==◌, ◌&&◌, ◌||◌, ap, refl, sym, subst, not, ℕ, Bool, true, false, cond, List, [], ◌∷◌, ◌++◌, length, map}
-use Rattle.std.specs.Prelude.{Option, Some, None, IsSome, flat_map, nat_lt, option_and_then, slice_set, if◌then◌else◌}
+use Rattle.std.specs.Prelude.{Option, Some, None, flat_map, nat_lt, slice_set, if◌then◌else◌}
 use Rattle.std.specs.List.{AllByRecursion}
 use Rattle.std.specs.Option.{option_map, option_or}
 use Rattle.std.specs.Str.{bytes_eq}
@@ -31,9 +31,8 @@ use Rattle.category_mirror.proofs.ChangeLaws.{IsOneOf, changes-fit, changes-rise
 use Rattle.category_mirror.proofs.DoneLaws.{names_rise, rows-among}
 use Rattle.category_mirror.proofs.EvolveLaws.{found-same, jobs_named, merge_is, merge_none, whole}
 use Rattle.category_mirror.proofs.NamedMaps.{KeepsNames, map-is, not-among}
-use Rattle.category_mirror.proofs.SameLaws.{rows_stay}
+use Rattle.category_mirror.proofs.SameLaws.{rows_stay, still_some}
 use Rattle.category_mirror.proofs.WholeLaws.{IsWhole}
-use Rattle.category_mirror.proofs.WrittenLaws.{blocks_there}
 
 -- ---- one change among others
 
@@ -150,13 +149,6 @@ module _ (filing : Filing) where
         (holds_both (holds_resources own.rows.head.attributes) (holds_resources own.base.head.attributes) (is_refiled merge own.rows)
         own.rows_records own.base_records)
 
-    some_app : (merge : MergeValue) → merge_named filing name ≡ Some merge → IsSome own.rows.app
-    some_app merge is =
-        let both = blocks_there own.handheld.app (rows_app shelves name) merge (sym (merge_is filing name kept) ∙ is) in
-        let here : own.rows.app ≡ Some both.1 =
-        sym (ap (λ (o : Option DatabaseValue). option_and_then (λ (d : DatabaseValue). d.app) o) own.rows_there) ∙ both.3 in
-        subst IsSome (sym here) refl
-
     merged_view : (merge : MergeValue) → merge_named filing name ≡ Some merge → (b : Bool) → is_refiled merge own.rows ≡ b
         → IsUnchanged name ⊎ IsChangedSo name
     merged_view merge is true refiled = inr (record {
@@ -181,7 +173,7 @@ module _ (filing : Filing) where
       } in if b then change ∷ [] else []) still;
       quiet = ap (λ (m : Option MergeValue). change_by m (rows_at name)) is ∙ ap (change_by (Some merge)) own.rows_there ∙ still;
       rows = ap (λ (m : Option MergeValue). option_map (rows_by m) (rows_at name)) is ∙ ap (option_map (rows_by (Some merge))) own.rows_there
-          ∙ ap (λ (d : DatabaseValue). Some d) (rows_stay merge own.rows (some_app merge is) still) ∙ sym own.rows_there;
+          ∙ ap (λ (d : DatabaseValue). Some d) (rows_stay merge own.rows (still_some merge own.rows still) still) ∙ sym own.rows_there;
     })
 
     kept_view : (m : Option MergeValue) → merge_named filing name ≡ m → IsUnchanged name ⊎ IsChangedSo name

@@ -1,8 +1,10 @@
 -- The categories at the head of both sides' app blocks, and what becomes of the blocks once they
 -- are brought together (Palm File Format Specification; pilot-link's pi-appinfo.h).
-use Rattle.std.specs.Prelude.{ℕ, zero, suc, Bool, true, not, ◌==◌, ◌||◌, ◌&&◌, ◌<◌, List, ◌++◌}
+use Rattle.std.specs.Prelude.{ℕ, zero, suc, Bool, true, not, ◌==◌, ◌||◌, ◌&&◌, ◌<◌, List, [], ◌++◌}
 use Rattle.std.specs.Prelude.{Option, None, Some, drop, length, nat_lt, slice_index, take, if◌then◌else◌}
+use Rattle.std.specs.Option.{option_or}
 use Rattle.std.specs.Str.{bytes_eq}
+use Rattle.pdb_values.specs.Blocks.{block_length}
 use Rattle.category_tables.specs.Merges.{merged_table, places_of}
 use Rattle.category_tables.specs.Owned.{is_owned}
 use Rattle.category_tables.specs.Tables.{TableValue, is_used}
@@ -35,28 +37,62 @@ unfoldable pub block_table : Option (List ℕ) → Option TableValue
 block_table None = None
 block_table (Some bytes) = head_table (take 276 bytes)
 
--- the table that both sides have then, and the number that each of the desktop's numbers has in it
+-- the bytes of a block; none where it is not there
+abbrev pub block_bytes : Option (List ℕ) → List ℕ
+block_bytes None = []
+block_bytes (Some bytes) = bytes
+
+-- a block that the other side may get: it is no longer than a block can be
+abbrev pub lent : Option (List ℕ) → Option (List ℕ)
+lent block = if nat_lt 65500 (block_length block) then None else block
+
+-- a side without a block counts as having the other's
+abbrev pub handheld_block : Option (List ℕ) → Option (List ℕ) → Option (List ℕ)
+handheld_block handheld desktop = option_or handheld (lent desktop)
+
+abbrev pub desktop_block : Option (List ℕ) → Option (List ℕ) → Option (List ℕ)
+desktop_block handheld desktop = option_or desktop handheld
+
+-- the table that both sides have then, the number that each of the desktop's numbers has in it, and
+-- what stands behind the table in the block of a side that had none
 pub record MergeValue : Type 0 where
   pub table : TableValue
   pub numbers : List ℕ
+  pub rest : List ℕ
 
 -- each of the desktop's numbers has one of the 16
 abbrev pub AreNumbers : List ℕ → Type 0
 AreNumbers numbers = (number : ℕ) → number < 16 → slice_index numbers number < 16
 
-abbrev pub tables_merge : Option TableValue → Option TableValue → Option MergeValue
-tables_merge None desktop = None
-tables_merge (Some handheld) None = None
-tables_merge (Some handheld) (Some desktop) =
-    Some (record { table = merged_table handheld desktop; numbers = places_of handheld desktop })
+abbrev pub tables_merge : List ℕ → Option TableValue → Option TableValue → Option MergeValue
+tables_merge rest None desktop = None
+tables_merge rest (Some handheld) None = None
+tables_merge rest (Some handheld) (Some desktop) = Some (record {
+  table = merged_table handheld desktop;
+  numbers = places_of handheld desktop;
+  rest = rest;
+})
 
--- the merge of the blocks of both sides, where each begins with a table
+-- the merge of the blocks of both sides, where each begins with a table, or one does and the other
+-- side has none
 unfoldable pub blocks_merge : Option (List ℕ) → Option (List ℕ) → Option MergeValue
-blocks_merge handheld desktop = tables_merge (block_table handheld) (block_table desktop)
+blocks_merge handheld desktop =
+    tables_merge (drop 276 (block_bytes (desktop_block handheld desktop)))
+    (block_table (handheld_block handheld desktop)) (block_table (desktop_block handheld desktop))
 
 -- a block with this table at its head; the rest of it stays
 abbrev pub merged_block : TableValue → List ℕ → List ℕ
 merged_block table block = table_text table ++ drop 276 block
+
+-- what stands behind the table in a side's block then: what stood there, or stands there on the
+-- other side
+abbrev pub rest_for : MergeValue → Option (List ℕ) → List ℕ
+rest_for merge None = merge.rest
+rest_for merge (Some block) = drop 276 block
+
+-- a side's block then
+abbrev pub side_block : MergeValue → Option (List ℕ) → List ℕ
+side_block merge block = table_text merge.table ++ rest_for merge block
 
 -- a block has the text of this table at its head
 abbrev pub begins_with : TableValue → List ℕ → Bool
@@ -64,7 +100,6 @@ begins_with table block = bytes_eq (take 276 block) (table_text table)
 
 -- the block that the handheld gets, where its own differs
 abbrev pub written_block : Option (List ℕ) → Option MergeValue → Option (List ℕ)
-written_block None merge = None
-written_block (Some block) None = None
-written_block (Some block) (Some merge) =
-    if begins_with merge.table block then None else Some (merged_block merge.table block)
+written_block block None = None
+written_block block (Some merge) =
+    if begins_with merge.table (block_bytes block) then None else Some (side_block merge block)

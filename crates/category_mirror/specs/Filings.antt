@@ -6,13 +6,12 @@ use Rattle.pdb_values.specs.declared.record.Record.{Record}
 use Rattle.category_tables.specs.Merges.{places_of}
 use Rattle.category_tables.specs.Swaps.{swapped}
 use Rattle.category_tables.specs.Tables.{TableValue, is_used}
-use Rattle.category_mirror.specs.Blocks.{MergeValue, blocks_merge, merged_block}
+use Rattle.category_mirror.specs.Blocks.{MergeValue, blocks_merge, side_block}
 use Rattle.category_mirror.specs.Refiled.{refiled_record, refiled_rows}
 
 abbrev pub block_by : Option (List ℕ) → Option MergeValue → Option (List ℕ)
-block_by None merge = None
-block_by (Some block) None = Some block
-block_by (Some block) (Some merge) = Some (merged_block merge.table block)
+block_by block None = block
+block_by block (Some merge) = Some (side_block merge block)
 
 -- the handheld's app block then
 unfoldable pub filed_block : Option (List ℕ) → DatabaseValue → Option (List ℕ)

@@ -1,15 +1,10 @@
 -- Rows whose categories were brought together with the handheld's.
-use Rattle.std.specs.Prelude.{ℕ, zero, suc, ◌+◌, if◌then◌else◌, Bool, not, ◌==◌, ◌||◌, List, [], filter, length, map, Option, None, Some, slice_index}
+use Rattle.std.specs.Prelude.{ℕ, zero, suc, ◌+◌, if◌then◌else◌, Bool, not, ◌==◌, ◌||◌, List, filter, length, map, Option, None, Some, slice_index}
 use Rattle.pdb_values.specs.Databases.{DatabaseValue}
 use Rattle.pdb_values.specs.declared.record.Record.{Record}
 use Rattle.palm_device.specs.Records.{with_records}
 use Rattle.category_tables.specs.Tables.{TableValue, is_used}
-use Rattle.category_mirror.specs.Blocks.{MergeValue, begins_with, merged_block}
-
--- the bytes of a block; none where it is not there
-abbrev pub block_bytes : Option (List ℕ) → List ℕ
-block_bytes None = []
-block_bytes (Some bytes) = bytes
+use Rattle.category_mirror.specs.Blocks.{MergeValue, begins_with, block_bytes, side_block}
 
 -- a record in the category that its number has in the merge; all else of it stays
 abbrev pub refiled_record : List ℕ → Record → Record
@@ -21,7 +16,7 @@ refiled_record numbers item =
 -- rows with the merged table at the head of their block, each record in its category
 unfoldable pub refiled_rows : MergeValue → DatabaseValue → DatabaseValue
 refiled_rows merge rows = record rows {
-  app = Some (merged_block merge.table (block_bytes rows.app));
+  app = Some (side_block merge rows.app);
   records = map (refiled_record merge.numbers) rows.records;
 }
 

@@ -56,7 +56,7 @@ fn file_open<L: Link>(
         (L.fault db.new.linked.now.link)) }
 {
     let app = db.read_app(alloc)?;
-    let merge = blocks_merge(app.as_deref(), rows_app);
+    let merge = blocks_merge(alloc, app.as_deref(), rows_app)?;
     let written = written_block(alloc, app.as_deref(), &merge)?;
     write_where(db, written.as_deref())?;
     Ok(merge)
@@ -65,7 +65,7 @@ fn file_open<L: Link>(
 /// Brings the categories of one database together with those of a block of the desktop: reads the handheld's block, and writes the merged
 /// one where it differs. The database is opened for it and closed. After a refusal it may be left open, and only `halt` may follow.
 ///
-/// Answers how they come together, where both blocks begin with a table.
+/// Answers how they come together, where both blocks begin with a table, or one does and the other side has none, which then gets that one.
 pub fn file_one<L: Link>(
     alloc: Global,
     linked: &mut Linked<L>,

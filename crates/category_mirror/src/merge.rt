@@ -1,5 +1,6 @@
 // How the categories of two blocks come together.
 ghost use Rattle.std.specs.Prelude.{◌≡◌, ◌<◌, IfOk, drop, slice_index, take};
+ghost use Rattle.std.specs.Option.{option_copied};
 ghost use Rattle.category_tables.specs.Tables.{IsTable, table_value};
 ghost use Rattle.category_tables.specs.Tables as tables;
 ghost use Rattle.category_tables.specs.Merges.{merged_table, places_of};
@@ -12,12 +13,13 @@ use pdb_values::Category;
 use std::alloc::{AllocError, Global};
 use std::marker::Model;
 
-/// How the categories of one database come together: the table that both sides have then, and the number that each of the desktop's
-/// numbers has in it.
+/// How the categories of one database come together: the table that both sides have then, the number that each of the desktop's numbers
+/// has in it, and what stands behind the table in the block of a side that had none.
 #[derive(Drop)]
 pub struct Merge {
     table: Table,
     numbers: [u8; 16],
+    rest: Vec<u8>,
 }
 
 impl Model for Merge {
@@ -27,7 +29,11 @@ impl Model for Merge {
 
     ghost Value = { MergeValue };
 
-    ghost view = { λ merge. record { table = table_value merge.table; numbers = merge.numbers } };
+    ghost view = { λ merge. record {
+      table = table_value merge.table;
+      numbers = merge.numbers;
+      rest = merge.rest.items;
+    } };
 
     ghost invariant = { λ merge. AreNumbers merge.numbers };
 }
@@ -41,17 +47,22 @@ fn is_used(table: &Table, number: usize) -> bool
 }
 
 impl Merge {
-    /// The merge of two tables.
-    pub fn of(handheld: &Table, desktop: &Table) -> Merge
+    /// The merge of two tables, with what stands behind the table of a side that had no block.
+    pub fn of(handheld: &Table, desktop: &Table, rest: Vec<u8>) -> Merge
         requires handheld { IsTable (table_value handheld.now) }
         requires desktop { IsTable (table_value desktop.now) }
         ensures { result ≡ record {
           table = merged_table (table_value handheld.now) (table_value desktop.now);
           numbers = places_of (table_value handheld.now) (table_value desktop.now);
+          rest = rest.items;
         } }
     {
         let (table, numbers) = merge(handheld, desktop);
-        Merge { table, numbers }
+        Merge {
+            table,
+            numbers,
+            rest,
+        }
     }
 
     /// The number that a category of the desktop's has in the merged table.
@@ -86,14 +97,24 @@ impl Merge {
         Ok(head_of(block) == text.as_slice())
     }
 
-    /// A block with the merged table at its head in place of its first 276 bytes.
-    pub fn block(&self, alloc: Global, block: &[u8]) -> Result<Vec<u8>, AllocError>
+    // What stands behind the table in a side's block then.
+    fn rest_for<'m>(&'m self, block: Option<&'m [u8]>) -> &'m [u8]
+        ensures { result.now ≡ blocks.rest_for self.now (option_copied block.entry) }
+    {
+        match block {
+            Some(bytes) => rest_of(bytes),
+            None => &self.rest,
+        }
+    }
+
+    /// A side's block then: the merged table, and behind it what stood there, or what stands there on the other side where it had none.
+    pub fn block(&self, alloc: Global, block: Option<&[u8]>) -> Result<Vec<u8>, AllocError>
         ensures { IfOk result (λ merged. merged.items
-            ≡ blocks.merged_block self.now.table block.now) }
+            ≡ blocks.side_block self.now (option_copied block.entry)) }
     {
         let mut merged = Vec::new(alloc);
         write_table(&self.table, &mut merged)?;
-        merged.extend_from_slice(rest_of(block))?;
+        merged.extend_from_slice(self.rest_for(block))?;
         Ok(merged)
     }
 }
@@ -110,7 +131,7 @@ pub(crate) fn head_of(block: &[u8]) -> &[u8]
 }
 
 // What stands behind the first 276 bytes of a block.
-fn rest_of(block: &[u8]) -> &[u8]
+pub(crate) fn rest_of(block: &[u8]) -> &[u8]
     ensures { result.now ≡ drop 276 block.now }
 {
     if block.len() < 276 {

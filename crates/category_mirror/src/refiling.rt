@@ -1,24 +1,14 @@
 // Rows whose categories are brought together with the handheld's.
 ghost use Rattle.std.specs.Prelude.{◌≡◌, IfOk, false, map};
-ghost use Rattle.std.specs.Option.{option_copied};
 ghost use Rattle.pdb_values.specs.Heads.{holds_resources};
 ghost use Rattle.category_mirror.specs.Refiled as made;
-ghost use Rattle.category_mirror.specs.Refiled.{block_bytes, refiled_rows};
+ghost use Rattle.category_mirror.specs.Refiled.{refiled_rows};
 
+use crate::blocks::bytes_of;
 use crate::merge::Merge;
 use pdb_values::{Database, Record};
 use session_plan::refilled;
 use std::alloc::{AllocError, Global};
-
-// The bytes of a block; none where it is not there.
-fn bytes_of(block: Option<&[u8]>) -> &[u8]
-    ensures { result.now ≡ block_bytes (option_copied block.entry) }
-{
-    match block {
-        Some(bytes) => bytes,
-        None => &[],
-    }
-}
 
 // A record once more, in the category that its number has in the merge.
 fn refiled_record(alloc: Global, merge: &Merge, item: &Record) -> Result<Record, AllocError>
@@ -51,14 +41,14 @@ fn refiled_records(
     Ok(copies)
 }
 
-/// Rows once more, with the merged table at the head of their block, and each record in the category that its number has in the merge.
+/// Rows once more, with the merged table at the head of their block, which they get where they had none, and each record in the category that its number has in the merge.
 /// Order, ids and flags stay. More than a block can have counts as if there were no memory for it.
 pub fn refiled(alloc: Global, rows: &Database, merge: &Merge) -> Result<Database, AllocError>
     requires { holds_resources rows.now.head.attributes ≡ false }
     ensures { IfOk result (λ copy. copy ≡ refiled_rows merge.now rows.now) }
 {
     let records = refiled_records(alloc, merge, rows.records())?;
-    let block = merge.block(alloc, bytes_of(rows.app()))?;
+    let block = merge.block(alloc, rows.app())?;
     let mut copy = refilled(alloc, rows, records)?;
     match copy.set_app(Some(block)) {
         Ok(()) => Ok(copy),

@@ -1,5 +1,6 @@
 -- What a merged table is: a table, and one that the same desktop's merges into once more.
-use Rattle.std.proofs.Common.{arith, ◌≡◌, ◌∙◌, ap, inl, inr, refl, sym, ℕ, zero, suc, ◌<◌, ◌≤◌, ◌==◌, ◌||◌}
+use Rattle.std.proofs.Common.{arith, ◌≡◌, ◌∙◌, ap, inl, inr, refl, sym, ℕ, zero, suc, ◌<◌, ◌≤◌, ◌==◌, ◌||◌, ◌&&◌}
+use Rattle.std.specs.Prelude.{is_none, if◌then◌else◌}
 use Rattle.std.proofs.Common.{Bool, true, false, cond, List, [], ◌∷◌, Some, get_or, length, map, max, not}
 use Rattle.std.proofs.lemmas.Grind.{common_steps}
 use Rattle.std.proofs.lemmas.List.FromFn.{fill_by_all, get_or-map-range_with_len, length-map-range_with_len}
@@ -7,10 +8,10 @@ use Rattle.std.proofs.lemmas.List.Quantifiers.{position-Some}
 use Rattle.std.specs.List.{range_with_len}
 use Rattle.std.specs.Str.{bytes_eq}
 use Rattle.category_tables.specs.Tables.{CategoryValue, IsTable, TableValue, entry_at, has_label, is_renamed, is_used, no_entry}
-use Rattle.category_tables.specs.Merges.{MergingValue, greatest, kept, kept_at, merged_table, merging, of_id, of_label, places_of}
+use Rattle.category_tables.specs.Merges.{MergingValue, begun, by_id, by_label, greatest, is_new, kept, kept_at, merged_table, merging, of_id, of_label, places_of, rounds, with_entry}
 use Rattle.category_tables.proofs.AgainLaws.{stays_settled}
 use Rattle.category_tables.proofs.ByLabelLaws.{labelled_at, merged_placed, table_with}
-use Rattle.category_tables.proofs.JoinedLaws.{bears_found}
+use Rattle.category_tables.proofs.JoinedLaws.{all_joined, bears_found}
 use Rattle.category_tables.proofs.OwnedLaws.{labelled_used, own_id}
 use Rattle.category_tables.specs.Swaps.{IsSwapOf, swapped}
 use Rattle.category_tables.proofs.Settled.{AreSettled, IsMerged, IsSettled, IsThere, id_at, label_at}
@@ -219,3 +220,56 @@ swapped_back handheld desktop i j k one other swap some few used =
     (ap (λ (e : CategoryValue). of_id handheld.entries e.id) same
     ∙ own_id handheld (swapped i j k) one there.0 there.1
     (labelled_used handheld.entries (swapped i j k) there.0 ∙ ap has_label (sym same) ∙ sym (labelled_used desktop.entries k some) ∙ used))
+
+-- ---- any table that is merged with itself
+
+-- none of its numbers is new
+old_number : (t : TableValue) → IsTable t → (j : ℕ) → 1 ≤ j → j < 16 → is_new t t j ≡ false
+unfolding is_new
+old_number t is j some few = by (is_used t.entries j) refl
+  where
+    by : (b : Bool) → is_used t.entries j ≡ b → (is_used t.entries j && is_none (of_id t.entries (entry_at t.entries j).id)) ≡ false
+    by true used = rw (used, own_id t j is some few used) refl
+    by false none = rw none refl
+
+none_new : (t : TableValue) → IsTable t → (k : ℕ) → k < 16 → (m : MergingValue) → rounds (by_label t t) k m ≡ m
+unfolding rounds by_label
+none_new t is zero few m = refl
+none_new t is (suc k) few m =
+    ap (λ b. if b then with_entry (entry_at t.entries (suc k)) (suc k) (rounds (by_label t t) k m) else rounds (by_label t t) k m)
+    (old_number t is (suc k) (omega arith) few) ∙ none_new t is k (omega arith) m
+
+-- what comes of it uses the same numbers
+same_used : (t : TableValue) → IsTable t → (k : ℕ) → k < 16 → is_used (merged_table t t).entries k ≡ is_used t.entries k
+unfolding merged_table merging
+same_used t is zero few = refl
+same_used t is (suc k) few =
+    labelled_used (merging t t).entries (suc k) (omega arith)
+    ∙ ap (λ (m : MergingValue). has_label (entry_at m.entries (suc k))) (none_new t is 15 (omega arith) (rounds (by_id t t) 15 (begun t)))
+    ∙ (all_joined t t 15 is (omega arith) is.whole).ids.label (suc k) (omega arith) few
+    ∙ sym (labelled_used t.entries (suc k) (omega arith))
+
+-- each number that it uses stays, and the others go to 0
+self_places : (t : TableValue) → IsTable t → places_of t t ≡ own_places t
+unfolding own_places
+self_places t is = fill_by_all (own_place t) (places_of t t) 16 0 settled.whole at
+  where
+    settled : AreSettled (merged_table t t).entries t (places_of t t)
+    settled = merged_settled t t is is
+
+    by_use : (j : ℕ) → 1 ≤ j → j < 16 → (b : Bool) → is_used t.entries j ≡ b → get_or (places_of t t) j 0 ≡ own_place t j
+    by_use j some few true used = known_place t t j j is is some few used (own_id t j is some few used) ∙ rw used refl
+    by_use j some few false none = settled.other j some few none ∙ rw none refl
+
+    at : (j : ℕ) → j < 16 → get_or (places_of t t) j 0 ≡ own_place t j
+    at zero few = settled.first
+    at (suc j) few = by_use (suc j) (omega arith) few (is_used t.entries (suc j)) refl
+
+-- so they do once more
+pub self_again : (t : TableValue) → IsTable t → places_of (merged_table t t) (merged_table t t) ≡ places_of t t
+unfolding own_places
+self_again t is =
+    self_places (merged_table t t) (merged_is_table t t is is)
+    ∙ fill_by_all (own_place t) (own_places (merged_table t t)) 16 0 (length-map-range_with_len (own_place (merged_table t t)) 0 16)
+    (λ k few. get_or-map-range_with_len (own_place (merged_table t t)) 0 16 k k 0 few (omega arith) ∙ ap (λ b. cond b k 0) (same_used t is k few))
+    ∙ sym (self_places t is)

@@ -2,6 +2,7 @@
 import os
 import shutil
 
+from situations.categories import categorised
 from situations.rig import (
     DATE, DIRTY, LATER, LATEST, all_files, blocks_of, call, call_into, memos, pdb, put, records_of, texts, two_sides, want, want_line, want_run, situation,
 )
@@ -189,6 +190,46 @@ def memos_that_are_edited_as_text_keep_their_categories():
     made = bytearray(block)
     made[18:34], made[259] = b"Garden".ljust(16, b"\0"), 128
     want((blocks_of("h/MemoDB.pdb")[0], blocks_of("d/MemoDB.pdb")[0]), (block, bytes(made)), "blocks of both sides")
+
+
+NAMED = ["Unfiled", "Business", "Personal"], [0, 1, 2], 2
+
+
+@situation
+def a_desktops_new_file_gets_the_names_of_its_categories():
+    """`categories` gives a desktop's file without a block the handheld's whole one, and an export has the names then."""
+    put("h/MemoDB.pdb", categorised(*NAMED, [(1, 1, b"one\0"), (2, 2, b"two\0")], rest=b"\0\0\1\0"))
+    os.makedirs("d")
+    want_run("h", "d", DATE)
+    want(call("export", "d/MemoDB.pdb", "--as=txt")[1], ["--- 1", "one", "--- 2", "two"], "an export without names")
+    want(call("categories", "h", "d")[:2], (0, ["MemoDB categories 3 moved 0", "ended"]), "a session of categories")
+    want(blocks_of("d/MemoDB.pdb"), blocks_of("h/MemoDB.pdb"), "blocks of both sides")
+    want(call("export", "d/MemoDB.pdb", "--as=txt")[1], ["--- 1 Business", "one", "--- 2 Personal", "two"], "an export with names")
+    before = all_files("h", "d")
+    want(call("categories", "h", "d")[:2], (0, ["MemoDB categories 3 moved 0", "ended"]), "another session of categories")
+    want(all_files("h", "d"), before, "both sides behind it")
+    want_run("h", "d", LATER)
+    want_both(b"one\0", b"two\0")
+
+
+@situation
+def a_handhelds_database_without_a_block_gets_the_desktops():
+    """A handheld's program made it without one."""
+    put("h/MemoDB.pdb", categorised(*NAMED, [(1, 1, b"one\0")], rest=b"\0\0\1\0"))
+    os.makedirs("d")
+    want_run("h", "d", DATE)
+    put("d/MemoDB.pdb", categorised(*NAMED, [(1, 1, b"one\0")], rest=b"\0\0\1\0"))
+    put("h/MemoDB.pdb", pdb("MemoDB", records_of("h/MemoDB.pdb")))
+    want(call("categories", "h", "d")[:2], (0, ["MemoDB categories 3 moved 0", "ended"]), "a session of categories")
+    want(blocks_of("h/MemoDB.pdb"), blocks_of("d/MemoDB.pdb"), "blocks of both sides")
+    want_run("h", "d", LATER)
+    want_both(b"one\0")
+
+
+@situation
+def two_databases_without_a_block_are_passed_over():
+    two_sides()
+    want(call("categories", "h", "d")[:2], (0, ["MemoDB skipped blocks", "ended"]), "a session of categories")
 
 
 @situation
