@@ -1,11 +1,13 @@
 // Hints for whoever called, on standard error. Nothing is promised of them: what can't be said is left out.
 use call_parts::{Answer, Report};
+use category_tables::read_table;
 use cmd_status::{Status, push_name};
 use dlp_args::MessageText;
 use dlp_replies::{Reply, read_reply};
-use folder_files::JOURNAL;
+use folder_files::{DESKTOP_INFO, JOURNAL, read_desktop_info, rows_file};
 use hs_folders::Folder;
-use pdb_values::DbName;
+use pdb_files::read_database;
+use pdb_values::{Database, DbName};
 use run_clap::{Command, RunWords, read_command};
 use run_words::{NamedAction, Target, read_actions, run_actions};
 use session_parts::{Counts, DbReport, Did, Skip};
@@ -127,6 +129,7 @@ pub fn hint_folders<R: Eprint + AllocGlobal, H: Folder + Drop, D: Folder + Drop>
         Status::Done => {
             for database in &report.databases {
                 hint_database(rt, database);
+                hint_table(rt, database, &mut device, &mut desk);
             }
             hint_names(rt, &mut device);
             if asks_lists(&report.issued) {
@@ -156,6 +159,64 @@ fn hint_database<R: Eprint + AllocGlobal>(rt: &R, database: &DbReport) {
             );
         }
         _ => {}
+    }
+}
+
+// The command that brings categories' names to a desktop of one user whose file of a database has none.
+fn hint_table<R: Eprint + AllocGlobal, H: Folder, D: Folder>(
+    rt: &R,
+    database: &DbReport,
+    device: &mut H,
+    desk: &mut D,
+) {
+    let Did::Synced(_) = database.did else {
+        return;
+    };
+    let alloc = rt.alloc();
+    let Ok(stem) = database.name.file_stem(alloc) else {
+        return;
+    };
+    if lacks_block(alloc, desk, &database.name)
+        && has_table(alloc, device, &database.name)
+        && has_one_user(alloc, desk)
+    {
+        let _ = eprintln!(rt;
+            "hint: the desktop's {stem} has no category names yet: hotsync categories HANDHELD DESKTOP"
+        );
+    }
+}
+
+fn lacks_block<F: Folder>(alloc: Global, folder: &mut F, name: &DbName) -> bool {
+    match database_in(alloc, folder, name) {
+        Some(database) => database.app().is_none(),
+        None => false,
+    }
+}
+
+fn has_table<F: Folder>(alloc: Global, folder: &mut F, name: &DbName) -> bool {
+    let Some(database) = database_in(alloc, folder, name) else {
+        return false;
+    };
+    match database.app() {
+        Some(block) => read_table(block).is_some(),
+        None => false,
+    }
+}
+
+// The database of records of this name in a folder, where it can be read.
+fn database_in<F: Folder>(alloc: Global, folder: &mut F, name: &DbName) -> Option<Database> {
+    let file = rows_file(alloc, name).ok()?;
+    let bytes = folder.read(alloc, &file).ok()?;
+    read_database(alloc, &bytes).ok()
+}
+
+fn has_one_user<F: Folder>(alloc: Global, desk: &mut F) -> bool {
+    let Ok(bytes) = desk.read(alloc, DESKTOP_INFO) else {
+        return false;
+    };
+    match read_desktop_info(alloc, &bytes) {
+        Ok(slots) => slots.len() == 1,
+        Err(_) => false,
     }
 }
 
