@@ -25,6 +25,13 @@ def reset(*names):
         put(f"h/{name}.pdb", pdb(name, []))
 
 
+def two_named_sides():
+    """A handheld with one database, and a desktop that it met before, by its user's name."""
+    put("h/MemoDB.pdb", pdb("MemoDB", memos("one", "two", "three")))
+    os.makedirs("d")
+    want_run("h", "d", DATE, "--user=Jane")
+
+
 def want_both(*wanted, name="MemoDB"):
     """Both sides have these contents, and no other."""
     want((texts(f"h/{name}.pdb"), texts(f"d/{name}.pdb")), (sorted(wanted), sorted(wanted)), f"both sides of {name}")
@@ -104,6 +111,35 @@ def somebody_elses_handheld_meets_a_desktop():
     want_run("other", "theirs", DATE)
     want_refused("other", "d", LATER)
     want_run("h", "d", LATER)
+    want_both(*THREE)
+
+
+@situation
+def somebody_elses_handheld_with_a_name_meets_a_desktop():
+    """Both have a name of their own: it is another user, whatever name is asked for."""
+    two_named_sides()
+    put("other/MemoDB.pdb", pdb("MemoDB", [(0, 0x777, b"theirs\0")]))
+    os.makedirs("theirs")
+    want_run("other", "theirs", DATE, "--user=Tom")
+    before = all_files(".")
+    for words in ((), ("--user=Jane",), ("--user=Tom",)):
+        status, lines, _ = call("run", "other", "d", LATER, *words)
+        want((status, lines[0].split()[:2]), (7, ["other", "user"]), f"another user with {words}")
+    want(all_files("."), before, "files behind three refusals")
+    want_run("h", "d", LATER, "--user=Jane")
+    want_both(*THREE)
+
+
+@situation
+def a_reset_handheld_with_a_name_is_a_stranger():
+    """Its desktop is found by the name, and keeps what the handheld lost; both sides get another number."""
+    two_named_sides()
+    shutil.rmtree("h")
+    put("h/MemoDB.pdb", pdb("MemoDB", []))
+    want_refused("h", "d", LATER, "--user=Jane")
+    want_run("h", "d", LATER, "--user=Jane", "--actions=MemoDB:desktop")
+    want_both(*THREE)
+    want_run("h", "d", LATEST)
     want_both(*THREE)
 
 
@@ -201,10 +237,10 @@ def a_desktops_new_file_gets_the_names_of_its_categories():
     put("h/MemoDB.pdb", categorised(*NAMED, [(1, 1, b"one\0"), (2, 2, b"two\0")], rest=b"\0\0\1\0"))
     os.makedirs("d")
     want_run("h", "d", DATE)
-    want(call("export", "d/MemoDB.pdb", "--as=txt")[1], ["--- 1", "one", "--- 2", "two"], "an export without names")
+    want(call("export", "d/MemoDB.pdb", "--as=txt")[1], ["--- 000001", "one", "--- 000002", "two"], "an export without names")
     want(call("categories", "h", "d")[:2], (0, ["MemoDB categories 3 moved 0", "ended"]), "a session of categories")
     want(blocks_of("d/MemoDB.pdb"), blocks_of("h/MemoDB.pdb"), "blocks of both sides")
-    want(call("export", "d/MemoDB.pdb", "--as=txt")[1], ["--- 1 Business", "one", "--- 2 Personal", "two"], "an export with names")
+    want(call("export", "d/MemoDB.pdb", "--as=txt")[1], ["--- 000001 Business", "one", "--- 000002 Personal", "two"], "an export with names")
     before = all_files("h", "d")
     want(call("categories", "h", "d")[:2], (0, ["MemoDB categories 3 moved 0", "ended"]), "another session of categories")
     want(all_files("h", "d"), before, "both sides behind it")
@@ -219,11 +255,26 @@ def a_handhelds_database_without_a_block_gets_the_desktops():
     os.makedirs("d")
     want_run("h", "d", DATE)
     put("d/MemoDB.pdb", categorised(*NAMED, [(1, 1, b"one\0")], rest=b"\0\0\1\0"))
-    put("h/MemoDB.pdb", pdb("MemoDB", records_of("h/MemoDB.pdb")))
+    put("h/MemoDB.pdb", pdb("MemoDB", records_of("h/MemoDB.pdb"), creator=b"memo"))
     want(call("categories", "h", "d")[:2], (0, ["MemoDB categories 3 moved 0", "ended"]), "a session of categories")
     want(blocks_of("h/MemoDB.pdb"), blocks_of("d/MemoDB.pdb"), "blocks of both sides")
     want_run("h", "d", LATER)
     want_both(b"one\0")
+
+
+@situation
+def a_memo_in_a_category_that_got_another_number_is_edited():
+    """The handheld renumbers two categories and changes a memo in one: behind `categories` it is one memo still."""
+    put("h/MemoDB.pdb", categorised(*NAMED, [(1, 1, b"one\0"), (2, 2, b"two\0")]))
+    os.makedirs("d")
+    want_run("h", "d", DATE)
+    want(call("categories", "h", "d")[:2], (0, ["MemoDB categories 3 moved 0", "ended"]), "a session of categories")
+    moved = [(DIRTY | 2, 1, b"one more\0"), (DIRTY | 1, 2, b"two\0")]
+    put("h/MemoDB.pdb", categorised(["Unfiled", "Personal", "Business"], [0, 2, 1], 2, moved))
+    want(call("categories", "h", "d")[:2], (0, ["MemoDB categories 3 moved 2", "ended"]), "a session behind new numbers")
+    want_run("h", "d", LATER)
+    wanted = [(1, b"two\0"), (2, b"one more\0")]
+    want((filed("h/MemoDB.pdb"), filed("d/MemoDB.pdb")), (wanted, wanted), "categories of both sides")
 
 
 @situation
