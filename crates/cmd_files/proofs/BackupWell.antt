@@ -1,26 +1,19 @@
 -- A backup that nothing disturbs is done whole.
-use Rattle.std.proofs.Common.{◌≡◌, ◌⊎◌, List, ℕ, inl, inr, refl, subst, true, false}
+use Rattle.std.proofs.Common.{◌≡◌, List, ℕ, inl, inr, subst, true, false}
 use Rattle.std.specs.Prelude.{IfSome, Option, Some}
 use Rattle.hs_folders.specs.FileMaps.{FileMap}
 use Rattle.run_words.specs.Betweens.{Between}
-use Rattle.line_script.specs.Scripts.{fate_by}
-use Rattle.line_steps.specs.declared.harm.Stop.TheVariants as stop
-use Rattle.line_world.specs.Causes.{BearsOut}
-use Rattle.line_world.specs.Stops.{EndsBy}
 use Rattle.cmd_status.specs.Printed.{IsPrinted}
 use Rattle.cmd_status.specs.Told.{SinkTold}
-use Rattle.cmd_files.specs.Backups.{BackupRan, BackupRefuses, BackupShows, HasBackedUp, IsCalmBackup, backup_command}
+use Rattle.cmd_files.specs.Backups.{BackupRefuses, BackupShows, HasBackedUp, IsCalmBackup, backup_command}
+use Rattle.cmd_files.proofs.WellLaws.{IsOwnStop, call_well, session_well}
 use Rattle.call_parts.specs.Files.{is_synced}
-use Rattle.call_parts.specs.Causes.{EndsAs, IsLineDown, cause_in}
-use Rattle.call_parts.specs.LineRuns.{frames_in}
-use Rattle.call_parts.specs.SessionCalls.{SentNothing}
 use Rattle.call_parts.specs.Told.{CallTold}
 use Rattle.call_parts.specs.Undisturbed.{EndsWell}
-use Rattle.call_parts.proofs.UndisturbedLaws.{BlamesNone, by_end_well, failed_desktop, failed_handheld, judged_handheld, judged_script, never_aborted, never_unplugged}
+use Rattle.call_parts.proofs.UndisturbedLaws.{BlamesNone, failed_desktop, failed_handheld, judged_handheld, judged_script}
 use Rattle.call_parts.specs.declared.report.Report.{Report}
 use Rattle.cmd_status.specs.declared.status.Status.{Status}
-use Rattle.cmd_status.specs.declared.status.Status.TheVariants.{HandheldFolder, DesktopFolder}
-use Rattle.cmd_status.specs.declared.status.Status.TheVariants.{Done, TraceWrite, OutWrite, NoMemory, LineDown, Unplugged, Aborted, Undetected}
+use Rattle.cmd_status.specs.declared.status.Status.TheVariants.{NoMemory}
 use Rattle.cmd_status.specs.declared.status.Status.TheVariants.{OtherUser, TooManyUsers, Limit, NewHandheld}
 
 -- ---- what is judged before a session
@@ -43,67 +36,18 @@ judged words calm blames (inr (_, inr (_, inr (_, refuses)))) = elim refuses.is 
 
 -- ---- a session
 
--- what is known of it over a kind line, where no object failed
-record RanWell (status : Status) (report : Report) : Type 0 where
-  pub ends : EndsAs status report.end
-  pub caused : BearsOut (cause_in status report.faulted.items) (frames_in report)
-  pub shows : BackupShows status
-  pub blames : BlamesNone status
-  pub up : ¬ (IsLineDown status)
-  pub unplugged : EndsBy stop.Unplugged (frames_in report) → ⊥
-  pub aborted : EndsBy stop.Aborted (frames_in report) → ⊥
-
-ends_well : (status : Status) {report : Report} → RanWell status report → EndsWell status report
-ends_well Done ran = inl (refl, ran.ends)
-ends_well NoMemory ran = inr (inl refl)
-ends_well TraceWrite ran = absurd (ran.blames.trace refl)
-ends_well OutWrite ran = absurd (ran.blames.out refl)
-ends_well HandheldFolder ran = absurd (ran.blames.handheld refl)
-ends_well DesktopFolder ran = absurd (ran.blames.desktop refl)
-ends_well (LineDown end) ran = absurd (ran.up tt)
-ends_well (Unplugged number) ran = absurd (ran.unplugged ran.caused.1)
-ends_well (Aborted number) ran = absurd (ran.aborted ran.caused.1)
-ends_well (Undetected number) ran = inr (inr (number, refl, ran.caused.1))
-ends_well (OtherUser handheld desktop) ran = absurd ran.shows
-ends_well TooManyUsers ran = absurd ran.shows
-ends_well (Limit name) ran = absurd ran.shows
-ends_well (NewHandheld name) ran = absurd ran.shows
-ends_well _ ran = absurd ran.ends
-
-module _ (words : Between) {before after : CallTold} {out out_after : SinkTold} {status : Status} (report : Report)
-    (calm : IsCalmBackup words before after out out_after report) where
-  session_ends_well : BlamesNone status → BackupRan words before after status report → EndsWell status report
-  session_ends_well blames ran =
-      let spoke = ran.had.spoke in
-      let kind = calm.line ran.rules ran.scripted in
-      ends_well status {report = report} (record {
-        ends = spoke.why.ends;
-        caused = spoke.why.caused;
-        shows = ran.had.shows;
-        blames = blames;
-        up = spoke.why.fair kind.fair;
-        unplugged = never_unplugged (fate_by ran.rules) (frames_in report) spoke.line.proper.numbered kind.goes_on;
-        aborted = never_aborted (fate_by ran.rules) (frames_in report) spoke.line.proper.numbered kind.goes_on;
-      })
-
-  sent_nothing_well : BlamesNone status → (status ≡ NoMemory) ⊎ BackupRefuses words before status → EndsWell status report
-  sent_nothing_well blames (inl memory) = inr (inl memory)
-  sent_nothing_well blames (inr refused) = inr (inl (judged words calm blames refused))
+-- it stops for nothing that it finds
+finds_none : (status : Status) → BackupShows status → IsOwnStop status → ⊥
+finds_none (OtherUser handheld desktop) shows own = shows
+finds_none TooManyUsers shows own = shows
+finds_none (Limit name) shows own = shows
+finds_none (NewHandheld name) shows own = shows
+finds_none _ shows own = own
 
 -- a backup that nothing disturbs is done whole
 pub backup_ends_well : (words : Between) (before after : CallTold) (out out_after : SinkTold) (status : Status) (report : Report) {IsText : List ℕ → Type 0}
     → HasBackedUp words before after status report → IsPrinted IsText out out_after status → IsCalmBackup words before after out out_after report
     → EndsWell status report
 backup_ends_well words before after out out_after status report has printed calm =
-    let failed = calm.none_failed in
-    let blames : BlamesNone status = record {
-      source = λ e. failed.reading (has.blames.source e);
-      handheld = λ e. failed.handheld (has.blames.folders.handheld e);
-      desktop = λ e. failed.desktop (has.blames.folders.desktop e);
-      handheld_in_use = λ e. failed.handheld (has.blames.handheld_in_use e);
-      desktop_in_use = λ e. failed.desktop (has.blames.desktop_in_use e);
-      trace = λ e. failed.tracing (has.blames.trace e);
-      out = λ e. failed.printing (printed.failed e);
-    } in
-    by_end_well report.end (SentNothing (backup_command words) before after status report) (BackupRan words before after status report)
-    (EndsWell status report) (λ sent. sent_nothing_well words report calm blames sent.judged) (session_ends_well words report calm blames) has.shown
+    call_well (backup_command words) before after has printed calm.none_failed (judged words calm)
+    (λ blames ran. session_well ran.had.spoke (calm.line ran.rules ran.scripted) blames (finds_none status ran.had.shows))

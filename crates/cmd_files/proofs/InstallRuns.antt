@@ -1,8 +1,9 @@
 -- What is known of an install with a session, from before its folder was opened on, whatever is printed of it.
 use Rattle.std.proofs.Common.{◌≡◌, ◌∙◌, ◌^◌, ◌-◌, ◌≤◌, inl, inr, refl, sym, subst, [], ◌∷◌}
-use Rattle.std.specs.Prelude.{IfSome}
+use Rattle.std.specs.Prelude.{IfSome, false}
 use Rattle.hs_folders.specs.Moments.{EachMomentSince, Moments}
 use Rattle.pdb_values.specs.Databases.{DatabaseValue}
+use Rattle.pdb_values.specs.Heads.{is_read_only}
 use Rattle.palm_device.specs.Devices.{Device}
 use Rattle.palm_device.specs.Handles.{no_handles}
 use Rattle.handheld_files.specs.Openings.{HoldsAll}
@@ -14,7 +15,8 @@ use Rattle.cmd_status.specs.Opening.{Opens, OpensGiven, OpensGivenAtMost}
 use Rattle.cmd_status.specs.Printed.{IsPrintedStatus}
 use Rattle.cmd_status.specs.Told.{SinkTold, SourceTold}
 use Rattle.cmd_files.specs.Besides.{StandsBeside}
-use Rattle.cmd_files.specs.Installs.{HadInstall, HasInstalled, InstallRan, InstallRefuses, IsInstallTalk, install_command}
+use Rattle.cmd_files.specs.Installs.{HasInstalled, InstallRan, InstallRefuses, install_command}
+use Rattle.cmd_files.specs.Loads.{HadLoad, IsLoadTalk}
 use Rattle.call_parts.specs.Refusals.{BlamesSource}
 use Rattle.call_parts.specs.SessionCalls.{SentNothing}
 use Rattle.call_parts.specs.Stays.{StaysAsItWas}
@@ -22,7 +24,7 @@ use Rattle.call_parts.specs.Sessions.{KeptSilent}
 use Rattle.call_parts.specs.Told.{CallTold, FolderTold, sides_of}
 use Rattle.call_parts.specs.Traces.{TracesReport}
 use Rattle.call_parts.proofs.CallPrinted.{IsPrintable, call_printed}
-use Rattle.cmd_files.proofs.InstallSpoke.{install_retold}
+use Rattle.cmd_files.proofs.LoadSpoke.{load_retold}
 use Rattle.call_parts.proofs.RefusalLaws.{handheld_alone, trace_alone}
 use Rattle.call_parts.proofs.RetoldLaws.{StaysShown, by_end_then}
 use Rattle.call_parts.proofs.RetoldCalls.{retold_done, retold_served, traced_as}
@@ -39,6 +41,7 @@ use Rattle.folder_copies.proofs.CopyLaws.{rose_before}
 pub record AreOpenedFor (words : Between) (before : CallTold) (source : SourceTold) (palm : FolderTold) (trace : SinkTold) (device : Device)
     (database : DatabaseValue) : Type 0 where
   pub file : IfSome before.source.left (λ bytes. IsInstallFile bytes database)
+  pub writable : is_read_only database.head.attributes ≡ false
   pub file_opened : Opens words.other before.source.paths source.paths
   pub handheld : IfSome before.palm.contents (λ held. HoldsAll held device.databases device.user)
   pub closed : device.handles ≡ no_handles
@@ -62,11 +65,12 @@ module _ {words : Between} (before after : CallTold) {palm : FolderTold} {trace 
     trace = traced.silent silent.report_is.frames ∙ opened.trace_taken;
   }
 
-  session_install : TracesReport words.trace report trace after.trace status → HadInstall device database palm after.palm status report
+  session_install : TracesReport words.trace report trace after.trace status → HadLoad [] (install_mark database) device (database ∷ []) palm after.palm status report
       → InstallRan words before after status report
   session_install traced had = record {
     database = database;
     file = opened.file;
+    writable = opened.writable;
     device = device;
     handheld = opened.handheld;
     closed = opened.closed;
@@ -85,11 +89,11 @@ module _ {words : Between} (before after : CallTold) {palm : FolderTold} {trace 
   }
 
   -- an install with a session
-  pub by_install : IsInstallTalk device database (both_told palm before.desk) (sides_of after) status report
+  pub by_install : IsLoadTalk [] (install_mark database) device (database ∷ []) (both_told palm before.desk) (sides_of after) status report
       → TracesReport words.trace report trace after.trace status → HasInstalled words before after status report
   by_install talk traced = record {
     shown = by_end_then report.end {A = KeptSilent (both_told palm before.desk) (sides_of after) status report}
-        {B = HadInstall device database palm after.palm status report} {C = SentNothing (install_command words) before after status report}
+        {B = HadLoad [] (install_mark database) device (database ∷ []) palm after.palm status report} {C = SentNothing (install_command words) before after status report}
         {D = InstallRan words before after status report} (silent_install traced) (session_install traced) talk.shown;
     blames = record {
       source = λ e. absurd (talk_not_source talk (λ had. had.spoke.why.ends) (subst BlamesSource (sym e) tt));
@@ -124,10 +128,11 @@ ran_retold : (words : Between) (before after : CallTold) → StaysShown (Install
 ran_retold words before after status other report is ran = record {
   database = ran.database;
   file = ran.file;
+  writable = ran.writable;
   device = ran.device;
   handheld = ran.handheld;
   closed = ran.closed;
-  had = install_retold ran.device ran.database before.palm after.palm status other report is ran.had;
+  had = load_retold [] (install_mark ran.database) ran.device (ran.database ∷ []) before.palm after.palm status other report is ran.had;
   desktop = ran.desktop;
   traced = traced_as other (retold_done other is) (retold_served other is) ran.traced;
 }

@@ -15,7 +15,8 @@ use Rattle.cmd_status.specs.Opening.{Opens, OpensGiven, OpensGivenAtMost}
 use Rattle.cmd_status.specs.Printed.{IsPrintedStatus}
 use Rattle.cmd_status.specs.Told.{SinkTold, SourceTold}
 use Rattle.cmd_files.specs.Besides.{StandsBeside}
-use Rattle.cmd_files.specs.Restores.{HadRestore, HasRestored, IsRestoreTalk, RestoreRan, RestoreRefuses, restore_command}
+use Rattle.cmd_files.specs.Loads.{HadLoad, IsLoadTalk}
+use Rattle.cmd_files.specs.Restores.{HasRestored, RestoreRan, RestoreRefuses, restore_command}
 use Rattle.call_parts.specs.Refusals.{BlamesSource}
 use Rattle.call_parts.specs.Scripts.{IsScripted}
 use Rattle.call_parts.specs.SessionCalls.{SentNothing}
@@ -24,7 +25,7 @@ use Rattle.call_parts.specs.Sessions.{KeptSilent}
 use Rattle.call_parts.specs.Told.{CallTold, FolderTold, sides_of}
 use Rattle.call_parts.specs.Traces.{TracesReport}
 use Rattle.cmd_files.proofs.RestoreRefused.{backups_alone}
-use Rattle.cmd_files.proofs.RestoreSpoke.{restore_retold}
+use Rattle.cmd_files.proofs.LoadSpoke.{load_retold}
 use Rattle.call_parts.proofs.CallPrinted.{IsPrintable, call_printed}
 use Rattle.call_parts.proofs.RefusalLaws.{handheld_alone, script_alone, trace_alone}
 use Rattle.call_parts.proofs.RetoldLaws.{StaysShown, by_end_then}
@@ -71,7 +72,7 @@ module _ {words : Between} (before after : CallTold) {palm desk : FolderTold} {t
     trace = traced.silent silent.report_is.frames ∙ opened.trace_taken;
   }
 
-  session_restore : TracesReport words.trace report trace after.trace status → HadRestore rules device databases palm after.palm status report
+  session_restore : TracesReport words.trace report trace after.trace status → HadLoad rules (restore_mark databases) device databases palm after.palm status report
       → RestoreRan words before after status report
   session_restore traced had = record {
     rules = rules;
@@ -96,11 +97,11 @@ module _ {words : Between} (before after : CallTold) {palm desk : FolderTold} {t
   }
 
   -- a restore with a session
-  pub by_restore : IsRestoreTalk rules device databases (both_told palm desk) (sides_of after) status report
+  pub by_restore : IsLoadTalk rules (restore_mark databases) device databases (both_told palm desk) (sides_of after) status report
       → TracesReport words.trace report trace after.trace status → HasRestored words before after status report
   by_restore talk traced = record {
     shown = by_end_then report.end {A = KeptSilent (both_told palm desk) (sides_of after) status report}
-        {B = HadRestore rules device databases palm after.palm status report} {C = SentNothing (restore_command words) before after status report}
+        {B = HadLoad rules (restore_mark databases) device databases palm after.palm status report} {C = SentNothing (restore_command words) before after status report}
         {D = RestoreRan words before after status report} (silent_restore traced) (session_restore traced) talk.shown;
     blames = record {
       source = λ e. absurd (talk_not_source talk (λ had. had.spoke.why.ends) (subst BlamesSource (sym e) tt));
@@ -141,7 +142,7 @@ ran_retold words before after status other report is ran = record {
   closed = ran.closed;
   databases = ran.databases;
   backups = ran.backups;
-  had = restore_retold ran.rules ran.device ran.databases before.palm after.palm status other report is ran.had;
+  had = load_retold ran.rules (restore_mark ran.databases) ran.device ran.databases before.palm after.palm status other report is ran.had;
   desktop = ran.desktop;
   traced = traced_as other (retold_done other is) (retold_served other is) ran.traced;
 }

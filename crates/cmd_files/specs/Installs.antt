@@ -1,35 +1,30 @@
 -- What holds of every install: all objects before it, and all of them after it.
-use Rattle.std.specs.Prelude.{◌≡◌, ◌⊎◌, ⊤, ℕ, true, false, List, [], ◌∷◌, ◌++◌, map, Option, None, Some, IfSome}
-use Rattle.hs_folders.specs.Moments.{EachMomentSince}
+use Rattle.std.specs.Prelude.{◌≡◌, ◌⊎◌, ℕ, true, false, List, [], ◌∷◌, map, Option, None, Some, IfSome}
 use Rattle.pdb_values.specs.Databases.{DatabaseValue}
+use Rattle.pdb_values.specs.Heads.{is_read_only}
 use Rattle.palm_device.specs.Devices.{Device}
 use Rattle.palm_device.specs.Handles.{no_handles}
 use Rattle.handheld_files.specs.Openings.{HoldsAll, Stands}
 use Rattle.trace_text.specs.TraceLines.{trace_text}
-use Rattle.desktop_session.specs.Acts.{Act, text}
+use Rattle.desktop_session.specs.Acts.{text}
 use Rattle.session_parts.specs.declared.report.DbReport.{DbReport}
 use Rattle.session_parts.specs.declared.report.Did.TheVariants.{Installed}
 use Rattle.install_backup.specs.Installed.{with_installed}
 use Rattle.install_backup.specs.InstallActs.{install_acts, install_mark, written_count}
-use Rattle.install_backup.specs.Installs.{making_acts}
-use Rattle.install_backup.specs.Marks.{marked_greeting, marked_user}
+use Rattle.install_backup.specs.Marks.{marked_user}
 use Rattle.install_backup.specs.Rooms.{has_room}
 use Rattle.run_words.specs.Betweens.{Between}
 use Rattle.hotsync_looks.specs.InstallFiles.{FileRefuses, IsInstallFile}
 use Rattle.cmd_status.specs.Told.{SinkTold}
 use Rattle.cmd_status.specs.declared.status.Status.{Status}
-use Rattle.cmd_status.specs.declared.status.Status.TheVariants.{DesktopFolder, Limit, NewHandheld, OtherUser, TooManyUsers}
-use Rattle.cmd_files.specs.Besides.{StandsBeside}
-use Rattle.call_parts.specs.Causes.{IsCutShort}
+use Rattle.cmd_files.specs.Loads.{HadLoad}
 use Rattle.call_parts.specs.LineRuns.{SaidAll, frames_in}
 use Rattle.call_parts.specs.Refusals.{HandheldRefuses, HasHandheld, TraceRefuses}
 use Rattle.call_parts.specs.SessionCalls.{IsSessionCall, MayHaveSession, Paths, SessionCommand}
-use Rattle.call_parts.specs.Sessions.{Agenda, HadSession, IsTalk}
-use Rattle.call_parts.specs.Told.{CallTold, FolderTold, SidesTold}
+use Rattle.call_parts.specs.Told.{CallTold, FolderTold}
 use Rattle.call_parts.specs.Traces.{TakesTrace}
 use Rattle.call_parts.specs.Undisturbed.{IsGoodHandheld, NoneFailed}
 use Rattle.call_parts.specs.declared.report.Report.{Report}
-use Rattle.call_parts.specs.declared.report.SessionEnd.TheVariants.{Ended}
 
 -- ---- an install that sent nothing
 
@@ -48,22 +43,7 @@ InstallRefuses words before refusal =
 
 -- ---- an install with a session
 
--- what a handheld is asked for, with the mark that a database of records wants
-abbrev pub acts_of_install : Device → DatabaseValue → List Act
-acts_of_install device database =
-    install_acts (install_mark database) device.user (database ∷ [])
-
--- the session of an install over a line that loses nothing: the handheld, and all of its requests
-abbrev pub install_agenda : Device → DatabaseValue → Agenda
-install_agenda device database =
-    record { rules = []; device = device; asked = map text (acts_of_install device database) }
-
--- what a handheld is asked for that has no room for it
-abbrev pub acts_until_full : Device → DatabaseValue → List Act
-acts_until_full device database =
-    marked_greeting (install_mark database) device.user ++ making_acts database
-
--- what is told of it
+-- what is told of it: how many of its entries were installed
 abbrev pub install_report : DatabaseValue → DbReport
 install_report database =
     record { name = database.head.name; did = Installed (written_count database) }
@@ -74,65 +54,24 @@ install_report database =
 pub record EndedInstall (device : Device) (database : DatabaseValue) (palm_after : FolderTold)
     (report : Report) : Type 0 where
   pub room : has_room database.head.name device.databases ≡ true
-  pub said : SaidAll (map text (acts_of_install device database)) report
+  pub said : SaidAll
+      (map text (install_acts (install_mark database) device.user (database ∷ []))) report
   pub handheld : Stands palm_after.contents (with_installed database device.databases)
       (marked_user (install_mark database) device.user)
   pub told : report.databases.items ≡ install_report database ∷ []
 
--- what an install leaves where it ended, and however it ended, at each moment
-pub record InstallLeft (device : Device) (database : DatabaseValue) (before after : FolderTold)
-    (report : Report) : Type 0 where
-  pub ended : report.end ≡ Ended → EndedInstall device database after report
-  pub beside : StandsBeside (install_mark database) device (database ∷ []) after.contents
-  pub each_moment : EachMomentSince (StandsBeside (install_mark database) device (database ∷ []))
-      before.moments after.moments
-
--- it stopped for want of room for this database: no more was asked for than that it be made
-pub record StopsFull (device : Device) (database : DatabaseValue) (report : Report)
-    (name : List ℕ) : Type 0 where
-  pub named : name ≡ database.head.name
-  pub full : has_room database.head.name device.databases ≡ false
-  pub said : SaidAll (map text (acts_until_full device database)) report
-
--- what a status shows of an install, which knows of no user and touches no desktop
-abbrev pub InstallShows : Device → DatabaseValue → Report → Status → Type 0
-InstallShows device database report (Limit name) = StopsFull device database report name
-InstallShows device database report (OtherUser handheld desktop) = ⊥
-InstallShows device database report TooManyUsers = ⊥
-InstallShows device database report (NewHandheld name) = ⊥
-InstallShows device database report DesktopFolder = ⊥
-InstallShows device database report other = ⊤
-
--- the same, and that want of room is told, unless the session was cut short before
-pub record ShowsInstall (device : Device) (database : DatabaseValue) (status : Status)
-    (report : Report) : Type 0 where
-  pub status_is : InstallShows device database report status
-  pub full : has_room database.head.name device.databases ≡ false
-      → (status ≡ Limit database.head.name) ⊎ IsCutShort status
-
--- the session of an install that began: what is known of every session, what it left, and what its
--- status shows
-abbrev pub HadInstall : Device → DatabaseValue → FolderTold → FolderTold → Status → Report → Type 0
-HadInstall device database before after status report =
-    HadSession (InstallLeft device database before after) (ShowsInstall device database)
-    (install_agenda device database) before after status report
-
--- whatever is written of it
-abbrev pub IsInstallTalk : Device → DatabaseValue → SidesTold → SidesTold → Status → Report
-    → Type 0
-IsInstallTalk device database before after status report =
-    IsTalk (HadInstall device database before.palm after.palm) before after status report
-
--- The file and the handheld before it, all that is known of the session, and what the trace took.
--- The desktop's folder was not touched.
+-- The file, which is no read-only one, and the handheld before it, all that is known of the session
+-- over a line that loses nothing, and what the trace took. The desktop's folder was not touched.
 pub record InstallRan (words : Between) (before after : CallTold) (status : Status)
     (report : Report) : Type 0 where
   pub database : DatabaseValue
   pub file : IfSome before.source.left (λ bytes. IsInstallFile bytes database)
+  pub writable : is_read_only database.head.attributes ≡ false
   pub device : Device
   pub handheld : IfSome before.palm.contents (λ held. HoldsAll held device.databases device.user)
   pub closed : device.handles ≡ no_handles
-  pub had : HadInstall device database before.palm after.palm status report
+  pub had : HadLoad [] (install_mark database) device (database ∷ []) before.palm after.palm status
+      report
   pub desktop : after.desk ≡ before.desk
   pub traced : TakesTrace words.trace (trace_text (frames_in report)) before.trace after.trace
       status

@@ -1,21 +1,24 @@
 // An install: what comes before its session, the session, and what it prints.
-ghost use Rattle.std.specs.Prelude.{◌≡◌, ◌≢◌, None, false, true};
+ghost use Rattle.std.specs.Prelude.{◌≡◌, ◌≢◌, [], ◌∷◌, None, true};
 ghost use Rattle.handheld_files.specs.Openings.{AreKept, Stands, opened_device};
 ghost use Rattle.palm_device.specs.Bounds.{IsBounded, IsBoundedDatabase};
-ghost use Rattle.pdb_values.specs.Heads.{is_read_only};
 ghost use Rattle.run_words.specs.Views.{between_view};
 ghost use Rattle.cmd_status.specs.Told.{sink_told};
 ghost use Rattle.call_parts.specs.OfCalls.{OfCall, OfRun, OfSides};
-ghost use Rattle.cmd_files.specs.Installs.{HasInstalled, IsInstall, IsInstallTalk};
+ghost use Rattle.install_backup.specs.InstallActs.{install_mark as mark_of};
+ghost use Rattle.cmd_files.specs.Installs.{HasInstalled, IsInstall};
+ghost use Rattle.cmd_files.specs.Loads.{IsLoadTalk};
 ghost use Rattle.call_parts.specs.Refusals.{BlamesSource};
 ghost use Rattle.call_parts.specs.Traces.{TracesReport};
 
-use crate::install_talk::install_talk;
+use crate::load_talk::load_talk;
 use call_parts::{Answer, open_handheld, open_trace};
 use cmd_status::Status;
 use handheld_store::Store;
 use hotsync_looks::read_install_file;
 use hs_folders::{Folder, Sink, Source};
+use install_backup::install_mark;
+use line_script::Script;
 use pdb_values::Database;
 use run_clap::BetweenWords;
 use std::alloc::Global;
@@ -73,7 +76,7 @@ fn judged_install<H: Folder, D: Folder, S: Source, T: Sink>(
     }
 }
 
-// Installs, and writes the trace of the session.
+// Installs over a line that loses nothing, and writes the trace of the session.
 fn traced_install<H: Folder, D: Folder, T: Sink>(
     alloc: Global,
     words: &BetweenWords<'_>,
@@ -87,8 +90,8 @@ fn traced_install<H: Folder, D: Folder, T: Sink>(
     requires kept { AreKept store.databases }
     requires proper { IsBounded (opened_device store.databases store.user) }
     requires bounded { IsBoundedDatabase database }
-    requires writable { is_read_only database.head.attributes ≡ false }
-    ensures talk { OfSides (IsInstallTalk (opened_device store.databases store.user) database)
+    ensures talk { OfSides (IsLoadTalk [] (mark_of database)
+        (opened_device store.databases store.user) (database ∷ []))
         H.Folder D.Folder store.folder desk result }
     ensures unprinted { result.status ≢ Status.OutWrite }
     ensures traced { TracesReport (between_view words.now).trace result.report
@@ -96,6 +99,9 @@ fn traced_install<H: Folder, D: Folder, T: Sink>(
     ensures desk { result.desk ≡ desk }
     ensures trace { words.now.trace ≡ None → trace.new ≡ trace.old }
 {
-    let answer = install_talk(alloc, store, desk, database);
+    let script = Script::empty(alloc);
+    let mark = install_mark(&database);
+    let databases = [database];
+    let answer = load_talk(alloc, store, desk, script, mark, &databases);
     answer.traced(alloc, words.trace, trace)
 }

@@ -11,10 +11,9 @@ mod backup_talk;
 mod backups;
 mod emulation;
 mod install;
-mod install_talk;
+mod load_talk;
 mod moved;
 mod restore;
-mod restore_talk;
 
 pub use backup::backup_folder;
 pub use emulation::emulate;

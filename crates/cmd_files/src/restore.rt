@@ -8,16 +8,20 @@ ghost use Rattle.run_words.specs.Views.{between_view};
 ghost use Rattle.cmd_status.specs.Told.{sink_told};
 ghost use Rattle.call_parts.specs.OfCalls.{OfCall, OfRun, OfSides};
 ghost use Rattle.call_parts.specs.Refusals.{BlamesHandheld, BlamesSource};
-ghost use Rattle.cmd_files.specs.Restores.{HasRestored, IsRestore, IsRestoreTalk};
+ghost use Rattle.install_backup.specs.InstallActs.{restore_mark as mark_of};
+ghost use Rattle.cmd_files.specs.Loads.{IsLoadTalk};
+ghost use Rattle.cmd_files.specs.Restores.{HasRestored, IsRestore};
 ghost use Rattle.call_parts.specs.Traces.{TracesReport};
 
 use crate::backups::{Backups, open_backups};
-use crate::restore_talk::restore_talk;
+use crate::load_talk::load_talk;
 use call_parts::{Answer, SessionEnd, open_handheld, open_trace, script_of};
 use cmd_status::Status;
 use handheld_store::Store;
 use hs_folders::{Folder, Sink, Source};
+use install_backup::restore_mark;
 use line_script::Script;
+use pdb_values::Database;
 use run_clap::BetweenWords;
 use std::alloc::Global;
 
@@ -101,8 +105,8 @@ fn traced_restore<H: Folder, D: Folder, T: Sink>(
     requires proper { IsBounded (opened_device store.databases store.user) }
     requires order { NamesRise backups.databases.items }
     requires bounded { AllByRecursion IsBoundedDatabase backups.databases.items }
-    ensures talk { OfSides (IsRestoreTalk script (opened_device store.databases store.user)
-        backups.databases.items)
+    ensures talk { OfSides (IsLoadTalk script (mark_of backups.databases.items)
+        (opened_device store.databases store.user) backups.databases.items)
         H.Folder D.Folder store.folder backups.folder result }
     ensures unprinted { result.status ≢ Status.OutWrite }
     ensures traced { TracesReport (between_view words.now).trace result.report
@@ -110,6 +114,8 @@ fn traced_restore<H: Folder, D: Folder, T: Sink>(
     ensures desk { result.desk ≡ backups.folder }
     ensures trace { words.now.trace ≡ None → trace.new ≡ trace.old }
 {
-    let answer = restore_talk(alloc, store, backups, script);
+    let Backups { databases, folder } = backups;
+    let all: &[Database] = &databases;
+    let answer = load_talk(alloc, store, folder, script, restore_mark(all), all);
     answer.traced(alloc, words.trace, trace)
 }

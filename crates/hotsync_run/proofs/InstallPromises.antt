@@ -11,6 +11,7 @@ use Rattle.hotsync_run.specs.Calls.{Call, IsAnsweredCall, IsCall}
 use Rattle.call_parts.specs.Causes.{ByEnd, HasBegun}
 use Rattle.hotsync_run.specs.Clean.{GoesThrough}
 use Rattle.cmd_files.specs.Installs.{EndedInstall, InstallRan, IsInstall, install_command}
+use Rattle.cmd_files.proofs.InstallLaws.{ended_install}
 use Rattle.hotsync_run.specs.Promises.{IsReadWhole, IsReadWholeOrSame}
 use Rattle.call_parts.specs.SessionCalls.{SentNothing}
 use Rattle.hotsync_run.proofs.CleanLaws.{spoke_through}
@@ -39,7 +40,7 @@ module _ (call : Call) (words : Between) (is : IsAnsweredCall call) (task : call
   install_through begun = spoke_through (install_ran begun).had.spoke
 
   pub install_ended : call.report.end ≡ Ended → (ran : Session) × EndedInstall ran.device ran.database call.after.palm call.report
-  install_ended ended = let ran = install_ran (subst HasBegun (sym ended) tt) in (ran, ran.had.left.ended ended)
+  install_ended ended = let ran = install_ran (subst HasBegun (sym ended) tt) in (ran, ended_install ran.writable (ran.had.left.ended ended))
 
   pub install_stopped : HasBegun call.report.end
       → (ran : Session)

@@ -10,7 +10,8 @@ use Rattle.cmd_files.specs.Besides.{StandsBeside}
 use Rattle.hotsync_run.specs.Calls.{Call, IsAnsweredCall, IsCall}
 use Rattle.call_parts.specs.Causes.{ByEnd, HasBegun}
 use Rattle.hotsync_run.specs.Promises.{IsReadWhole, IsReadWholeOrSame}
-use Rattle.cmd_files.specs.Restores.{EndedRestore, IsRestore, RestoreRan, restore_command}
+use Rattle.cmd_files.specs.Loads.{EndedLoad}
+use Rattle.cmd_files.specs.Restores.{IsRestore, RestoreRan, restore_command}
 use Rattle.call_parts.specs.SessionCalls.{SentNothing}
 use Rattle.call_parts.specs.Stays.{StaysAsItWas}
 use Rattle.hotsync_run.proofs.HeadlineLaws.{begun_by}
@@ -42,7 +43,8 @@ module _ (call : Call) (words : Between) (is : IsAnsweredCall call) (task : call
       by Ended ran = ran.desktop
       by Stopped ran = ran.desktop
 
-  pub restore_ended : call.report.end ≡ Ended → (ran : Session) × EndedRestore ran.device ran.databases call.after.palm call.report
+  pub restore_ended : call.report.end ≡ Ended → (ran : Session)
+      × EndedLoad (restore_mark ran.databases) ran.device ran.databases call.after.palm call.report
   restore_ended ended = let ran = restore_ran (subst HasBegun (sym ended) tt) in (ran, ran.had.left.ended ended)
 
   pub restore_stopped : HasBegun call.report.end

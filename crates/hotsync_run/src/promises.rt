@@ -32,7 +32,8 @@ ghost use Rattle.hotsync_looks.specs.Looks.{IsLook};
 ghost use Rattle.cmd_session.specs.Meetings.{Meets};
 ghost use Rattle.cmd_status.specs.PrintedNames.{is_printable, printed_name};
 ghost use Rattle.hotsync_run.specs.Promises.{BackupSession, EachCall, FilingSession, HandheldStays, IfCommitted, InstallSession, IsCalmRun, IsReadWhole, IsReadWholeOrSame, LeavesDesktop, PassesNoLimit, RestoreSession, RunsOverTheSame, filing_in};
-ghost use Rattle.cmd_files.specs.Restores.{EndedRestore, restore_command};
+ghost use Rattle.cmd_files.specs.Loads.{EndedLoad};
+ghost use Rattle.cmd_files.specs.Restores.{restore_command};
 ghost use Rattle.cmd_status.specs.declared.status.Status.TheVariants.{Done};
 ghost use Rattle.cmd_session.specs.Runs.{run_command};
 ghost use Rattle.call_parts.specs.Scripts.{IsScripted};
@@ -240,7 +241,8 @@ pub fn a_restore_keeps_what_it_promises()
         StaysAsItWas call.before.desk call.after.desk) }
     ensures ended { EachCall Restore (λ call words. call.report.end ≡ Ended
         → (ran : RestoreSession call words)
-        × EndedRestore ran.device ran.databases call.after.palm call.report) }
+        × EndedLoad (restore_mark ran.databases) ran.device ran.databases call.after.palm
+        call.report) }
     ensures stopped { EachCall Restore (λ call words. HasBegun call.report.end
         → (ran : RestoreSession call words)
         × HandheldStays (StandsBeside (restore_mark ran.databases) ran.device ran.databases) call) }

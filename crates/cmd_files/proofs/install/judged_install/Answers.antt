@@ -93,6 +93,7 @@ returns-in-Ok-open_trace-clause-ran g c =
     } in
     by_install before after (record {
       file = c.in-Ok.ensures.file;
+      writable = c.in-Ok.ensures.writable;
       file_opened = c.in-Ok.ensures.opened;
       handheld = c.in-Ok-open_handheld.ensures.held;
       closed = refl;

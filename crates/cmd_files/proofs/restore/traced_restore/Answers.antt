@@ -1,14 +1,16 @@
 use Rattle.handheld_files.specs.Openings.{opened_device}
+use Rattle.install_backup.specs.InstallActs.{restore_mark}
 use Rattle.call_parts.specs.Told.{sides_told}
 use Rattle.call_parts.proofs.RetoldLaws.{talk_traced}
-use Rattle.cmd_files.proofs.RestoreSpoke.{restore_retold}
+use Rattle.cmd_files.proofs.LoadSpoke.{load_retold}
 use Rattle.cmd_files.proofs.restore.traced_restore.Goals as goal
 
 pub returns-clause-talk : goal.returns-clause-talk
 returns-clause-talk g c =
     let before = sides_told g.H.Folder g.D.Folder c.args.store.folder c.args.backups.folder in
-    let after = sides_told g.H.Folder g.D.Folder c.restore_talk-answer.result.device c.restore_talk-answer.result.desk in
+    let after = sides_told g.H.Folder g.D.Folder c.load_talk-answer.result.device c.load_talk-answer.result.desk in
     let end = c.traced.ensures in
+    let databases = c.args.backups.databases.items in
     rw (end.report, end.device, end.desk) (talk_traced c.traced.result.status
-    (restore_retold c.args.script (opened_device c.args.store.databases c.args.store.user) c.args.backups.databases.items before.palm after.palm)
-    c.restore_talk-answer.ensures.talk end.status)
+    (load_retold c.args.script (restore_mark databases) (opened_device c.args.store.databases c.args.store.user) databases before.palm after.palm)
+    (rw (c.restore_mark.ensures, c.deref-all.ensures.value) at c.load_talk-answer.ensures.talk) end.status)

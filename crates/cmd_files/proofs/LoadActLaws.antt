@@ -1,4 +1,4 @@
--- The requests of a restore, and what they make of a handheld.
+-- The requests of a session that installs databases, and what they make of a handheld.
 use Rattle.std.proofs.lemmas.Bool.{and_parts, not-true, or_right}
 use Rattle.std.proofs.Common.{◌≡◌, ◌∙◌, ◌<◌, ap, refl, sym, arith, append-nil, append_assoc, ℕ, ◌||◌, Bool, true, false, cond, List, [], ◌∷◌, ◌++◌, length}
 use Rattle.std.specs.Prelude.{Option, Some, None, flat_map, is_some, map, nat_lt}
@@ -36,8 +36,7 @@ use Rattle.install_backup.proofs.EndLaws.{installs-are}
 use Rattle.install_backup.proofs.GoneLaws.{can_delete, deleted, with_databases, without-none}
 use Rattle.install_backup.proofs.MarkLaws.{marked_after, marked_rests}
 use Rattle.install_backup.proofs.WholeLaws.{install_goes, installed_rests}
-use Rattle.cmd_files.specs.Restores.{acts_until_one}
-use Rattle.cmd_files.proofs.InstallActLaws.{stays_at_end}
+use Rattle.cmd_files.specs.Loads.{acts_until_one}
 use Rattle.desktop_session.proofs.ListLaws.{after_append}
 
 -- ---- the first one that has no room
@@ -144,16 +143,25 @@ installs_go (database ∷ databases) device rests bounded none =
 
 -- ---- to the end
 
+-- an end leaves databases and user as they are
+record StaysAtEnd (device : Device) : Type 0 where
+  databases_are : (device_after (ending ∷ []) device).databases ≡ device.databases
+  user_is : (device_after (ending ∷ []) device).user ≡ device.user
+
+stays_at_end : (device : Device) → StaysAtEnd device
+unfolding acted tried
+stays_at_end device = record { databases_are = refl; user_is = refl }
+
 -- the handheld has them all then, its user has the mark, and all else is as before
-pub record IsRestoredOn (mark : Mark) (device after : Device) (databases : List DatabaseValue) : Type 0 where
+pub record IsLoadedOn (mark : Mark) (device after : Device) (databases : List DatabaseValue) : Type 0 where
   pub databases_are : after.databases ≡ all_installed databases device.databases
   pub user : after.user ≡ marked_user mark device.user
 
-pub restored-after : (mark : Mark) (device : Device) (databases : List DatabaseValue) → IsAtRest device → AllByRecursion IsBoundedDatabase databases
+pub loaded-after : (mark : Mark) (device : Device) (databases : List DatabaseValue) → IsAtRest device → AllByRecursion IsBoundedDatabase databases
     → first_full databases device.databases ≡ None
-    → IsRestoredOn mark device (device_after (install_acts mark device.user databases) device) databases
+    → IsLoadedOn mark device (device_after (install_acts mark device.user databases) device) databases
 unfolding install_acts
-restored-after mark device databases rests bounded none =
+loaded-after mark device databases rests bounded none =
     let first : List Act = marked_greeting mark device.user in
     let marked : Device = marked_on mark device in
     let done = with_databases (all_installed databases device.databases) marked in
@@ -165,8 +173,8 @@ restored-after mark device databases rests bounded none =
     ∙ ap (device_after (ending ∷ [])) (ap (λ (acts : List Act). device_after acts marked) (sym (installs-are databases)) ∙ goes.after) in
     let stays = stays_at_end done in
     record {
-      databases_are = ap (λ (d : Device). d.databases) whole ∙ stays.databases;
-      user = ap (λ (d : Device). d.user) whole ∙ stays.user;
+      databases_are = ap (λ (d : Device). d.databases) whole ∙ stays.databases_are;
+      user = ap (λ (d : Device). d.user) whole ∙ stays.user_is;
     }
 
 -- ---- to the first without room
