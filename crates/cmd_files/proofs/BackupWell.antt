@@ -5,15 +5,17 @@ use Rattle.hs_folders.specs.FileMaps.{FileMap}
 use Rattle.run_words.specs.Betweens.{Between}
 use Rattle.cmd_status.specs.Printed.{IsPrinted}
 use Rattle.cmd_status.specs.Told.{SinkTold}
-use Rattle.cmd_files.specs.Backups.{BackupRefuses, BackupShows, HasBackedUp, IsCalmBackup, backup_command}
+use Rattle.cmd_files.specs.Backups.{BackupShows, HasBackedUp, IsCalmBackup, backup_command}
+use Rattle.cmd_files.proofs.BackupRuns.{backup_judged}
+use Rattle.cmd_files.proofs.JudgedCalls.{refuses_none}
 use Rattle.cmd_files.proofs.WellLaws.{IsOwnStop, call_well, session_well}
-use Rattle.call_parts.specs.Files.{is_synced}
+use Rattle.call_parts.specs.Files.{FilesRefuse, is_synced}
+use Rattle.call_parts.specs.Refusals.{IsDesktopFailure}
 use Rattle.call_parts.specs.Told.{CallTold}
 use Rattle.call_parts.specs.Undisturbed.{EndsWell}
-use Rattle.call_parts.proofs.UndisturbedLaws.{BlamesNone, failed_desktop, failed_handheld, judged_handheld, judged_script}
+use Rattle.call_parts.proofs.UndisturbedLaws.{judged_script}
 use Rattle.call_parts.specs.declared.report.Report.{Report}
 use Rattle.cmd_status.specs.declared.status.Status.{Status}
-use Rattle.cmd_status.specs.declared.status.Status.TheVariants.{NoMemory}
 use Rattle.cmd_status.specs.declared.status.Status.TheVariants.{OtherUser, TooManyUsers, Limit, NewHandheld}
 
 -- ---- what is judged before a session
@@ -22,17 +24,10 @@ both_sides : (told : Option FileMap) {files : FileMap} → told ≡ Some files �
 both_sides told is apart synced =
     let both = subst (λ (t : Option FileMap). IfSome t (λ files. is_synced files ≡ true)) is synced in cc
 
--- so it isn't refused
-judged : (words : Between) {before after : CallTold} {out out_after : SinkTold} {status : Status} {report : Report}
-    → IsCalmBackup words before after out out_after report → BlamesNone status → BackupRefuses words before status → status ≡ NoMemory
-judged words {before} calm blames (inl refuses) = elim (judged_script words.script before.source.left calm.script refuses) [
-  | inl e ↦ absurd (blames.source e)
-  | inr e ↦ e
-]
-judged words calm blames (inr (_, inl refuses)) = failed_handheld blames (judged_handheld calm.handheld refuses)
-judged words calm blames (inr (_, inr (_, inl (inl failed)))) = failed_desktop blames failed
-judged words {before} calm blames (inr (_, inr (_, inl (inr synced)))) = absurd (both_sides before.desk.contents calm.told calm.apart synced.synced)
-judged words calm blames (inr (_, inr (_, inr (_, refuses)))) = elim refuses.is [ inl e ↦ absurd (blames.trace e) | inr e ↦ e ]
+judged_files : (told : Option FileMap) {files : FileMap} {status : Status} → told ≡ Some files → is_synced files ≡ false → FilesRefuse told status
+    → IsDesktopFailure status
+judged_files told is apart (inl failed) = failed
+judged_files told is apart (inr synced) = absurd (both_sides told is apart synced.synced)
 
 -- ---- a session
 
@@ -49,5 +44,7 @@ pub backup_ends_well : (words : Between) (before after : CallTold) (out out_afte
     → HasBackedUp words before after status report → IsPrinted IsText out out_after status → IsCalmBackup words before after out out_after report
     → EndsWell status report
 backup_ends_well words before after out out_after status report has printed calm =
-    call_well (backup_command words) before after has printed calm.none_failed (judged words calm)
+    call_well (backup_command words) before after has printed calm.none_failed
+    (refuses_none (backup_judged words) before calm.handheld (judged_script words.script before.source.left calm.script)
+    (judged_files before.desk.contents calm.told calm.apart))
     (λ blames ran. session_well ran.had.spoke (calm.line ran.rules ran.scripted) blames (finds_none status ran.had.shows))

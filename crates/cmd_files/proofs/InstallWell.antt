@@ -12,14 +12,15 @@ use Rattle.hotsync_looks.proofs.LookLaws.{file_not_broken}
 use Rattle.hotsync_looks.specs.InstallFiles.{FileRefuses, FileShows, IsInstallFile}
 use Rattle.cmd_status.specs.Printed.{IsPrinted}
 use Rattle.cmd_status.specs.Told.{SinkTold}
-use Rattle.cmd_files.specs.Installs.{HasInstalled, InstallRan, InstallRefuses, IsCalmInstall, install_command}
+use Rattle.cmd_files.specs.Installs.{HasInstalled, InstallRan, IsCalmInstall, install_command}
 use Rattle.cmd_files.proofs.InstallLaws.{full_of}
+use Rattle.cmd_files.proofs.InstallRuns.{install_judged}
+use Rattle.cmd_files.proofs.JudgedCalls.{refuses_none}
 use Rattle.cmd_files.proofs.LoadWell.{load_well}
 use Rattle.cmd_files.proofs.WellLaws.{call_well, kind_line}
 use Rattle.call_parts.specs.LineRuns.{frames_in}
 use Rattle.call_parts.specs.Told.{CallTold}
 use Rattle.call_parts.specs.Undisturbed.{EndsWell}
-use Rattle.call_parts.proofs.UndisturbedLaws.{BlamesNone, failed_handheld, judged_handheld}
 use Rattle.call_parts.specs.declared.report.Report.{Report}
 use Rattle.cmd_status.specs.declared.status.Status.{Status}
 use Rattle.cmd_status.specs.declared.status.Status.TheVariants.{BadFile, CannotInstall, TooLong, SourceRead}
@@ -47,16 +48,6 @@ judged_file : {path : List ℕ} (left : Option (List ℕ)) {bytes : List ℕ} {d
 judged_file {path} left {bytes} {database} {refusal} told is refuses =
     unshown_file path refusal is (subst (λ (t : Option (List ℕ)). IfSome t (FileShows path refusal)) told refuses.shown)
 
--- so it isn't refused
-judged : (words : Between) {before after : CallTold} {out out_after : SinkTold} {status : Status} → IsCalmInstall before after out out_after
-    → BlamesNone status → InstallRefuses words before status → status ≡ NoMemory
-judged words {before} calm blames (inl refuses) = elim (judged_file before.source.left calm.told calm.file refuses) [
-  | inl e ↦ absurd (blames.source e)
-  | inr e ↦ e
-]
-judged words calm blames (inr (_, inl refuses)) = failed_handheld blames (judged_handheld calm.handheld refuses)
-judged words calm blames (inr (_, inr (_, refuses))) = elim refuses.is [ inl e ↦ absurd (blames.trace e) | inr e ↦ e ]
-
 -- ---- a session
 
 module _ (words : Between) {before after : CallTold} {out out_after : SinkTold} {status : Status} (report : Report)
@@ -79,5 +70,6 @@ pub install_ends_well : (words : Between) (before after : CallTold) (out out_aft
     → HasInstalled words before after status report → IsPrinted IsText out out_after status → IsCalmInstall before after out out_after
     → EndsWell status report
 install_ends_well words before after out out_after status report has printed calm =
-    call_well (install_command words) before after has printed calm.none_failed (judged words calm)
+    call_well (install_command words) before after has printed calm.none_failed
+    (refuses_none (install_judged words) before calm.handheld (judged_file before.source.left calm.told calm.file) (λ refuses. absurd refuses))
     (λ blames ran. load_well ran.had (kind_line (length (frames_in report))) (had_room words report calm ran) blames)

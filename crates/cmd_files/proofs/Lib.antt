@@ -1,5 +1,4 @@
 pub mod BackupActLaws
-pub mod BackupRefused
 pub mod BackupRuns
 pub mod BackupSaid
 pub mod BackupSpoke
@@ -7,16 +6,16 @@ pub mod BackupWell
 pub mod BesideLaws
 pub mod EmulationLaws
 pub mod InstallLaws
-pub mod InstallRefused
 pub mod InstallRuns
 pub mod InstallWell
+pub mod JudgedCalls
 pub mod LoadActLaws
 pub mod LoadSaid
 pub mod LoadSpoke
 pub mod LoadWell
 pub mod NeverLaws
+pub mod OpenedCalls
 pub mod QuietRuns
-pub mod RestoreRefused
 pub mod RestoreRuns
 pub mod RestoreWell
 pub mod WellLaws

@@ -4,7 +4,7 @@ use Rattle.std.specs.Prelude.{IfErr, IfOk, IsErrOf, Option, None, Some, Result, 
 use Rattle.std.specs.Global.{Vec}
 use Rattle.std.specs.List.{AllByRecursion}
 use Rattle.hs_folders.specs.FileMaps.{FileMap}
-use Rattle.hs_folders.specs.Moments.{Moments}
+use Rattle.hs_folders.specs.Moments.{EachMomentSince, Moments}
 use Rattle.hs_folders.proofs.MomentLaws.{moments_weaken}
 use Rattle.pdb_values.specs.Databases.{DatabaseValue}
 use Rattle.pdb_values.specs.NamedDatabases.{NamesRise}
@@ -33,8 +33,10 @@ use Rattle.cmd_files.specs.Moves.{TellsMoves}
 use Rattle.cmd_files.specs.Loads.{EndedLoad, HadLoad, IsLoadTalk, LoadLeft, ShowsLoad}
 use Rattle.cmd_files.specs.declared.moved.Way.TheVariants.{ToHandheld}
 use Rattle.call_parts.specs.Sessions.{KeptSilent, StandsAtFront}
+use Rattle.call_parts.specs.Stays.{StaysAsItWas}
 use Rattle.call_parts.specs.Told.{FolderTold, SidesTold, folder_told}
 use Rattle.cmd_files.proofs.BesideLaws.{stands_beside}
+use Rattle.call_parts.proofs.EarlierLaws.{spoke_from}
 use Rattle.call_parts.proofs.EndLaws.{logged_all}
 use Rattle.call_parts.proofs.FrontLaws.{issued_begins}
 use Rattle.call_parts.proofs.SaidLaws.{Tells, all-talked}
@@ -107,8 +109,8 @@ load_spoke {F} {contents} {moments} {paths} {faults} fault downs mark {databases
     let before : SidesTold = record { palm = palm; desk = desk } in
     let after : SidesTold = record { palm = palm_after; desk = desk } in
     let told : ToldLoads fault mark databases old.server.device old new answer =
-    told_loads (λ (first last : WorldValue F). WorldSince contents moments paths faults first last) fault downs mark databases old.server.device old new end answer
-    ends moved in
+    told_loads (λ (first last : WorldValue F). WorldSince contents moments paths faults first last) fault downs mark databases old.server.device old new end
+    answer ends moved in
     let tells = closes.tells in
     let line = line_ran silent stands since tells in
     let sides : Tells old new palm_after report =
@@ -154,7 +156,8 @@ load_spoke {F} {contents} {moments} {paths} {faults} fault downs mark {databases
 not_done : (name : List ℕ) → Done ≡ Limit name → ⊥
 not_done name is = let no : ⊥ = cc in no
 
-shows_retold : (mark : Mark) (device : Device) (databases : List DatabaseValue) (palm_after : FolderTold) → StaysShown (ShowsLoad mark device databases palm_after)
+shows_retold : (mark : Mark) (device : Device) (databases : List DatabaseValue) (palm_after : FolderTold)
+    → StaysShown (ShowsLoad mark device databases palm_after)
 shows_retold mark device databases palm_after status other report (inl same) shows =
     subst (λ (s : Status). ShowsLoad mark device databases palm_after s report) (sym same) shows
 shows_retold mark device databases palm_after status other report (inr (inl memory)) shows =
@@ -172,3 +175,17 @@ pub load_retold : (rules : List RuleValue) (mark : Mark) (device : Device) (data
     → StaysShown (HadLoad rules mark device databases before after)
 load_retold rules mark device databases before after status other report is had =
     had_retold other (shows_retold mark device databases after) is had
+
+-- told from an earlier time on
+pub load_from : {rules : List RuleValue} {mark : Mark} {device : Device} {databases : List DatabaseValue} {first before after : FolderTold} {status : Status}
+    {report : Report} → StaysAsItWas first before → HadLoad rules mark device databases before after status report
+    → HadLoad rules mark device databases first after status report
+load_from {mark = mark} {device} {databases} {after = after} stays had = record {
+  spoke = spoke_from stays had.spoke;
+  left = record {
+    ended = had.left.ended;
+    beside = had.left.beside;
+    each_moment = subst (λ (m : Moments). EachMomentSince (StandsBeside mark device databases) m after.moments) stays.moments had.left.each_moment;
+  };
+  shows = had.shows;
+}

@@ -17,18 +17,18 @@ use Rattle.cmd_status.specs.declared.status.Status.{Status}
 use Rattle.cmd_status.specs.declared.status.Status.TheVariants.{OtherUser, TooManyUsers, Limit, NewHandheld}
 
 -- it stops for nothing that it finds but want of room
-only_full : {mark : Mark} {device : Device} {databases : List DatabaseValue} {palm_after : FolderTold} {report : Report} (status : Status)
+only_full : (mark : Mark) (device : Device) (databases : List DatabaseValue) (palm_after : FolderTold) (report : Report) (status : Status)
     → LoadShows mark device databases palm_after report status → ((name : List ℕ) → first_full databases device.databases ≡ Some name → ⊥)
     → IsOwnStop status → ⊥
-only_full (OtherUser handheld desktop) shows room own = shows
-only_full TooManyUsers shows room own = shows
-only_full (Limit name) shows room own = room name shows.first
-only_full (NewHandheld name) shows room own = shows
-only_full _ shows room own = own
+only_full mark device databases palm_after report (OtherUser handheld desktop) shows room own = shows
+only_full mark device databases palm_after report TooManyUsers shows room own = shows
+only_full mark device databases palm_after report (Limit name) shows room own = room name shows.first
+only_full mark device databases palm_after report (NewHandheld name) shows room own = shows
+only_full mark device databases palm_after report _ shows room own = own
 
 pub load_well : {rules : List RuleValue} {mark : Mark} {device : Device} {databases : List DatabaseValue} {before after : FolderTold} {status : Status}
     {report : Report} → HadLoad rules mark device databases before after status report → IsKindScript rules (length (frames_in report))
     → ((name : List ℕ) → first_full databases device.databases ≡ Some name → ⊥) → BlamesNone status → EndsWell status report
 load_well {mark = mark} {device} {databases} {after = after} {status = status} {report} had kind room blames =
     session_well had.spoke kind blames
-    (only_full {mark = mark} {device = device} {databases = databases} {palm_after = after} {report = report} status had.shows.status_is room)
+    (only_full mark device databases after report status had.shows.status_is room)

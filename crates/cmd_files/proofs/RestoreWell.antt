@@ -13,16 +13,17 @@ use Rattle.run_words.specs.Betweens.{Between}
 use Rattle.cmd_status.specs.FolderFaults.{backup_status}
 use Rattle.cmd_status.specs.Printed.{IsPrinted}
 use Rattle.cmd_status.specs.Told.{SinkTold}
+use Rattle.cmd_files.proofs.JudgedCalls.{refuses_none}
+use Rattle.cmd_files.proofs.RestoreRuns.{restore_judged}
 use Rattle.cmd_files.proofs.LoadWell.{load_well}
 use Rattle.cmd_files.proofs.WellLaws.{call_well}
-use Rattle.cmd_files.specs.Restores.{BackupsShow, HasRestored, IsCalmRestore, IsGoodBackups, RestoreRefuses, restore_command}
+use Rattle.cmd_files.specs.Restores.{BackupsRefuse, HasRestored, IsCalmRestore, IsGoodBackups, restore_command}
+use Rattle.call_parts.specs.Refusals.{IsDesktopFailure}
 use Rattle.call_parts.specs.Told.{CallTold}
 use Rattle.call_parts.specs.Undisturbed.{EndsWell}
-use Rattle.call_parts.proofs.UndisturbedLaws.{BlamesNone, failed_desktop, failed_handheld, judged_handheld, judged_script, none_is_some}
+use Rattle.call_parts.proofs.UndisturbedLaws.{judged_script, none_is_some}
 use Rattle.call_parts.specs.declared.report.Report.{Report}
 use Rattle.cmd_status.specs.declared.status.Status.{Status}
-use Rattle.cmd_status.specs.declared.status.Status.TheVariants.{DesktopFolder}
-use Rattle.cmd_status.specs.declared.status.Status.TheVariants.{NoMemory}
 
 -- ---- what is judged before a session
 
@@ -37,28 +38,15 @@ unshown_backups held (BadFile name kind place) few whole apart shown = absurd (w
 unshown_backups held (SameDatabase first second) few whole apart shown =
     absurd (apart (string_bytes {Z = Global} first) (string_bytes {Z = Global} second) shown.1)
 
-judged_backups : {told : Option FileMap} {status : Status} → IsGoodBackups told → BackupsShow told status → (status ≡ DesktopFolder) ⊎ (status ≡ NoMemory)
-judged_backups {told} {status} good shows =
+-- so they are refused for no other cause than that of an object
+judged_backups : {told : Option FileMap} {status : Status} → IsGoodBackups told → BackupsRefuse told status → IsDesktopFailure status
+judged_backups good (inl failed) = failed
+judged_backups {told} {status} good (inr shows) =
     elim (unshown_backups good.held shows.fault good.few good.whole good.apart
     (subst (λ (t : Option FileMap). IfSome t (ShowsBackupFault shows.fault)) good.is shows.shown)) [
       | inl failed ↦ inl (shows.is ∙ ap backup_status failed)
-      | inr memory ↦ inr (shows.is ∙ ap backup_status memory)
+      | inr memory ↦ inr (inr (shows.is ∙ ap backup_status memory))
     ]
-
--- so it isn't refused
-judged : (words : Between) {before after : CallTold} {out out_after : SinkTold} {status : Status} {report : Report}
-    → IsCalmRestore words before after out out_after report → BlamesNone status → RestoreRefuses words before status → status ≡ NoMemory
-judged words {before} calm blames (inl refuses) = elim (judged_script words.script before.source.left calm.script refuses) [
-  | inl e ↦ absurd (blames.source e)
-  | inr e ↦ e
-]
-judged words calm blames (inr (_, inl refuses)) = failed_handheld blames (judged_handheld calm.handheld refuses)
-judged words calm blames (inr (_, inr (_, inl (inl failed)))) = failed_desktop blames failed
-judged words {before} calm blames (inr (_, inr (_, inl (inr shows)))) = elim (judged_backups calm.backups shows) [
-  | inl e ↦ absurd (blames.desktop e)
-  | inr e ↦ e
-]
-judged words calm blames (inr (_, inr (_, inr (_, refuses)))) = elim refuses.is [ inl e ↦ absurd (blames.trace e) | inr e ↦ e ]
 
 -- ---- a session
 
@@ -67,6 +55,7 @@ pub restore_ends_well : (words : Between) (before after : CallTold) (out out_aft
     → HasRestored words before after status report → IsPrinted IsText out out_after status → IsCalmRestore words before after out out_after report
     → EndsWell status report
 restore_ends_well words before after out out_after status report has printed calm =
-    call_well (restore_command words) before after has printed calm.none_failed (judged words calm)
+    call_well (restore_command words) before after has printed calm.none_failed
+    (refuses_none (restore_judged words) before calm.handheld (judged_script words.script before.source.left calm.script) (judged_backups calm.backups))
     (λ blames ran. load_well ran.had (calm.line ran.rules ran.scripted)
     (λ name full. none_is_some (sym (calm.room ran.device ran.databases ran.handheld ran.backups) ∙ full)) blames)

@@ -88,9 +88,9 @@ none_blamed blames printed failed = record {
   out = λ e. failed.printing (printed.failed e);
 }
 
-sent_well : {status : Status} {report : Report} {Judged : Type 0} → (Judged → status ≡ NoMemory) → (status ≡ NoMemory) ⊎ Judged → EndsWell status report
-sent_well judged (inl memory) = inr (inl memory)
-sent_well judged (inr refused) = inr (inl (judged refused))
+sent_well : {status : Status} (report : Report) {Judged : Type 0} → (Judged → status ≡ NoMemory) → (status ≡ NoMemory) ⊎ Judged → EndsWell status report
+sent_well report judged (inl memory) = inr (inl memory)
+sent_well report judged (inr refused) = inr (inl (judged refused))
 
 -- it is done whole, where nothing that is judged refuses it but for want of memory, and its session is
 pub call_well : (command : SessionCommand) (before after : CallTold) {out out_after : SinkTold} {status : Status} {report : Report}
@@ -100,4 +100,4 @@ pub call_well : (command : SessionCommand) (before after : CallTold) {out out_af
 call_well command before after {status = status} {report} has printed failed judged session =
     let blames : BlamesNone status = none_blamed has.blames printed failed in
     by_end_well report.end (SentNothing command before after status report) (command.Had before after status report) (EndsWell status report)
-    (λ sent. sent_well (judged blames) sent.judged) (session blames) has.shown
+    (λ sent. sent_well report (judged blames) sent.judged) (session blames) has.shown

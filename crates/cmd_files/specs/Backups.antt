@@ -26,7 +26,7 @@ use Rattle.cmd_status.specs.Told.{SinkTold}
 use Rattle.cmd_status.specs.declared.status.Status.{Status}
 use Rattle.cmd_status.specs.declared.status.Status.TheVariants.{Limit, NewHandheld, OtherUser, TooManyUsers}
 use Rattle.call_parts.specs.LineRuns.{SaidAll, frames_in, log_in}
-use Rattle.call_parts.specs.Refusals.{HandheldRefuses, HasHandheld, TraceRefuses}
+use Rattle.cmd_files.specs.Judges.{Judges, Refuses}
 use Rattle.call_parts.specs.Scripts.{HasScript, IsScripted, ScriptRefuses}
 use Rattle.call_parts.specs.Files.{FilesRefuse, StandsApart, is_synced}
 use Rattle.call_parts.specs.SessionCalls.{IsSessionCall, MayHaveSession, Paths, SessionCommand}
@@ -40,14 +40,18 @@ use Rattle.call_parts.specs.declared.report.SessionEnd.TheVariants.{Ended}
 
 -- ---- a backup that sent nothing
 
--- The script is judged first, then the handheld's folder, then that for the files, and last the
--- trace is opened. Each is judged where all that comes before it is good.
+-- the script is judged, and the folder for the files
+abbrev pub backup_judges : Between → Judges
+backup_judges words = record {
+  SourceRefuses = λ left refusal. ScriptRefuses words.script left refusal;
+  HasSource = λ left. HasScript words.script left;
+  FolderRefuses = λ kept refusal. FilesRefuse kept refusal;
+  HasFolder = λ kept. StandsApart kept;
+}
+
+-- they, the handheld's folder between them, and the trace behind them
 abbrev pub BackupRefuses : Between → CallTold → Status → Type 0
-BackupRefuses words before refusal =
-    ScriptRefuses words.script before.source.left refusal
-    ⊎ (HasScript words.script before.source.left × (HandheldRefuses before.palm.contents refusal
-    ⊎ (HasHandheld before.palm.contents × (FilesRefuse before.desk.contents refusal
-    ⊎ (StandsApart before.desk.contents × TraceRefuses words.trace refusal)))))
+BackupRefuses words before refusal = Refuses (backup_judges words) words.trace before refusal
 
 -- ---- a backup with a session
 

@@ -1,5 +1,5 @@
 -- What holds of every install: all objects before it, and all of them after it.
-use Rattle.std.specs.Prelude.{◌≡◌, ◌⊎◌, ℕ, true, false, List, [], ◌∷◌, map, Option, None, Some, IfSome}
+use Rattle.std.specs.Prelude.{◌≡◌, ⊤, ℕ, true, false, List, [], ◌∷◌, map, Option, None, Some, IfSome}
 use Rattle.pdb_values.specs.Databases.{DatabaseValue}
 use Rattle.pdb_values.specs.Heads.{is_read_only}
 use Rattle.palm_device.specs.Devices.{Device}
@@ -17,9 +17,9 @@ use Rattle.run_words.specs.Betweens.{Between}
 use Rattle.hotsync_looks.specs.InstallFiles.{FileRefuses, IsInstallFile}
 use Rattle.cmd_status.specs.Told.{SinkTold}
 use Rattle.cmd_status.specs.declared.status.Status.{Status}
+use Rattle.cmd_files.specs.Judges.{Judges, Refuses}
 use Rattle.cmd_files.specs.Loads.{HadLoad}
 use Rattle.call_parts.specs.LineRuns.{SaidAll, frames_in}
-use Rattle.call_parts.specs.Refusals.{HandheldRefuses, HasHandheld, TraceRefuses}
 use Rattle.call_parts.specs.SessionCalls.{IsSessionCall, MayHaveSession, Paths, SessionCommand}
 use Rattle.call_parts.specs.Told.{CallTold, FolderTold}
 use Rattle.call_parts.specs.Traces.{TakesTrace}
@@ -33,13 +33,18 @@ pub record HasInstallFile (left : Option (List ℕ)) : Type 0 where
   pub database : DatabaseValue
   pub file : IfSome left (λ bytes. IsInstallFile bytes database)
 
--- The file is judged first, then the handheld's folder, and last the trace is opened, each where
--- all that comes before it is good.
+-- the file is judged, and no other folder
+abbrev pub install_judges : Between → Judges
+install_judges words = record {
+  SourceRefuses = λ left refusal. FileRefuses words.other left refusal;
+  HasSource = λ left. HasInstallFile left;
+  FolderRefuses = λ kept refusal. ⊥;
+  HasFolder = λ kept. ⊤;
+}
+
+-- it, the handheld's folder and the trace behind it
 abbrev pub InstallRefuses : Between → CallTold → Status → Type 0
-InstallRefuses words before refusal =
-    FileRefuses words.other before.source.left refusal
-    ⊎ (HasInstallFile before.source.left × (HandheldRefuses before.palm.contents refusal
-    ⊎ (HasHandheld before.palm.contents × TraceRefuses words.trace refusal)))
+InstallRefuses words before refusal = Refuses (install_judges words) words.trace before refusal
 
 -- ---- an install with a session
 

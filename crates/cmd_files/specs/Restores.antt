@@ -17,9 +17,10 @@ use Rattle.run_words.specs.Betweens.{Between}
 use Rattle.cmd_status.specs.FolderFaults.{backup_status}
 use Rattle.cmd_status.specs.Told.{SinkTold}
 use Rattle.cmd_status.specs.declared.status.Status.{Status}
+use Rattle.cmd_files.specs.Judges.{Judges, Refuses}
 use Rattle.cmd_files.specs.Loads.{HadLoad}
 use Rattle.call_parts.specs.LineRuns.{frames_in}
-use Rattle.call_parts.specs.Refusals.{HandheldRefuses, HasHandheld, IsDesktopFailure, TraceRefuses}
+use Rattle.call_parts.specs.Refusals.{IsDesktopFailure}
 use Rattle.call_parts.specs.Scripts.{HasScript, IsScripted, ScriptRefuses}
 use Rattle.call_parts.specs.SessionCalls.{IsSessionCall, MayHaveSession, Paths, SessionCommand}
 use Rattle.call_parts.specs.Stays.{StaysAsItWas}
@@ -45,14 +46,18 @@ pub record HasBackups (kept : Option FileMap) : Type 0 where
   pub databases : List DatabaseValue
   pub holds : IfSome kept (λ held. HoldsBackups held databases)
 
--- The script is judged first, then the handheld's folder, then the folder of backups, and last the
--- trace is opened. Each is judged where all that comes before it is good.
+-- the script is judged, and the folder of backups
+abbrev pub restore_judges : Between → Judges
+restore_judges words = record {
+  SourceRefuses = λ left refusal. ScriptRefuses words.script left refusal;
+  HasSource = λ left. HasScript words.script left;
+  FolderRefuses = λ kept refusal. BackupsRefuse kept refusal;
+  HasFolder = λ kept. HasBackups kept;
+}
+
+-- they, the handheld's folder between them, and the trace behind them
 abbrev pub RestoreRefuses : Between → CallTold → Status → Type 0
-RestoreRefuses words before refusal =
-    ScriptRefuses words.script before.source.left refusal
-    ⊎ (HasScript words.script before.source.left × (HandheldRefuses before.palm.contents refusal
-    ⊎ (HasHandheld before.palm.contents × (BackupsRefuse before.desk.contents refusal
-    ⊎ (HasBackups before.desk.contents × TraceRefuses words.trace refusal)))))
+RestoreRefuses words before refusal = Refuses (restore_judges words) words.trace before refusal
 
 -- ---- a restore with a session
 

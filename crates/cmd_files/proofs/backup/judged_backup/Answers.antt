@@ -1,31 +1,26 @@
 use Rattle.std.proofs.Common.{ap, refl, Err}
 use Rattle.run_words.specs.Views.{between_view}
-use Rattle.cmd_status.specs.Told.{sink_told, source_told}
-use Rattle.call_parts.specs.Told.{CallTold, folder_told}
-use Rattle.cmd_files.proofs.BackupRefused.{by_files, by_handheld, by_script, by_trace}
-use Rattle.cmd_files.proofs.BackupRuns.{by_backup}
+use Rattle.call_parts.specs.Told.{call_told}
+use Rattle.cmd_files.proofs.BackupRuns.{backup_judged, by_backup}
+use Rattle.cmd_files.proofs.JudgedCalls.{by_folder, by_handheld, by_source, by_trace}
 use Rattle.call_parts.proofs.TraceLaws.{talk_not_handheld, talk_not_source}
 use Rattle.cmd_files.proofs.backup.judged_backup.Goals as goal
 
 pub returns-in-Err-open_files-clause-ran : goal.returns-in-Err-open_files-clause-ran
 returns-in-Err-open_files-clause-ran g c =
     let words = between_view c.args.words.now in
-    let before : CallTold = record {
-      palm = folder_told g.H.Folder.contents g.H.Folder.moments g.H.Folder.paths g.H.Folder.faults c.args.device;
-      desk = folder_told g.D.Folder.contents g.D.Folder.moments g.D.Folder.paths g.D.Folder.faults c.args.desk;
-      source = source_told g.S.Source c.args.source.now;
-      trace = sink_told g.T.Sink c.args.trace.now;
-    } in
-    let after : CallTold = record {
-      palm = folder_told g.H.Folder.contents g.H.Folder.moments g.H.Folder.paths g.H.Folder.faults c.in-Ok-open_handheld.store.folder;
-      desk = folder_told g.D.Folder.contents g.D.Folder.moments g.D.Folder.paths g.D.Folder.faults c.in-Err-open_files.desk;
-      source = source_told g.S.Source c.script_of.new.source;
-      trace = sink_told g.T.Sink c.args.trace.now;
-    } in
+    let before = call_told g.H.Folder g.D.Folder g.S.Source g.T.Sink c.args.device c.args.desk c.args.source.now c.args.trace.now in
+    let after =
+    call_told g.H.Folder g.D.Folder g.S.Source g.T.Sink c.in-Ok-open_handheld.store.folder c.in-Err-open_files.desk c.script_of.new.source c.args.trace.now in
     let end = c.not_started-in-Err-open_files.ensures in
     rw (end.status, end.device, end.desk, c.into_folder.ensures)
-    (by_files words before after end.report (record { rules = c.in-Ok.script; scripted = c.in-Ok.ensures.script })
-    (record { databases = c.in-Ok-open_handheld.store.databases; user = c.in-Ok-open_handheld.store.user; holds = c.in-Ok-open_handheld.ensures.held; side = c.in-Ok-open_handheld.ensures.side })
+    (by_folder (backup_judged words) before after end.report (record { rules = c.in-Ok.script; scripted = c.in-Ok.ensures.script })
+    (record {
+      databases = c.in-Ok-open_handheld.store.databases;
+      user = c.in-Ok-open_handheld.store.user;
+      holds = c.in-Ok-open_handheld.ensures.held;
+      side = c.in-Ok-open_handheld.ensures.side;
+    })
     c.in-Err-open_files.ensures.refused c.in-Err-open_files.ensures.failed c.in-Err-open_files.ensures.in_use
     c.in-Ok.ensures.path
     (record { contents = c.in-Ok-open_handheld.ensures.contents; moments = c.in-Ok-open_handheld.ensures.moments }) c.in-Ok-open_handheld.ensures.path
@@ -35,56 +30,40 @@ returns-in-Err-open_files-clause-ran g c =
 pub returns-in-Ok-open_trace-clause-ran : goal.returns-in-Ok-open_trace-clause-ran
 returns-in-Ok-open_trace-clause-ran g c =
     let words = between_view c.args.words.now in
-    let before : CallTold = record {
-      palm = folder_told g.H.Folder.contents g.H.Folder.moments g.H.Folder.paths g.H.Folder.faults c.args.device;
-      desk = folder_told g.D.Folder.contents g.D.Folder.moments g.D.Folder.paths g.D.Folder.faults c.args.desk;
-      source = source_told g.S.Source c.args.source.now;
-      trace = sink_told g.T.Sink c.args.trace.now;
-    } in
-    let after : CallTold = record {
-      palm = folder_told g.H.Folder.contents g.H.Folder.moments g.H.Folder.paths g.H.Folder.faults c.traced_backup.result.device;
-      desk = folder_told g.D.Folder.contents g.D.Folder.moments g.D.Folder.paths g.D.Folder.faults c.traced_backup.result.desk;
-      source = source_told g.S.Source c.script_of.new.source;
-      trace = sink_told g.T.Sink c.traced_backup.new.trace;
-    } in
-    by_backup before after (record {
-      scripted = c.in-Ok.ensures.script;
-      script_opened = c.in-Ok.ensures.opened;
-      script = c.in-Ok.ensures.path;
+    let before = call_told g.H.Folder g.D.Folder g.S.Source g.T.Sink c.args.device c.args.desk c.args.source.now c.args.trace.now in
+    let after =
+    call_told g.H.Folder g.D.Folder g.S.Source g.T.Sink c.traced_backup.result.device c.traced_backup.result.desk c.script_of.new.source c.traced_backup.new.trace in
+    by_backup {words = words} before after (record {
+      source_opened = c.in-Ok.ensures.opened;
       handheld = c.in-Ok-open_handheld.ensures.held;
       closed = refl;
-      stays = record { contents = c.in-Ok-open_handheld.ensures.contents; moments = c.in-Ok-open_handheld.ensures.moments };
+      palm_stays = record { contents = c.in-Ok-open_handheld.ensures.contents; moments = c.in-Ok-open_handheld.ensures.moments };
       palm_opened = c.in-Ok-open_handheld.ensures.opened;
       palm_later = c.in-Ok-open_handheld.ensures.later;
-      apart = c.in-Ok-open_files.ensures.apart;
-      desk_stays = record { contents = c.in-Ok-open_files.ensures.contents; moments = c.in-Ok-open_files.ensures.moments };
       desk_opened = c.in-Ok-open_files.ensures.opened;
       desk_later = c.in-Ok-open_files.ensures.later;
       trace_opened = c.in-Ok-open_trace.ensures.opened;
-      trace_at_most = c.in-Ok-open_trace.ensures.path;
       trace_taken = c.in-Ok-open_trace.ensures.taken;
       trace_later = c.in-Ok-open_trace.ensures.later;
-    }) c.traced_backup.ensures.talk c.traced_backup.ensures.traced
+    }) c.in-Ok.ensures.script c.in-Ok-open_files.ensures.apart
+    (record { contents = c.in-Ok-open_files.ensures.contents; moments = c.in-Ok-open_files.ensures.moments })
+    c.traced_backup.ensures.talk c.traced_backup.ensures.traced
 
 pub returns-in-Err-open_trace-clause-ran : goal.returns-in-Err-open_trace-clause-ran
 returns-in-Err-open_trace-clause-ran g c =
     let words = between_view c.args.words.now in
-    let before : CallTold = record {
-      palm = folder_told g.H.Folder.contents g.H.Folder.moments g.H.Folder.paths g.H.Folder.faults c.args.device;
-      desk = folder_told g.D.Folder.contents g.D.Folder.moments g.D.Folder.paths g.D.Folder.faults c.args.desk;
-      source = source_told g.S.Source c.args.source.now;
-      trace = sink_told g.T.Sink c.args.trace.now;
-    } in
-    let after : CallTold = record {
-      palm = folder_told g.H.Folder.contents g.H.Folder.moments g.H.Folder.paths g.H.Folder.faults c.in-Ok-open_handheld.store.folder;
-      desk = folder_told g.D.Folder.contents g.D.Folder.moments g.D.Folder.paths g.D.Folder.faults c.in-Ok-open_files.files;
-      source = source_told g.S.Source c.script_of.new.source;
-      trace = sink_told g.T.Sink c.open_trace.new.trace;
-    } in
+    let before = call_told g.H.Folder g.D.Folder g.S.Source g.T.Sink c.args.device c.args.desk c.args.source.now c.args.trace.now in
+    let after =
+    call_told g.H.Folder g.D.Folder g.S.Source g.T.Sink c.in-Ok-open_handheld.store.folder c.in-Ok-open_files.files c.script_of.new.source c.open_trace.new.trace in
     let end = c.not_started-in-Err-open_trace.ensures in
     rw (end.status, end.device, end.desk, c.into_folder-in-Err-open_trace.ensures)
-    (by_trace words before after end.report (record { rules = c.in-Ok.script; scripted = c.in-Ok.ensures.script })
-    (record { databases = c.in-Ok-open_handheld.store.databases; user = c.in-Ok-open_handheld.store.user; holds = c.in-Ok-open_handheld.ensures.held; side = c.in-Ok-open_handheld.ensures.side })
+    (by_trace (backup_judged words) before after end.report (record { rules = c.in-Ok.script; scripted = c.in-Ok.ensures.script })
+    (record {
+      databases = c.in-Ok-open_handheld.store.databases;
+      user = c.in-Ok-open_handheld.store.user;
+      holds = c.in-Ok-open_handheld.ensures.held;
+      side = c.in-Ok-open_handheld.ensures.side;
+    })
     c.in-Ok-open_files.ensures.apart c.in-Err-open_trace.ensures.refused (λ e. c.in-Err-open_trace.ensures.failed (ap Err e)) c.in-Ok.ensures.path
     (record { contents = c.in-Ok-open_handheld.ensures.contents; moments = c.in-Ok-open_handheld.ensures.moments }) c.in-Ok-open_handheld.ensures.path
     (record { contents = c.in-Ok-open_files.ensures.contents; moments = c.in-Ok-open_files.ensures.moments }) c.in-Ok-open_files.ensures.path
@@ -93,40 +72,20 @@ returns-in-Err-open_trace-clause-ran g c =
 pub returns-in-Err-clause-ran : goal.returns-in-Err-clause-ran
 returns-in-Err-clause-ran g c =
     let words = between_view c.args.words.now in
-    let before : CallTold = record {
-      palm = folder_told g.H.Folder.contents g.H.Folder.moments g.H.Folder.paths g.H.Folder.faults c.args.device;
-      desk = folder_told g.D.Folder.contents g.D.Folder.moments g.D.Folder.paths g.D.Folder.faults c.args.desk;
-      source = source_told g.S.Source c.args.source.now;
-      trace = sink_told g.T.Sink c.args.trace.now;
-    } in
-    let after : CallTold = record {
-      palm = folder_told g.H.Folder.contents g.H.Folder.moments g.H.Folder.paths g.H.Folder.faults c.args.device;
-      desk = folder_told g.D.Folder.contents g.D.Folder.moments g.D.Folder.paths g.D.Folder.faults c.args.desk;
-      source = source_told g.S.Source c.script_of.new.source;
-      trace = sink_told g.T.Sink c.args.trace.now;
-    } in
+    let before = call_told g.H.Folder g.D.Folder g.S.Source g.T.Sink c.args.device c.args.desk c.args.source.now c.args.trace.now in
+    let after = call_told g.H.Folder g.D.Folder g.S.Source g.T.Sink c.args.device c.args.desk c.script_of.new.source c.args.trace.now in
     let end = c.not_started.ensures in
     rw (end.status, end.device, end.desk)
-    (by_script words before after end.report c.in-Err.ensures.refused (λ e. c.in-Err.ensures.failed (ap Err e)) c.in-Err.ensures.path refl refl refl)
+    (by_source (backup_judged words) before after end.report c.in-Err.ensures.refused (λ e. c.in-Err.ensures.failed (ap Err e)) c.in-Err.ensures.path refl refl refl)
 
 pub returns-in-Err-open_handheld-clause-ran : goal.returns-in-Err-open_handheld-clause-ran
 returns-in-Err-open_handheld-clause-ran g c =
     let words = between_view c.args.words.now in
-    let before : CallTold = record {
-      palm = folder_told g.H.Folder.contents g.H.Folder.moments g.H.Folder.paths g.H.Folder.faults c.args.device;
-      desk = folder_told g.D.Folder.contents g.D.Folder.moments g.D.Folder.paths g.D.Folder.faults c.args.desk;
-      source = source_told g.S.Source c.args.source.now;
-      trace = sink_told g.T.Sink c.args.trace.now;
-    } in
-    let after : CallTold = record {
-      palm = folder_told g.H.Folder.contents g.H.Folder.moments g.H.Folder.paths g.H.Folder.faults c.in-Err-open_handheld.device;
-      desk = folder_told g.D.Folder.contents g.D.Folder.moments g.D.Folder.paths g.D.Folder.faults c.args.desk;
-      source = source_told g.S.Source c.script_of.new.source;
-      trace = sink_told g.T.Sink c.args.trace.now;
-    } in
+    let before = call_told g.H.Folder g.D.Folder g.S.Source g.T.Sink c.args.device c.args.desk c.args.source.now c.args.trace.now in
+    let after = call_told g.H.Folder g.D.Folder g.S.Source g.T.Sink c.in-Err-open_handheld.device c.args.desk c.script_of.new.source c.args.trace.now in
     let end = c.not_started-in-Err-open_handheld.ensures in
     rw (end.status, end.device, end.desk)
-    (by_handheld words before after end.report (record { rules = c.in-Ok.script; scripted = c.in-Ok.ensures.script }) c.in-Err-open_handheld.ensures.refused
+    (by_handheld (backup_judged words) before after end.report (record { rules = c.in-Ok.script; scripted = c.in-Ok.ensures.script }) c.in-Err-open_handheld.ensures.refused
     c.in-Err-open_handheld.ensures.failed c.in-Err-open_handheld.ensures.in_use c.in-Ok.ensures.path
     (record { contents = c.in-Err-open_handheld.ensures.contents; moments = c.in-Err-open_handheld.ensures.moments })
     c.in-Err-open_handheld.ensures.path refl refl)
