@@ -3,7 +3,9 @@ pub mod EarlierLaws
 pub mod EndLaws
 pub mod FrontLaws
 pub mod FrontMoments
+pub mod JudgedCalls
 pub mod LineLaws
+pub mod OpenedCalls
 pub mod RefusalLaws
 pub mod RefusedCalls
 pub mod RetoldCalls
@@ -14,5 +16,6 @@ pub mod SpokeLaws
 pub mod StopLaws
 pub mod TraceLaws
 pub mod UndisturbedLaws
+pub mod WellLaws
 pub mod WholeLaws
 pub mod WriteLaws

@@ -1,4 +1,4 @@
--- Why a run is refused before its session, by what was judged first.
+-- Why an object is refused before a session, and which one a refusal blames.
 use Rattle.std.specs.Prelude.{◌≡◌, ◌⊎◌, ⊤, ℕ, Bool, true, false, List, Option, Some, IfSome}
 use Rattle.std.specs.FinMap as finmap
 use Rattle.hs_folders.specs.FileMaps.{FileMap}
@@ -10,11 +10,8 @@ use Rattle.handheld_files.specs.declared.fault.OpenFault.{OpenFault}
 use Rattle.desk_journal.specs.Overlays.{finished}
 use Rattle.desk_store.specs.Desks as desktop
 use Rattle.desk_store.specs.declared.fault.DeskOpenFault.{DeskOpenFault}
-use Rattle.run_words.specs.Runs.{Run}
 use Rattle.trace_text.specs.declared.frame.End.TheVariants as end
 use Rattle.cmd_status.specs.FolderFaults.{desktop_status, handheld_status}
-use Rattle.call_parts.specs.Scripts.{HasScript, ScriptRefuses}
-use Rattle.call_parts.specs.Told.{CallTold}
 use Rattle.cmd_status.specs.declared.status.FileSide.TheVariants as side
 use Rattle.cmd_status.specs.declared.status.Status.{Status}
 use Rattle.cmd_status.specs.declared.status.Status.TheVariants.{BadScript, TooLong, BadFile, TooMany, HandheldFolder, DesktopFolder, SourceRead, TraceWrite}
@@ -94,15 +91,6 @@ pub record TraceRefuses (path : Option (List ℕ)) (refusal : Status) : Type 0 w
   pub name : List ℕ
   pub named : path ≡ Some name
   pub is : IsTraceRefusal refusal
-
--- The script is judged first, then the handheld's folder, then the desktop's, and last the trace is
--- opened. Each is judged where all that comes before it is good.
-abbrev pub IsRefused : Run → CallTold → Status → Type 0
-IsRefused run before refusal =
-    ScriptRefuses run.script before.source.left refusal
-    ⊎ (HasScript run.script before.source.left × (HandheldRefuses before.palm.contents refusal
-    ⊎ (HasHandheld before.palm.contents × (DesktopRefuses before.desk.contents refusal
-    ⊎ (HasDesktop before.desk.contents × TraceRefuses run.trace refusal)))))
 
 -- one that blames the source, the script of a run or the file of a look or of an install, which is
 -- judged before a folder is touched

@@ -19,8 +19,8 @@ use Rattle.call_parts.specs.Stays.{StaysAsItWas}
 use Rattle.call_parts.specs.Told.{CallTold, FolderTold, SidesTold, sides_of}
 use Rattle.call_parts.specs.Traces.{TracesReport}
 use Rattle.cmd_files.proofs.BackupSpoke.{backup_retold}
-use Rattle.cmd_files.proofs.JudgedCalls.{IsJudged, never_done, of_script}
-use Rattle.cmd_files.proofs.OpenedCalls.{AreOpened, both_told, by_session}
+use Rattle.call_parts.proofs.JudgedCalls.{IsJudged, never_done, of_script}
+use Rattle.call_parts.proofs.OpenedCalls.{AreOpened, both_told, by_session}
 use Rattle.call_parts.proofs.CallPrinted.{IsPrintable}
 use Rattle.call_parts.proofs.EarlierLaws.{spoke_from}
 use Rattle.call_parts.proofs.RefusalLaws.{IsDesktopAlone, desktop_failed, stays_same}

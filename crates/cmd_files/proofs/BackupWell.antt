@@ -7,8 +7,8 @@ use Rattle.cmd_status.specs.Printed.{IsPrinted}
 use Rattle.cmd_status.specs.Told.{SinkTold}
 use Rattle.cmd_files.specs.Backups.{BackupShows, HasBackedUp, IsCalmBackup, backup_command}
 use Rattle.cmd_files.proofs.BackupRuns.{backup_judged}
-use Rattle.cmd_files.proofs.JudgedCalls.{refuses_none}
-use Rattle.cmd_files.proofs.WellLaws.{IsOwnStop, call_well, session_well}
+use Rattle.call_parts.proofs.JudgedCalls.{refuses_none}
+use Rattle.call_parts.proofs.WellLaws.{IsOwnStop, call_well, session_well}
 use Rattle.call_parts.specs.Files.{FilesRefuse, is_synced}
 use Rattle.call_parts.specs.Refusals.{IsDesktopFailure}
 use Rattle.call_parts.specs.Told.{CallTold}

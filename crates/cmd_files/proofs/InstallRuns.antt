@@ -12,9 +12,9 @@ use Rattle.cmd_files.specs.Installs.{HasInstalled, InstallRan, install_command, 
 use Rattle.cmd_files.specs.Loads.{IsLoadTalk}
 use Rattle.call_parts.specs.Told.{CallTold, FolderTold, sides_of}
 use Rattle.call_parts.specs.Traces.{TracesReport}
-use Rattle.cmd_files.proofs.JudgedCalls.{IsJudged, IsSourceAlone, never_done}
+use Rattle.call_parts.proofs.JudgedCalls.{IsJudged, IsSourceAlone, never_done}
 use Rattle.cmd_files.proofs.LoadSpoke.{load_from, load_retold}
-use Rattle.cmd_files.proofs.OpenedCalls.{AreOpened, both_told, by_session}
+use Rattle.call_parts.proofs.OpenedCalls.{AreOpened, both_told, by_session}
 use Rattle.call_parts.proofs.CallPrinted.{IsPrintable}
 use Rattle.call_parts.proofs.RetoldLaws.{StaysShown}
 use Rattle.call_parts.proofs.RetoldCalls.{retold_done, retold_served, traced_as}

@@ -15,9 +15,9 @@ use Rattle.cmd_status.specs.Told.{SinkTold}
 use Rattle.cmd_files.specs.Installs.{HasInstalled, InstallRan, IsCalmInstall, install_command}
 use Rattle.cmd_files.proofs.InstallLaws.{full_of}
 use Rattle.cmd_files.proofs.InstallRuns.{install_judged}
-use Rattle.cmd_files.proofs.JudgedCalls.{refuses_none}
+use Rattle.call_parts.proofs.JudgedCalls.{refuses_none}
 use Rattle.cmd_files.proofs.LoadWell.{load_well}
-use Rattle.cmd_files.proofs.WellLaws.{call_well, kind_line}
+use Rattle.call_parts.proofs.WellLaws.{call_well, kind_line}
 use Rattle.call_parts.specs.LineRuns.{frames_in}
 use Rattle.call_parts.specs.Told.{CallTold}
 use Rattle.call_parts.specs.Undisturbed.{EndsWell}

@@ -8,14 +8,11 @@ pub mod EmulationLaws
 pub mod InstallLaws
 pub mod InstallRuns
 pub mod InstallWell
-pub mod JudgedCalls
 pub mod LoadActLaws
 pub mod LoadSaid
 pub mod LoadSpoke
 pub mod LoadWell
 pub mod NeverLaws
-pub mod OpenedCalls
 pub mod QuietRuns
 pub mod RestoreRuns
 pub mod RestoreWell
-pub mod WellLaws

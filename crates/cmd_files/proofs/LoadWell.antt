@@ -7,7 +7,7 @@ use Rattle.line_script.specs.Rules.{RuleValue}
 use Rattle.install_backup.specs.declared.mark.Mark.{Mark}
 use Rattle.install_backup.specs.InstallEnds.{first_full}
 use Rattle.cmd_files.specs.Loads.{HadLoad, LoadShows}
-use Rattle.cmd_files.proofs.WellLaws.{IsOwnStop, session_well}
+use Rattle.call_parts.proofs.WellLaws.{IsOwnStop, session_well}
 use Rattle.call_parts.specs.LineRuns.{frames_in}
 use Rattle.call_parts.specs.Told.{FolderTold}
 use Rattle.call_parts.specs.Undisturbed.{EndsWell, IsKindScript}

@@ -18,9 +18,9 @@ use Rattle.call_parts.specs.Scripts.{IsScripted}
 use Rattle.call_parts.specs.Stays.{StaysAsItWas}
 use Rattle.call_parts.specs.Told.{CallTold, FolderTold, sides_of}
 use Rattle.call_parts.specs.Traces.{TracesReport}
-use Rattle.cmd_files.proofs.JudgedCalls.{IsJudged, never_done, of_script}
+use Rattle.call_parts.proofs.JudgedCalls.{IsJudged, never_done, of_script}
 use Rattle.cmd_files.proofs.LoadSpoke.{load_from, load_retold}
-use Rattle.cmd_files.proofs.OpenedCalls.{AreOpened, both_told, by_session}
+use Rattle.call_parts.proofs.OpenedCalls.{AreOpened, both_told, by_session}
 use Rattle.call_parts.proofs.CallPrinted.{IsPrintable}
 use Rattle.call_parts.proofs.RefusalLaws.{IsDesktopAlone, desktop_failed, stays_same}
 use Rattle.call_parts.proofs.RetoldLaws.{StaysShown}

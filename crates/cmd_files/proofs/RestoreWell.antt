@@ -13,10 +13,10 @@ use Rattle.run_words.specs.Betweens.{Between}
 use Rattle.cmd_status.specs.FolderFaults.{backup_status}
 use Rattle.cmd_status.specs.Printed.{IsPrinted}
 use Rattle.cmd_status.specs.Told.{SinkTold}
-use Rattle.cmd_files.proofs.JudgedCalls.{refuses_none}
+use Rattle.call_parts.proofs.JudgedCalls.{refuses_none}
 use Rattle.cmd_files.proofs.RestoreRuns.{restore_judged}
 use Rattle.cmd_files.proofs.LoadWell.{load_well}
-use Rattle.cmd_files.proofs.WellLaws.{call_well}
+use Rattle.call_parts.proofs.WellLaws.{call_well}
 use Rattle.cmd_files.specs.Restores.{BackupsRefuse, HasRestored, IsCalmRestore, IsGoodBackups, restore_command}
 use Rattle.call_parts.specs.Refusals.{IsDesktopFailure}
 use Rattle.call_parts.specs.Told.{CallTold}

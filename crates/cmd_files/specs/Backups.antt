@@ -26,7 +26,7 @@ use Rattle.cmd_status.specs.Told.{SinkTold}
 use Rattle.cmd_status.specs.declared.status.Status.{Status}
 use Rattle.cmd_status.specs.declared.status.Status.TheVariants.{Limit, NewHandheld, OtherUser, TooManyUsers}
 use Rattle.call_parts.specs.LineRuns.{SaidAll, frames_in, log_in}
-use Rattle.cmd_files.specs.Judges.{Judges, Refuses}
+use Rattle.call_parts.specs.Judges.{Judges, Refuses}
 use Rattle.call_parts.specs.Scripts.{HasScript, IsScripted, ScriptRefuses}
 use Rattle.call_parts.specs.Files.{FilesRefuse, StandsApart, is_synced}
 use Rattle.call_parts.specs.SessionCalls.{IsSessionCall, MayHaveSession, Paths, SessionCommand}

@@ -17,7 +17,7 @@ use Rattle.run_words.specs.Betweens.{Between}
 use Rattle.hotsync_looks.specs.InstallFiles.{FileRefuses, IsInstallFile}
 use Rattle.cmd_status.specs.Told.{SinkTold}
 use Rattle.cmd_status.specs.declared.status.Status.{Status}
-use Rattle.cmd_files.specs.Judges.{Judges, Refuses}
+use Rattle.call_parts.specs.Judges.{Judges, Refuses}
 use Rattle.cmd_files.specs.Loads.{HadLoad}
 use Rattle.call_parts.specs.LineRuns.{SaidAll, frames_in}
 use Rattle.call_parts.specs.SessionCalls.{IsSessionCall, MayHaveSession, Paths, SessionCommand}

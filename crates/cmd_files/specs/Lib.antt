@@ -2,7 +2,6 @@ pub mod Backups
 pub mod Besides
 pub mod Emulations
 pub mod Installs
-pub mod Judges
 pub mod Loads
 pub mod Moves
 pub mod Restores

@@ -17,7 +17,7 @@ use Rattle.run_words.specs.Betweens.{Between}
 use Rattle.cmd_status.specs.FolderFaults.{backup_status}
 use Rattle.cmd_status.specs.Told.{SinkTold}
 use Rattle.cmd_status.specs.declared.status.Status.{Status}
-use Rattle.cmd_files.specs.Judges.{Judges, Refuses}
+use Rattle.call_parts.specs.Judges.{Judges, Refuses}
 use Rattle.cmd_files.specs.Loads.{HadLoad}
 use Rattle.call_parts.specs.LineRuns.{frames_in}
 use Rattle.call_parts.specs.Refusals.{IsDesktopFailure}

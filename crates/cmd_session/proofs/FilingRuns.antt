@@ -1,7 +1,6 @@
--- What is known of a call that brings categories together, from before its folders were opened on, whatever is printed of it. Its objects are
--- judged and opened as those of a run between the same folders are.
-use Rattle.std.proofs.Common.{◌≡◌, ◌⊎◌, ◌∙◌, ◌^◌, ◌-◌, inl, inr, refl, sym, subst, List}
-use Rattle.std.specs.Prelude.{false, None}
+-- What is known of a call that brings categories together, by how it is judged and by its session, from before its folders were opened on,
+-- whatever is printed of it.
+use Rattle.std.proofs.Common.{◌≡◌, ◌⊎◌, ◌∙◌, inl, inr, subst, List}
 use Rattle.std.specs.Option.{option_map}
 use Rattle.hs_folders.specs.Moments.{EachMomentSince, Moments}
 use Rattle.hs_folders.proofs.MomentLaws.{moments_go_on, moments_weaken}
@@ -12,70 +11,36 @@ use Rattle.desk_store.specs.Shelves.{SlotValue}
 use Rattle.category_mirror.specs.FilingEnds.{StandsFiled}
 use Rattle.category_mirror.specs.Sides.{Filing, filing_of}
 use Rattle.run_words.specs.Betweens.{Between}
-use Rattle.run_words.specs.Runs.{Run}
-use Rattle.trace_text.specs.declared.frame.End.TheVariants as line_end
-use Rattle.cmd_status.specs.Opening.{OpensGiven, OpensGivenAtMost}
-use Rattle.cmd_status.specs.Printed.{IsPrintedStatus}
 use Rattle.cmd_status.specs.Told.{SinkTold}
-use Rattle.call_parts.specs.Causes.{ByEnd}
-use Rattle.cmd_session.specs.Filings.{CategoriesRan, FilingLeft, HadFiling, HasFiled, IsFilingTalk, StandsInSomeTurn, categories_command}
-use Rattle.call_parts.specs.Refusals.{BlamesSource, LeavesDesktopUnread}
-use Rattle.call_parts.specs.Reports.{IsNotStarted}
-use Rattle.cmd_session.specs.Runs.{HasRun, SessionRan, run_command}
+use Rattle.call_parts.specs.Judges.{desktop_judges}
+use Rattle.cmd_session.specs.Filings.{CategoriesRan, FilingLeft, HasFiled, IsFilingTalk, StandsInSomeTurn, categories_command, categories_paths}
 use Rattle.call_parts.specs.Stays.{StandsAsItDid}
-use Rattle.call_parts.specs.SessionCalls.{SentNothing}
 use Rattle.call_parts.specs.Stays.{StaysAsItWas}
-use Rattle.call_parts.specs.Sessions.{KeptSilent}
 use Rattle.call_parts.specs.Told.{CallTold, FolderTold, SidesTold, sides_of}
 use Rattle.call_parts.specs.Traces.{TracesReport}
-use Rattle.call_parts.proofs.CallPrinted.{IsPrintable, call_printed}
+use Rattle.call_parts.proofs.CallPrinted.{IsPrintable}
+use Rattle.call_parts.proofs.JudgedCalls.{IsJudged, never_done, of_script}
+use Rattle.call_parts.proofs.OpenedCalls.{AreOpened, both_told, by_session}
+use Rattle.call_parts.proofs.RefusalLaws.{desktop_alone}
 use Rattle.cmd_session.proofs.FilingSpoke.{filing_retold}
-use Rattle.call_parts.proofs.RefusedCalls.{refused_call}
-use Rattle.call_parts.proofs.RetoldLaws.{StaysShown, by_end_then}
-use Rattle.cmd_session.proofs.RunLaws.{refused_not_done}
+use Rattle.call_parts.proofs.RetoldLaws.{StaysShown}
 use Rattle.call_parts.proofs.RetoldCalls.{retold_done, retold_served, traced_as}
-use Rattle.cmd_session.proofs.SessionRuns.{AreOpened, both_told}
+use Rattle.cmd_session.proofs.SessionRuns.{IsDeskOpened, keeps_same, keeps_stood}
 use Rattle.call_parts.proofs.EarlierLaws.{spoke_from}
 use Rattle.call_parts.proofs.TraceLaws.{traced_from}
-use Rattle.call_parts.proofs.TraceLaws.{talk_not_in_use, talk_not_source}
 use Rattle.call_parts.specs.declared.report.Report.{Report}
-use Rattle.call_parts.specs.declared.report.SessionEnd.{SessionEnd}
 use Rattle.cmd_status.specs.declared.status.Status.{Status}
-use Rattle.folder_copies.proofs.CopyLaws.{rose_before}
 
--- ---- as a run between the same folders
+-- ---- how it is judged
 
-abbrev pub as_run : Between → Run
-as_run words = record {
-  handheld = words.handheld;
-  desktop = words.other;
-  date = 0;
-  script = words.script;
-  trace = words.trace;
-  choice = record { only = None; actions = None };
-  slow = false;
-  user = None;
-  add_user = false;
+pub filing_judged : (words : Between) → IsJudged (categories_command words) (desktop_judges words.script)
+filing_judged words = record {
+  refuses = λ before refusal is. is;
+  judged = λ before refusal is. is;
+  source = λ left refusal refuses. of_script refusal refuses.is;
+  folder = λ kept refusal refuses. desktop_alone refuses;
+  kept = λ told refusal. keeps_same told refusal;
 }
-
--- a call is refused where such a run is
-pub refused_as : (words : Between) {before after : CallTold} {refusal : Status} {report : Report} → IsNotStarted report
-    → HasRun (as_run words) before after refusal report → HasFiled words before after refusal report
-refused_as words {before} {after} {refusal} {report} is has =
-    let sent = subst (λ (e : SessionEnd). ByEnd e (SentNothing (run_command (as_run words)) before after refusal report)
-    (SessionRan (as_run words) before after refusal report)) is.end has.shown in
-    refused_call (categories_command words) (record {
-      judged = sent.judged;
-      report_is = sent.report_is;
-      handheld = sent.handheld;
-      desktop = sent.desktop;
-      trace = sent.trace;
-    }) has.blames (record {
-      handheld = has.opened.handheld;
-      desktop = has.opened.desktop;
-      source = has.opened.source;
-      trace = has.opened.trace;
-    })
 
 -- ---- a session
 
@@ -100,71 +65,30 @@ left_from {filing} {first} {before} {after} stays finished_is stood left = recor
   unseated = left.unseated;
 }
 
-module _ {words : Between} (before after : CallTold) {palm desk : FolderTold} {trace : SinkTold} {rules : List RuleValue} {device : Device}
-    {slots : List SlotValue} {status : Status} {report : Report}
-    (opened : AreOpened (as_run words) before after.source palm desk trace rules device slots) where
-  silent_call : TracesReport words.trace report trace after.trace status → KeptSilent (both_told palm desk) (sides_of after) status report
-      → SentNothing (categories_command words) before after status report
-  silent_call traced silent = record {
-    judged = inl silent.memory;
-    report_is = silent.report_is;
-    handheld = subst (StaysAsItWas before.palm) (sym silent.handheld) opened.stays;
-    desktop = record {
-      stands = subst (StandsAsItDid before.desk) (sym silent.desktop) opened.stands;
-      unread = λ unread. absurd (subst LeavesDesktopUnread silent.memory unread);
-    };
-    trace = traced.silent silent.report_is.frames ∙ opened.trace_taken;
-  }
-
-  session_call : TracesReport words.trace report trace after.trace status
-      → HadFiling rules (filing_of device slots) desk.contents (both_told palm desk) (sides_of after) status report
-      → CategoriesRan words before after status report
-  session_call traced had = record {
-    rules = rules;
-    scripted = opened.scripted;
-    device = device;
-    slots = slots;
-    handheld = opened.handheld;
-    closed = opened.closed;
-    desktop = opened.slots_are;
-    had = record {
-      spoke = spoke_from opened.stays had.spoke;
-      left = left_from {first = sides_of before} {before = both_told palm desk} {after = sides_of after} opened.stays opened.finished_is opened.stands
-          had.left;
-      shows = had.shows;
-    };
-    traced = traced_from before.trace opened.trace_taken opened.trace_later traced.traced;
-  }
-
-  -- a call with a session
-  pub by_filing : IsFilingTalk rules (filing_of device slots) (both_told palm desk) (sides_of after) status report
-      → TracesReport words.trace report trace after.trace status → HasFiled words before after status report
-  by_filing talk traced = record {
-    shown = by_end_then report.end {A = KeptSilent (both_told palm desk) (sides_of after) status report}
-        {B = HadFiling rules (filing_of device slots) desk.contents (both_told palm desk) (sides_of after) status report}
-        {C = SentNothing (categories_command words) before after status report} {D = CategoriesRan words before after status report}
-        (silent_call traced) (session_call traced) talk.shown;
-    blames = record {
-      source = λ e. absurd (talk_not_source talk (λ had. had.spoke.why.ends) (subst BlamesSource (sym e) tt));
-      folders = record {
-        handheld = λ e. rose_before (2 ^ 64 - 1) before.palm.faults palm.faults after.palm.faults opened.palm_later (talk.blames.handheld e);
-        desktop = λ e. rose_before (2 ^ 64 - 1) before.desk.faults desk.faults after.desk.faults opened.desk_later (talk.blames.desktop e);
+-- a call with a session
+pub by_filing : {words : Between} (before after : CallTold) {palm desk : FolderTold} {trace : SinkTold} {rules : List RuleValue} {device : Device}
+    {slots : List SlotValue} {status : Status} {report : Report} → AreOpened (categories_paths words) before after.source palm desk trace device
+    → IsDeskOpened words.script before.source.left before.desk desk rules slots
+    → IsFilingTalk rules (filing_of device slots) (both_told palm desk) (sides_of after) status report
+    → TracesReport words.trace report trace after.trace status → HasFiled words before after status report
+by_filing {words} before after {palm} {desk} {rules = rules} {device} {slots} opened met talk traced =
+    by_session (categories_command words) before after opened (λ same memory. keeps_stood met.stands same memory) talk traced
+    (λ had. had.spoke.why.ends) (λ had. record {
+      rules = rules;
+      scripted = met.scripted;
+      device = device;
+      slots = slots;
+      handheld = opened.handheld;
+      closed = opened.closed;
+      desktop = met.slots_are;
+      had = record {
+        spoke = spoke_from opened.palm_stays had.spoke;
+        left = left_from {first = sides_of before} {before = both_told palm desk} {after = sides_of after} opened.palm_stays met.finished_is met.stands
+            had.left;
+        shows = had.shows;
       };
-      handheld_in_use = λ e. absurd (talk_not_in_use talk (λ had. had.spoke.why.ends) line_end.Handheld e);
-      desktop_in_use = λ e. absurd (talk_not_in_use talk (λ had. had.spoke.why.ends) line_end.Desktop e);
-      trace = λ e. rose_before (2 ^ 64 - 1) before.trace.faults trace.faults after.trace.faults opened.trace_later (traced.failed e);
-    };
-    opened = record {
-      handheld = inr (talk.paths.handheld ∙ opened.palm_opened);
-      desktop = inr (talk.paths.desktop ∙ opened.desk_opened);
-      source = opened.script;
-      trace = subst (OpensGivenAtMost words.trace before.trace.paths) (sym traced.paths) opened.trace_at_most;
-      handheld_opened = λ begun. talk.paths.handheld ∙ opened.palm_opened;
-      desktop_opened = λ begun. talk.paths.desktop ∙ opened.desk_opened;
-      source_opened = λ begun. opened.script_opened;
-      trace_opened = λ begun. subst (OpensGiven words.trace before.trace.paths) (sym traced.paths) opened.trace_opened;
-    };
-  }
+      traced = traced_from before.trace opened.trace_taken opened.trace_later traced.traced;
+    })
 
 -- ---- whatever is printed of it
 
@@ -182,14 +106,9 @@ ran_retold words before after status other report is ran = record {
   traced = traced_as other (retold_done other is) (retold_served other is) ran.traced;
 }
 
-filing_printable : (words : Between) → IsPrintable (categories_command words)
+pub filing_printable : (words : Between) → IsPrintable (categories_command words)
 filing_printable words = record {
-  not_done = λ before judged. refused_not_done (as_run words) before judged refl;
+  not_done = never_done (filing_judged words);
   kept = λ before after status kept. record { stands = kept.stands; unread = λ unread. absurd unread };
   stays = λ before after. ran_retold words before after;
 }
-
--- what is known of a call stays, whatever is printed of it
-pub filing_printed : {words : Between} {before after : CallTold} {status : Status} {report : Report} → HasFiled words before after status report
-    → (printed : Status) → IsPrintedStatus status printed → HasFiled words before after printed report
-filing_printed {words} has printed is = call_printed (filing_printable words) printed is has

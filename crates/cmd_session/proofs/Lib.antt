@@ -14,9 +14,7 @@ pub mod MakeLines
 pub mod MakeScripts
 pub mod MeetingSaid
 pub mod NeverLaws
-pub mod RefusedRuns
 pub mod RetoldTalks
-pub mod RunLaws
 pub mod SessionRuns
 pub mod StatusLaws
 pub mod TalkLaws

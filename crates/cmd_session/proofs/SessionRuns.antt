@@ -1,13 +1,11 @@
--- What is known of a run with a session, from before its folders were opened on.
-use Rattle.std.proofs.Common.{◌≡◌, ◌⊎◌, ◌∙◌, ◌-◌, ◌^◌, ◌≤◌, List, inl, inr, refl, sym, subst, ap}
-use Rattle.std.specs.Prelude.{IfSome, Option}
+-- What is known of a run, by how it is judged and by its session, from before its folders were opened on.
+use Rattle.std.proofs.Common.{◌≡◌, ◌⊎◌, ◌∙◌, List, ℕ, inl, inr, refl, sym, subst, ap}
+use Rattle.std.specs.Prelude.{Option}
 use Rattle.std.specs.Option.{option_map}
 use Rattle.hs_folders.specs.FileMaps.{FileMap}
 use Rattle.hs_folders.specs.Moments.{EachMomentSince}
 use Rattle.hs_folders.proofs.MomentLaws.{moments_go_on, moments_weaken}
 use Rattle.palm_device.specs.Devices.{Device}
-use Rattle.palm_device.specs.Handles.{no_handles}
-use Rattle.handheld_files.specs.Openings.{HoldsAll}
 use Rattle.line_script.specs.Rules.{RuleValue}
 use Rattle.desk_journal.specs.Overlays.{FinishesAs, finished, put_all}
 use Rattle.desk_store.specs.Desks.{IsDesk}
@@ -16,28 +14,48 @@ use Rattle.run_words.specs.Runs.{Run}
 use Rattle.session_plan.specs.Merges.{merged_slots}
 use Rattle.sync_session.specs.Outcomes.{StandsForSlots}
 use Rattle.session_plan.specs.Tasks.{Meeting, meeting_of}
-use Rattle.trace_text.specs.declared.frame.End.TheVariants as line_end
 use Rattle.cmd_session.specs.Ends.{SessionLeft}
-use Rattle.cmd_status.specs.Opening.{Opens, OpensGiven, OpensGivenAtMost}
-use Rattle.call_parts.specs.Refusals.{BlamesSource}
-use Rattle.call_parts.specs.Refusals.{LeavesDesktopUnread}
-use Rattle.cmd_session.specs.Runs.{HasRun, SessionRan, run_command}
+use Rattle.call_parts.specs.Refusals.{LeavesDesktopUnread, TraceRefuses}
+use Rattle.cmd_session.specs.Runs.{HasRun, KeepsDesktop, SessionRan, run_command, run_paths}
+use Rattle.call_parts.specs.Judges.{desktop_judges}
 use Rattle.call_parts.specs.Stays.{StandsAsItDid}
-use Rattle.call_parts.specs.SessionCalls.{SentNothing}
 use Rattle.call_parts.specs.Stays.{StaysAsItWas}
-use Rattle.call_parts.specs.Sessions.{KeptSilent}
 use Rattle.call_parts.specs.Scripts.{IsScripted}
-use Rattle.cmd_session.specs.Talks.{DesktopRan, IsRunTalk, BegunSession, TalkedFor}
-use Rattle.cmd_status.specs.Told.{SinkTold, SourceTold}
+use Rattle.cmd_session.specs.Talks.{DesktopRan, IsRunTalk, BegunSession}
+use Rattle.cmd_status.specs.Told.{SinkTold}
 use Rattle.call_parts.specs.Told.{CallTold, FolderTold, SidesTold, sides_of}
 use Rattle.call_parts.specs.Traces.{TracesReport}
-use Rattle.call_parts.proofs.RetoldLaws.{by_end_then}
-use Rattle.call_parts.proofs.TraceLaws.{talk_not_in_use, talk_not_source, traced_from}
+use Rattle.call_parts.proofs.CallPrinted.{IsPrintable}
+use Rattle.call_parts.proofs.JudgedCalls.{IsJudged, never_done, of_script}
+use Rattle.call_parts.proofs.OpenedCalls.{AreOpened, both_told, by_session}
+use Rattle.call_parts.proofs.RefusalLaws.{desktop_alone, stands_same, stays_same, trace_alone}
+use Rattle.call_parts.proofs.RetoldLaws.{StaysShown}
+use Rattle.call_parts.proofs.RetoldCalls.{retold_done, retold_served, traced_as}
+use Rattle.call_parts.proofs.TraceLaws.{traced_from}
+use Rattle.cmd_session.proofs.RetoldTalks.{talked_retold}
 use Rattle.call_parts.specs.declared.report.Report.{Report}
 use Rattle.call_parts.specs.declared.report.SessionEnd.{SessionEnd}
 use Rattle.cmd_status.specs.declared.status.Status.{Status}
-use Rattle.folder_copies.proofs.CopyLaws.{rose_before}
+use Rattle.cmd_status.specs.declared.status.Status.TheVariants.{NoMemory}
 use Rattle.call_parts.proofs.EarlierLaws.{spoke_from}
+
+-- ---- the desktop's folder
+
+-- where it was not touched it is kept
+pub keeps_same : (told : FolderTold) (status : Status) → KeepsDesktop told told status
+keeps_same told status = record { stands = stands_same refl; unread = λ unread. stays_same refl }
+
+-- and where memory ran out once it was opened
+pub keeps_stood : {first before after : FolderTold} {status : Status} → StandsAsItDid first before → after ≡ before → status ≡ NoMemory
+    → KeepsDesktop first after status
+keeps_stood {first} stood same memory =
+    record { stands = subst (StandsAsItDid first) (sym same) stood; unread = λ unread. absurd (subst LeavesDesktopUnread memory unread) }
+
+-- and where the trace was refused
+pub keeps_traced : {path : Option (List ℕ)} {first after : FolderTold} {refusal : Status} → TraceRefuses path refusal → StandsAsItDid first after
+    → KeepsDesktop first after refusal
+keeps_traced {refusal = refusal} refuses stood =
+    record { stands = stood; unread = λ unread. absurd ((trace_alone refusal refuses.is).unread unread) }
 
 -- what a session left, told from before a journal was finished on
 left_from : {meeting : Meeting} {palm_after first before after : FolderTold} {report : Report} → StandsAsItDid first before
@@ -94,89 +112,64 @@ desktop_ran {meeting} {first} before {after} finished_is stood ran =
       changed = subst (λ (t : Option FileMap). EachMomentSince (FinishesAs t) ran.between after.moments) same ran.changed;
     }
 
--- what stands between the opening of all objects and their session
-pub record AreOpened (run : Run) (before : CallTold) (source : SourceTold) (palm desk : FolderTold) (trace : SinkTold) (rules : List RuleValue)
-    (device : Device) (slots : List SlotValue) : Type 0 where
-  pub scripted : IsScripted run.script before.source.left rules
-  pub script_opened : OpensGiven run.script before.source.paths source.paths
-  pub script : OpensGivenAtMost run.script before.source.paths source.paths
-  pub handheld : IfSome before.palm.contents (λ held. HoldsAll held device.databases device.user)
-  pub closed : device.handles ≡ no_handles
-  pub stays : StaysAsItWas before.palm palm
-  pub palm_opened : Opens run.handheld before.palm.paths palm.paths
-  pub palm_later : before.palm.faults ≤ palm.faults
-  pub slots_are : IsDesk (option_map finished before.desk.contents) slots
-  pub finished_is : desk.contents ≡ option_map finished before.desk.contents
-  pub stands : StandsAsItDid before.desk desk
-  pub desk_opened : Opens run.desktop before.desk.paths desk.paths
-  pub desk_later : before.desk.faults ≤ desk.faults
-  pub trace_opened : OpensGiven run.trace before.trace.paths trace.paths
-  pub trace_at_most : OpensGivenAtMost run.trace before.trace.paths trace.paths
-  pub trace_taken : trace.taken ≡ before.trace.taken
-  pub trace_later : before.trace.faults ≤ trace.faults
+-- ---- a run
 
--- both folders told
-abbrev pub both_told : FolderTold → FolderTold → SidesTold
-both_told palm desk = record { palm = palm; desk = desk }
+pub run_judged : (run : Run) → IsJudged (run_command run) (desktop_judges run.script)
+run_judged run = record {
+  refuses = λ before refusal is. is;
+  judged = λ before refusal is. is;
+  source = λ left refusal refuses. of_script refusal refuses.is;
+  folder = λ kept refusal refuses. desktop_alone refuses;
+  kept = λ told refusal. keeps_same told refusal;
+}
 
-module _ {run : Run} (before after : CallTold) {palm desk : FolderTold} {trace : SinkTold} {rules : List RuleValue} {device : Device}
-    {slots : List SlotValue} {status : Status} {report : Report} (opened : AreOpened run before after.source palm desk trace rules device slots) where
-  silent_run : TracesReport run.trace report trace after.trace status → KeptSilent (both_told palm desk) (sides_of after) status report
-      → SentNothing (run_command run) before after status report
-  silent_run traced silent = record {
-    judged = inl silent.memory;
-    report_is = silent.report_is;
-    handheld = subst (StaysAsItWas before.palm) (sym silent.handheld) opened.stays;
-    desktop = record {
-      stands = subst (StandsAsItDid before.desk) (sym silent.desktop) opened.stands;
-      unread = λ unread. absurd (subst LeavesDesktopUnread silent.memory unread);
-    };
-    trace = traced.silent silent.report_is.frames ∙ opened.trace_taken;
-  }
+-- what the opening of the desktop's folder left of it, which finished a journal that was there
+pub record IsDeskOpened (script left : Option (List ℕ)) (first desk : FolderTold) (rules : List RuleValue) (slots : List SlotValue) : Type 0 where
+  pub scripted : IsScripted script left rules
+  pub slots_are : IsDesk (option_map finished first.contents) slots
+  pub finished_is : desk.contents ≡ option_map finished first.contents
+  pub stands : StandsAsItDid first desk
 
-  session_run : TracesReport run.trace report trace after.trace status
-      → TalkedFor run rules device slots (both_told palm desk) (sides_of after) status report → SessionRan run before after status report
-  session_run traced had = record {
-    rules = rules;
-    scripted = opened.scripted;
-    meeting = meeting_of device slots had.wishes;
-    meets = record {
-      handheld = opened.handheld;
-      closed = opened.closed;
-      desktop = opened.slots_are;
-      picked = refl;
-      asked = had.asked;
-    };
-    changed = desktop_ran desk opened.finished_is opened.stands had.changed;
-    talked = talked_from (both_told palm desk) opened.stays opened.stands had.talked;
-    traced = traced_from before.trace opened.trace_taken opened.trace_later traced.traced;
-  }
-
-  -- a run with a session
-  pub by_session : IsRunTalk run rules device slots (both_told palm desk) (sides_of after) status report → TracesReport run.trace report trace after.trace status
-      → HasRun run before after status report
-  by_session talk traced = record {
-    shown = by_end_then report.end {A = KeptSilent (both_told palm desk) (sides_of after) status report}
-        {B = TalkedFor run rules device slots (both_told palm desk) (sides_of after) status report} {C = SentNothing (run_command run) before after status report}
-        {D = SessionRan run before after status report} (silent_run traced) (session_run traced) talk.shown;
-    blames = record {
-      source = λ e. absurd (talk_not_source talk (λ had. had.talked.spoke.why.ends) (subst BlamesSource (sym e) tt));
-      folders = record {
-        handheld = λ e. rose_before (2 ^ 64 - 1) before.palm.faults palm.faults after.palm.faults opened.palm_later (talk.blames.handheld e);
-        desktop = λ e. rose_before (2 ^ 64 - 1) before.desk.faults desk.faults after.desk.faults opened.desk_later (talk.blames.desktop e);
+-- a run with a session
+pub by_run : {run : Run} (before after : CallTold) {palm desk : FolderTold} {trace : SinkTold} {rules : List RuleValue} {device : Device}
+    {slots : List SlotValue} {status : Status} {report : Report} → AreOpened (run_paths run) before after.source palm desk trace device
+    → IsDeskOpened run.script before.source.left before.desk desk rules slots
+    → IsRunTalk run rules device slots (both_told palm desk) (sides_of after) status report → TracesReport run.trace report trace after.trace status
+    → HasRun run before after status report
+by_run {run} before after {palm} {desk} {rules = rules} {device} {slots} opened met talk traced =
+    by_session (run_command run) before after opened (λ same memory. keeps_stood met.stands same memory) talk traced (λ had. had.talked.spoke.why.ends)
+    (λ had. record {
+      rules = rules;
+      scripted = met.scripted;
+      meeting = meeting_of device slots had.wishes;
+      meets = record {
+        handheld = opened.handheld;
+        closed = opened.closed;
+        desktop = met.slots_are;
+        picked = refl;
+        asked = had.asked;
       };
-      handheld_in_use = λ e. absurd (talk_not_in_use talk (λ had. had.talked.spoke.why.ends) line_end.Handheld e);
-      desktop_in_use = λ e. absurd (talk_not_in_use talk (λ had. had.talked.spoke.why.ends) line_end.Desktop e);
-      trace = λ e. rose_before (2 ^ 64 - 1) before.trace.faults trace.faults after.trace.faults opened.trace_later (traced.failed e);
-    };
-    opened = record {
-      handheld = inr (talk.paths.handheld ∙ opened.palm_opened);
-      desktop = inr (talk.paths.desktop ∙ opened.desk_opened);
-      source = opened.script;
-      trace = subst (OpensGivenAtMost run.trace before.trace.paths) (sym traced.paths) opened.trace_at_most;
-      handheld_opened = λ begun. talk.paths.handheld ∙ opened.palm_opened;
-      desktop_opened = λ begun. talk.paths.desktop ∙ opened.desk_opened;
-      source_opened = λ begun. opened.script_opened;
-      trace_opened = λ begun. subst (OpensGiven run.trace before.trace.paths) (sym traced.paths) opened.trace_opened;
-    };
-  }
+      changed = desktop_ran desk met.finished_is met.stands had.changed;
+      talked = talked_from (both_told palm desk) opened.palm_stays met.stands had.talked;
+      traced = traced_from before.trace opened.trace_taken opened.trace_later traced.traced;
+    })
+
+-- ---- whatever is printed of it
+
+ran_retold : (run : Run) (before after : CallTold) → StaysShown (SessionRan run before after)
+ran_retold run before after status other report is ran = record {
+  rules = ran.rules;
+  scripted = ran.scripted;
+  meeting = ran.meeting;
+  meets = ran.meets;
+  changed = ran.changed;
+  talked = talked_retold other is ran.talked;
+  traced = traced_as other (retold_done other is) (retold_served other is) ran.traced;
+}
+
+pub run_printable : (run : Run) → IsPrintable (run_command run)
+run_printable run = record {
+  not_done = never_done (run_judged run);
+  kept = λ before after status kept. record { stands = kept.stands; unread = λ unread. absurd unread };
+  stays = λ before after. ran_retold run before after;
+}

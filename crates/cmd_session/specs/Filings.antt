@@ -26,9 +26,9 @@ use Rattle.cmd_status.specs.declared.status.Status.{Status}
 use Rattle.cmd_status.specs.declared.status.Status.TheVariants.{DesktopFolder, Limit, NewHandheld, OtherUser, TooManyUsers}
 use Rattle.call_parts.specs.Causes.{IsCutShort, fault_status}
 use Rattle.call_parts.specs.LineRuns.{SaidAll, frames_in, log_in}
-use Rattle.call_parts.specs.Refusals.{DesktopRefuses, HandheldRefuses, HasDesktop, HasHandheld, TraceRefuses}
+use Rattle.call_parts.specs.Judges.{Refuses, desktop_judges}
 use Rattle.cmd_session.specs.Runs.{KeepsDesktop}
-use Rattle.call_parts.specs.Scripts.{HasScript, IsScripted, ScriptRefuses}
+use Rattle.call_parts.specs.Scripts.{IsScripted}
 use Rattle.call_parts.specs.SessionCalls.{IsSessionCall, MayHaveSession, Paths, SessionCommand}
 use Rattle.call_parts.specs.Sessions.{Agenda, HadSession, IsTalk}
 use Rattle.call_parts.specs.Told.{CallTold, FolderTold, SidesTold, sides_of}
@@ -39,14 +39,9 @@ use Rattle.call_parts.specs.declared.report.SessionEnd.TheVariants.{Ended, Stopp
 
 -- ---- a call that sent nothing
 
--- The script is judged first, then the handheld's folder, then the desktop's, and last the trace is
--- opened. Each is judged where all that comes before it is good.
+-- the script is judged, the handheld's folder, the desktop's and the trace, in this order
 abbrev pub FilingRefuses : Between → CallTold → Status → Type 0
-FilingRefuses words before refusal =
-    ScriptRefuses words.script before.source.left refusal
-    ⊎ (HasScript words.script before.source.left × (HandheldRefuses before.palm.contents refusal
-    ⊎ (HasHandheld before.palm.contents × (DesktopRefuses before.desk.contents refusal
-    ⊎ (HasDesktop before.desk.contents × TraceRefuses words.trace refusal)))))
+FilingRefuses words before refusal = Refuses (desktop_judges words.script) words.trace before refusal
 
 -- ---- what a session leaves
 

@@ -8,7 +8,8 @@ use Rattle.run_words.specs.Runs.{Run}
 use Rattle.session_plan.specs.Tasks.{Meeting}
 use Rattle.call_parts.specs.LineRuns.{frames_in}
 use Rattle.cmd_session.specs.Meetings.{Meets}
-use Rattle.call_parts.specs.Refusals.{IsRefused, LeavesDesktopUnread}
+use Rattle.call_parts.specs.Judges.{Refuses, desktop_judges}
+use Rattle.call_parts.specs.Refusals.{LeavesDesktopUnread}
 use Rattle.call_parts.specs.Scripts.{IsScripted}
 use Rattle.call_parts.specs.SessionCalls.{IsSessionCall, MayHaveSession, Paths, SessionCommand}
 use Rattle.call_parts.specs.Stays.{StaysAsItWas}
@@ -22,6 +23,10 @@ use Rattle.call_parts.specs.declared.report.Report.{Report}
 use Rattle.cmd_status.specs.declared.status.Status.{Status}
 
 -- ---- a run that sent nothing
+
+-- its script is judged, the handheld's folder, the desktop's and the trace, in this order
+abbrev pub RunRefuses : Run → CallTold → Status → Type 0
+RunRefuses run before refusal = Refuses (desktop_judges run.script) run.trace before refusal
 
 -- what a run that sent nothing keeps of the desktop's folder: what it stood for, and all of it
 -- where it was not read
@@ -59,7 +64,7 @@ run_paths run = record {
 abbrev pub run_command : Run → SessionCommand
 run_command run = record {
   paths = run_paths run;
-  Judged = λ before refusal. IsRefused run before refusal;
+  Judged = λ before refusal. RunRefuses run before refusal;
   Kept = λ before after status. KeepsDesktop before after status;
   Had = λ before after status report. SessionRan run before after status report;
   Undisturbed = λ before after out said report. IsUndisturbed run before after out said report;

@@ -5,7 +5,8 @@ use Rattle.handheld_files.specs.declared.fault.OpenFault.{OpenFault}
 use Rattle.desk_store.specs.declared.fault.DeskOpenFault.{DeskOpenFault}
 use Rattle.run_words.specs.Runs.{Run}
 use Rattle.hotsync_run.specs.Clean.{IsLineStop}
-use Rattle.call_parts.specs.Refusals.{IsDesktopFailure, IsHandheldFailure, IsRefused}
+use Rattle.call_parts.specs.Refusals.{IsDesktopFailure, IsHandheldFailure}
+use Rattle.cmd_session.specs.Runs.{RunRefuses}
 use Rattle.cmd_status.specs.FolderFaults.{desktop_status, handheld_status}
 use Rattle.call_parts.specs.Scripts.{IsScriptRefusal}
 use Rattle.call_parts.specs.Told.{CallTold}
@@ -28,7 +29,7 @@ desktop_not_stopped : (fault : DeskOpenFault) → ¬ IsLineStop (desktop_status 
 desktop_not_stopped fault = grind (arith, common_steps)
 
 module _ (run : Run) (before : CallTold) (status : Status) where
-  pub refused_not_stopped : IsRefused run before status → ¬ IsLineStop status
+  pub refused_not_stopped : RunRefuses run before status → ¬ IsLineStop status
   refused_not_stopped (inl script) = script_not_stopped status script.is
   refused_not_stopped (inr (_, inl (inl failed))) = handheld_failed_not_stopped status failed
   refused_not_stopped (inr (_, inl (inr (inl wrong)))) = subst (λ (s : Status). ¬ IsLineStop s) (sym wrong.is) (λ no. no)

@@ -2,7 +2,7 @@ use Rattle.std.proofs.Common.{ap, refl, Err}
 use Rattle.run_words.specs.Views.{between_view}
 use Rattle.call_parts.specs.Told.{call_told}
 use Rattle.cmd_files.proofs.BackupRuns.{backup_judged, by_backup}
-use Rattle.cmd_files.proofs.JudgedCalls.{by_folder, by_handheld, by_source, by_trace}
+use Rattle.call_parts.proofs.JudgedCalls.{by_folder, by_handheld, by_source, by_trace}
 use Rattle.call_parts.proofs.TraceLaws.{talk_not_handheld, talk_not_source}
 use Rattle.cmd_files.proofs.backup.judged_backup.Goals as goal
 

@@ -2,7 +2,7 @@ use Rattle.std.proofs.Common.{ap, arith, inl, refl, Err}
 use Rattle.run_words.specs.Views.{between_view}
 use Rattle.call_parts.specs.Told.{call_told, folder_told}
 use Rattle.cmd_files.proofs.InstallRuns.{by_install, install_judged}
-use Rattle.cmd_files.proofs.JudgedCalls.{by_handheld, by_source, by_trace}
+use Rattle.call_parts.proofs.JudgedCalls.{by_handheld, by_source, by_trace}
 use Rattle.call_parts.proofs.TraceLaws.{talk_not_source}
 use Rattle.cmd_files.proofs.install.judged_install.Goals as goal
 

@@ -1,7 +1,7 @@
 use Rattle.std.proofs.Common.{ap, refl, Err}
 use Rattle.run_words.specs.Views.{between_view}
 use Rattle.call_parts.specs.Told.{call_told, folder_told}
-use Rattle.cmd_files.proofs.JudgedCalls.{by_folder, by_handheld, by_source, by_trace}
+use Rattle.call_parts.proofs.JudgedCalls.{by_folder, by_handheld, by_source, by_trace}
 use Rattle.cmd_files.proofs.RestoreRuns.{by_restore, restore_judged}
 use Rattle.call_parts.proofs.TraceLaws.{talk_not_handheld, talk_not_source}
 use Rattle.cmd_files.proofs.restore.judged_restore.Goals as goal

@@ -1,136 +1,104 @@
 use Rattle.std.proofs.Common.{ap, refl, Err}
 use Rattle.run_words.specs.Views.{between_view}
-use Rattle.cmd_status.specs.Told.{sink_told, source_told}
-use Rattle.call_parts.specs.Told.{CallTold, folder_told}
-use Rattle.cmd_session.proofs.RefusedRuns.{by_desktop, by_handheld, by_script, by_trace}
-use Rattle.cmd_session.proofs.FilingRuns.{as_run, by_filing, refused_as}
+use Rattle.call_parts.specs.Told.{call_told}
+use Rattle.call_parts.proofs.JudgedCalls.{by_folder, by_handheld, by_source, by_trace}
+use Rattle.cmd_session.proofs.FilingRuns.{by_filing, filing_judged}
+use Rattle.cmd_session.proofs.SessionRuns.{keeps_traced}
 use Rattle.call_parts.proofs.TraceLaws.{talk_not_handheld, talk_not_source}
 use Rattle.cmd_session.proofs.categories.judged_categories.Goals as goal
 
 pub returns-in-Err-open_desktop-clause-ran : goal.returns-in-Err-open_desktop-clause-ran
 returns-in-Err-open_desktop-clause-ran g c =
     let words = between_view c.args.words.now in
-    let before : CallTold = record {
-      palm = folder_told g.H.Folder.contents g.H.Folder.moments g.H.Folder.paths g.H.Folder.faults c.args.device;
-      desk = folder_told g.D.Folder.contents g.D.Folder.moments g.D.Folder.paths g.D.Folder.faults c.args.desk;
-      source = source_told g.S.Source c.args.source.now;
-      trace = sink_told g.T.Sink c.args.trace.now;
-    } in
-    let after : CallTold = record {
-      palm = folder_told g.H.Folder.contents g.H.Folder.moments g.H.Folder.paths g.H.Folder.faults c.in-Ok-open_handheld.store.folder;
-      desk = folder_told g.D.Folder.contents g.D.Folder.moments g.D.Folder.paths g.D.Folder.faults c.in-Err-open_desktop.desk;
-      source = source_told g.S.Source c.script_of.new.source;
-      trace = sink_told g.T.Sink c.args.trace.now;
-    } in
+    let before = call_told g.H.Folder g.D.Folder g.S.Source g.T.Sink c.args.device c.args.desk c.args.source.now c.args.trace.now in
+    let after =
+    call_told g.H.Folder g.D.Folder g.S.Source g.T.Sink c.in-Ok-open_handheld.store.folder c.in-Err-open_desktop.desk c.script_of.new.source c.args.trace.now in
     let end = c.not_started-in-Err-open_desktop.ensures in
     rw (end.status, end.device, end.desk, c.into_folder.ensures)
-    (refused_as words end.report (by_desktop (as_run words) before after end.report (record { rules = c.in-Ok.script; scripted = c.in-Ok.ensures.script })
-    (record { databases = c.in-Ok-open_handheld.store.databases; user = c.in-Ok-open_handheld.store.user; holds = c.in-Ok-open_handheld.ensures.held; side = c.in-Ok-open_handheld.ensures.side })
+    (by_folder (filing_judged words) before after end.report (record { rules = c.in-Ok.script; scripted = c.in-Ok.ensures.script })
+    (record {
+      databases = c.in-Ok-open_handheld.store.databases;
+      user = c.in-Ok-open_handheld.store.user;
+      holds = c.in-Ok-open_handheld.ensures.held;
+      side = c.in-Ok-open_handheld.ensures.side;
+    })
     c.in-Err-open_desktop.ensures.refused c.in-Err-open_desktop.ensures.failed c.in-Err-open_desktop.ensures.in_use
-    (λ unread. let same = c.in-Err-open_desktop.ensures.unread unread in record { contents = same.0; moments = same.1 }) c.in-Ok.ensures.path
+    c.in-Ok.ensures.path
     (record { contents = c.in-Ok-open_handheld.ensures.contents; moments = c.in-Ok-open_handheld.ensures.moments }) c.in-Ok-open_handheld.ensures.path
-    (record { stands = c.in-Err-open_desktop.ensures.stands; each_moment = c.in-Err-open_desktop.ensures.each_moment })
-    c.in-Err-open_desktop.ensures.path refl))
+    (record {
+      stands = record { stands = c.in-Err-open_desktop.ensures.stands; each_moment = c.in-Err-open_desktop.ensures.each_moment };
+      unread = λ unread. let same = c.in-Err-open_desktop.ensures.unread unread in record { contents = same.0; moments = same.1 };
+    })
+    c.in-Err-open_desktop.ensures.path refl)
 
 pub returns-in-Ok-open_trace-clause-ran : goal.returns-in-Ok-open_trace-clause-ran
 returns-in-Ok-open_trace-clause-ran g c =
     let words = between_view c.args.words.now in
-    let before : CallTold = record {
-      palm = folder_told g.H.Folder.contents g.H.Folder.moments g.H.Folder.paths g.H.Folder.faults c.args.device;
-      desk = folder_told g.D.Folder.contents g.D.Folder.moments g.D.Folder.paths g.D.Folder.faults c.args.desk;
-      source = source_told g.S.Source c.args.source.now;
-      trace = sink_told g.T.Sink c.args.trace.now;
-    } in
-    let after : CallTold = record {
-      palm = folder_told g.H.Folder.contents g.H.Folder.moments g.H.Folder.paths g.H.Folder.faults c.traced_categories.result.device;
-      desk = folder_told g.D.Folder.contents g.D.Folder.moments g.D.Folder.paths g.D.Folder.faults c.traced_categories.result.desk;
-      source = source_told g.S.Source c.script_of.new.source;
-      trace = sink_told g.T.Sink c.traced_categories.new.trace;
-    } in
+    let before = call_told g.H.Folder g.D.Folder g.S.Source g.T.Sink c.args.device c.args.desk c.args.source.now c.args.trace.now in
+    let after =
+    call_told g.H.Folder g.D.Folder g.S.Source g.T.Sink c.traced_categories.result.device c.traced_categories.result.desk c.script_of.new.source c.traced_categories.new.trace in
     by_filing {words = words} before after (record {
-      scripted = c.in-Ok.ensures.script;
-      script_opened = c.in-Ok.ensures.opened;
-      script = c.in-Ok.ensures.path;
+      source_opened = c.in-Ok.ensures.opened;
       handheld = c.in-Ok-open_handheld.ensures.held;
       closed = refl;
-      stays = record { contents = c.in-Ok-open_handheld.ensures.contents; moments = c.in-Ok-open_handheld.ensures.moments };
+      palm_stays = record { contents = c.in-Ok-open_handheld.ensures.contents; moments = c.in-Ok-open_handheld.ensures.moments };
       palm_opened = c.in-Ok-open_handheld.ensures.opened;
       palm_later = c.in-Ok-open_handheld.ensures.later;
-      slots_are = c.in-Ok-open_desktop.ensures.slots;
-      finished_is = c.in-Ok-open_desktop.ensures.finished;
-      stands = record { stands = c.in-Ok-open_desktop.ensures.stands; each_moment = c.in-Ok-open_desktop.ensures.each_moment };
       desk_opened = c.in-Ok-open_desktop.ensures.opened;
       desk_later = c.in-Ok-open_desktop.ensures.later;
       trace_opened = c.in-Ok-open_trace.ensures.opened;
-      trace_at_most = c.in-Ok-open_trace.ensures.path;
       trace_taken = c.in-Ok-open_trace.ensures.taken;
       trace_later = c.in-Ok-open_trace.ensures.later;
+    }) (record {
+      scripted = c.in-Ok.ensures.script;
+      slots_are = c.in-Ok-open_desktop.ensures.slots;
+      finished_is = c.in-Ok-open_desktop.ensures.finished;
+      stands = record { stands = c.in-Ok-open_desktop.ensures.stands; each_moment = c.in-Ok-open_desktop.ensures.each_moment };
     }) c.traced_categories.ensures.talk c.traced_categories.ensures.traced
 
 pub returns-in-Err-open_trace-clause-ran : goal.returns-in-Err-open_trace-clause-ran
 returns-in-Err-open_trace-clause-ran g c =
     let words = between_view c.args.words.now in
-    let before : CallTold = record {
-      palm = folder_told g.H.Folder.contents g.H.Folder.moments g.H.Folder.paths g.H.Folder.faults c.args.device;
-      desk = folder_told g.D.Folder.contents g.D.Folder.moments g.D.Folder.paths g.D.Folder.faults c.args.desk;
-      source = source_told g.S.Source c.args.source.now;
-      trace = sink_told g.T.Sink c.args.trace.now;
-    } in
-    let after : CallTold = record {
-      palm = folder_told g.H.Folder.contents g.H.Folder.moments g.H.Folder.paths g.H.Folder.faults c.in-Ok-open_handheld.store.folder;
-      desk = folder_told g.D.Folder.contents g.D.Folder.moments g.D.Folder.paths g.D.Folder.faults c.in-Ok-open_desktop.desk.folder;
-      source = source_told g.S.Source c.script_of.new.source;
-      trace = sink_told g.T.Sink c.open_trace.new.trace;
-    } in
+    let before = call_told g.H.Folder g.D.Folder g.S.Source g.T.Sink c.args.device c.args.desk c.args.source.now c.args.trace.now in
+    let after =
+    call_told g.H.Folder g.D.Folder g.S.Source g.T.Sink c.in-Ok-open_handheld.store.folder c.in-Ok-open_desktop.desk.folder c.script_of.new.source c.open_trace.new.trace in
     let end = c.not_started-in-Err-open_trace.ensures in
     rw (end.status, end.device, end.desk, c.into_folder-in-Err-open_trace.ensures, c.into_folder-in-Err-open_trace-2.ensures)
-    (refused_as words end.report (by_trace (as_run words) before after end.report (record { rules = c.in-Ok.script; scripted = c.in-Ok.ensures.script })
-    (record { databases = c.in-Ok-open_handheld.store.databases; user = c.in-Ok-open_handheld.store.user; holds = c.in-Ok-open_handheld.ensures.held; side = c.in-Ok-open_handheld.ensures.side })
+    (by_trace (filing_judged words) before after end.report (record { rules = c.in-Ok.script; scripted = c.in-Ok.ensures.script })
+    (record {
+      databases = c.in-Ok-open_handheld.store.databases;
+      user = c.in-Ok-open_handheld.store.user;
+      holds = c.in-Ok-open_handheld.ensures.held;
+      side = c.in-Ok-open_handheld.ensures.side;
+    })
     c.in-Ok-open_desktop.ensures.desktop c.in-Err-open_trace.ensures.refused (λ e. c.in-Err-open_trace.ensures.failed (ap Err e)) c.in-Ok.ensures.path
     (record { contents = c.in-Ok-open_handheld.ensures.contents; moments = c.in-Ok-open_handheld.ensures.moments }) c.in-Ok-open_handheld.ensures.path
-    (record { stands = c.in-Ok-open_desktop.ensures.stands; each_moment = c.in-Ok-open_desktop.ensures.each_moment }) c.in-Ok-open_desktop.ensures.path
-    c.in-Err-open_trace.ensures.path c.in-Err-open_trace.ensures.taken))
+    (keeps_traced c.in-Err-open_trace.ensures.refused (record {
+      stands = c.in-Ok-open_desktop.ensures.stands;
+      each_moment = c.in-Ok-open_desktop.ensures.each_moment;
+    })) c.in-Ok-open_desktop.ensures.path
+    c.in-Err-open_trace.ensures.path c.in-Err-open_trace.ensures.taken)
 
 pub returns-in-Err-clause-ran : goal.returns-in-Err-clause-ran
 returns-in-Err-clause-ran g c =
     let words = between_view c.args.words.now in
-    let before : CallTold = record {
-      palm = folder_told g.H.Folder.contents g.H.Folder.moments g.H.Folder.paths g.H.Folder.faults c.args.device;
-      desk = folder_told g.D.Folder.contents g.D.Folder.moments g.D.Folder.paths g.D.Folder.faults c.args.desk;
-      source = source_told g.S.Source c.args.source.now;
-      trace = sink_told g.T.Sink c.args.trace.now;
-    } in
-    let after : CallTold = record {
-      palm = folder_told g.H.Folder.contents g.H.Folder.moments g.H.Folder.paths g.H.Folder.faults c.args.device;
-      desk = folder_told g.D.Folder.contents g.D.Folder.moments g.D.Folder.paths g.D.Folder.faults c.args.desk;
-      source = source_told g.S.Source c.script_of.new.source;
-      trace = sink_told g.T.Sink c.args.trace.now;
-    } in
+    let before = call_told g.H.Folder g.D.Folder g.S.Source g.T.Sink c.args.device c.args.desk c.args.source.now c.args.trace.now in
+    let after = call_told g.H.Folder g.D.Folder g.S.Source g.T.Sink c.args.device c.args.desk c.script_of.new.source c.args.trace.now in
     let end = c.not_started.ensures in
     rw (end.status, end.device, end.desk)
-    (refused_as words end.report (by_script (as_run words) before after end.report c.in-Err.ensures.refused (λ e. c.in-Err.ensures.failed (ap Err e)) c.in-Err.ensures.path refl refl refl))
+    (by_source (filing_judged words) before after end.report c.in-Err.ensures.refused (λ e. c.in-Err.ensures.failed (ap Err e)) c.in-Err.ensures.path refl refl refl)
 
 pub returns-in-Err-open_handheld-clause-ran : goal.returns-in-Err-open_handheld-clause-ran
 returns-in-Err-open_handheld-clause-ran g c =
     let words = between_view c.args.words.now in
-    let before : CallTold = record {
-      palm = folder_told g.H.Folder.contents g.H.Folder.moments g.H.Folder.paths g.H.Folder.faults c.args.device;
-      desk = folder_told g.D.Folder.contents g.D.Folder.moments g.D.Folder.paths g.D.Folder.faults c.args.desk;
-      source = source_told g.S.Source c.args.source.now;
-      trace = sink_told g.T.Sink c.args.trace.now;
-    } in
-    let after : CallTold = record {
-      palm = folder_told g.H.Folder.contents g.H.Folder.moments g.H.Folder.paths g.H.Folder.faults c.in-Err-open_handheld.device;
-      desk = folder_told g.D.Folder.contents g.D.Folder.moments g.D.Folder.paths g.D.Folder.faults c.args.desk;
-      source = source_told g.S.Source c.script_of.new.source;
-      trace = sink_told g.T.Sink c.args.trace.now;
-    } in
+    let before = call_told g.H.Folder g.D.Folder g.S.Source g.T.Sink c.args.device c.args.desk c.args.source.now c.args.trace.now in
+    let after = call_told g.H.Folder g.D.Folder g.S.Source g.T.Sink c.in-Err-open_handheld.device c.args.desk c.script_of.new.source c.args.trace.now in
     let end = c.not_started-in-Err-open_handheld.ensures in
     rw (end.status, end.device, end.desk)
-    (refused_as words end.report (by_handheld (as_run words) before after end.report (record { rules = c.in-Ok.script; scripted = c.in-Ok.ensures.script }) c.in-Err-open_handheld.ensures.refused
+    (by_handheld (filing_judged words) before after end.report (record { rules = c.in-Ok.script; scripted = c.in-Ok.ensures.script }) c.in-Err-open_handheld.ensures.refused
     c.in-Err-open_handheld.ensures.failed c.in-Err-open_handheld.ensures.in_use c.in-Ok.ensures.path
     (record { contents = c.in-Err-open_handheld.ensures.contents; moments = c.in-Err-open_handheld.ensures.moments })
-    c.in-Err-open_handheld.ensures.path refl refl))
+    c.in-Err-open_handheld.ensures.path refl refl)
 
 pub returns-in-Ok-open_trace-clause-source_first : goal.returns-in-Ok-open_trace-clause-source_first
 returns-in-Ok-open_trace-clause-source_first g c = λ blames. absurd (talk_not_source c.traced_categories.ensures.talk (λ had. had.spoke.why.ends) blames)

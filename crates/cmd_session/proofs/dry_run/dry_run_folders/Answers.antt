@@ -1,7 +1,8 @@
 use Rattle.run_words.specs.Views.{run_view}
 use Rattle.cmd_status.specs.Told.{sink_told}
 use Rattle.cmd_session.proofs.DryLaws.{dry_printed}
-use Rattle.cmd_session.proofs.RunLaws.{run_printed}
+use Rattle.call_parts.proofs.CallPrinted.{call_printed}
+use Rattle.cmd_session.proofs.SessionRuns.{run_printable}
 use Rattle.cmd_session.proofs.UndisturbedLaws.{run_ends_well}
 use Rattle.cmd_session.proofs.dry_run.dry_run_folders.Goals as goal
 
@@ -14,7 +15,7 @@ returns-clause-run g c =
     let end = c.printed.ensures in
     let status = c.printed.result.status in
     rw (end.report, end.device, end.desk) (dry_printed status end.status (λ first last has.
-    let ran = run_printed has status end.status in
+    let ran = call_printed (run_printable run) status end.status has in
     record {
       ran = ran;
       complete = run_ends_well run first last out out_after status answer.report ran end.printed;

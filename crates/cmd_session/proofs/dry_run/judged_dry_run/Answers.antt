@@ -1,11 +1,10 @@
 use Rattle.std.proofs.Common.{ap, inl, refl, Err}
 use Rattle.run_words.specs.Views.{run_view}
-use Rattle.cmd_status.specs.Told.{sink_told, source_told}
 use Rattle.call_parts.specs.Stays.{StaysAsItWas}
-use Rattle.call_parts.specs.Told.{CallTold, SidesTold, folder_told}
+use Rattle.call_parts.specs.Told.{SidesTold}
 use Rattle.cmd_session.proofs.DryLaws.{copy_blamed, copy_stands, copy_told, dry_by_copies, dry_of_run, not_begun, stands_still, uncopied}
-use Rattle.cmd_session.proofs.RefusedRuns.{by_desktop, by_handheld, by_script, by_trace}
-use Rattle.cmd_session.proofs.SessionRuns.{by_session}
+use Rattle.call_parts.proofs.JudgedCalls.{by_folder, by_handheld, by_source, by_trace}
+use Rattle.cmd_session.proofs.SessionRuns.{by_run, keeps_traced, run_judged}
 use Rattle.call_parts.proofs.TraceLaws.{talk_not_handheld, talk_not_source}
 use Rattle.cmd_session.specs.DryRuns.{over}
 use Rattle.cmd_session.proofs.dry_run.judged_dry_run.Goals as goal
@@ -13,61 +12,31 @@ use Rattle.cmd_session.proofs.dry_run.judged_dry_run.Goals as goal
 pub returns-in-Err-clause-ran : goal.returns-in-Err-clause-ran
 returns-in-Err-clause-ran g c =
     let run = run_view c.args.words.now in
-    let before : CallTold = record {
-      palm = folder_told g.H.Folder.contents g.H.Folder.moments g.H.Folder.paths g.H.Folder.faults c.args.device;
-      desk = folder_told g.D.Folder.contents g.D.Folder.moments g.D.Folder.paths g.D.Folder.faults c.args.desk;
-      source = source_told g.S.Source c.args.source.now;
-      trace = sink_told g.T.Sink c.args.trace.now;
-    } in
-    let after : CallTold = record {
-      palm = folder_told g.H.Folder.contents g.H.Folder.moments g.H.Folder.paths g.H.Folder.faults c.args.device;
-      desk = folder_told g.D.Folder.contents g.D.Folder.moments g.D.Folder.paths g.D.Folder.faults c.args.desk;
-      source = source_told g.S.Source c.script_of.new.source;
-      trace = sink_told g.T.Sink c.args.trace.now;
-    } in
+    let before = call_told g.H.Folder g.D.Folder g.S.Source g.T.Sink c.args.device c.args.desk c.args.source.now c.args.trace.now in
+    let after = call_told g.H.Folder g.D.Folder g.S.Source g.T.Sink c.args.device c.args.desk c.script_of.new.source c.args.trace.now in
     let end = c.not_started.ensures in
     let still : StaysAsItWas before.palm after.palm = record { contents = refl; moments = refl } in
     let desk_still : StaysAsItWas before.desk after.desk = record { contents = refl; moments = refl } in
     rw (end.status, end.device, end.desk)
-    (dry_of_run (by_script run before after end.report c.in-Err.ensures.refused (λ e. c.in-Err.ensures.failed (ap Err e)) c.in-Err.ensures.path refl refl refl) still desk_still)
+    (dry_of_run (by_source (run_judged run) before after end.report c.in-Err.ensures.refused (λ e. c.in-Err.ensures.failed (ap Err e)) c.in-Err.ensures.path refl refl refl) still desk_still)
 
 pub returns-in-Err-copy_handheld-clause-ran : goal.returns-in-Err-copy_handheld-clause-ran
 returns-in-Err-copy_handheld-clause-ran g c =
     let run = run_view c.args.words.now in
-    let before : CallTold = record {
-      palm = folder_told g.H.Folder.contents g.H.Folder.moments g.H.Folder.paths g.H.Folder.faults c.args.device;
-      desk = folder_told g.D.Folder.contents g.D.Folder.moments g.D.Folder.paths g.D.Folder.faults c.args.desk;
-      source = source_told g.S.Source c.args.source.now;
-      trace = sink_told g.T.Sink c.args.trace.now;
-    } in
-    let after : CallTold = record {
-      palm = folder_told g.H.Folder.contents g.H.Folder.moments g.H.Folder.paths g.H.Folder.faults c.copy_handheld.new.device;
-      desk = folder_told g.D.Folder.contents g.D.Folder.moments g.D.Folder.paths g.D.Folder.faults c.args.desk;
-      source = source_told g.S.Source c.script_of.new.source;
-      trace = sink_told g.T.Sink c.args.trace.now;
-    } in
+    let before = call_told g.H.Folder g.D.Folder g.S.Source g.T.Sink c.args.device c.args.desk c.args.source.now c.args.trace.now in
+    let after = call_told g.H.Folder g.D.Folder g.S.Source g.T.Sink c.copy_handheld.new.device c.args.desk c.script_of.new.source c.args.trace.now in
     let end = c.not_started-in-Err-copy_handheld.ensures in
     let copied = c.in-Err-copy_handheld.ensures in
     let stays : StaysAsItWas before.palm after.palm = record { contents = copied.contents; moments = copied.moments } in
     rw (end.status, end.device, end.desk)
-    (dry_of_run (by_handheld run before after end.report (record { rules = c.in-Ok.script; scripted = c.in-Ok.ensures.script }) (inl copied.refused)
+    (dry_of_run (by_handheld (run_judged run) before after end.report (record { rules = c.in-Ok.script; scripted = c.in-Ok.ensures.script }) (inl copied.refused)
     copied.failed copied.in_use c.in-Ok.ensures.path stays copied.path refl refl) stays (record { contents = refl; moments = refl }))
 
 pub returns-in-Err-open_handheld-clause-ran : goal.returns-in-Err-open_handheld-clause-ran
 returns-in-Err-open_handheld-clause-ran g c =
     let run = run_view c.args.words.now in
-    let before : CallTold = record {
-      palm = folder_told g.H.Folder.contents g.H.Folder.moments g.H.Folder.paths g.H.Folder.faults c.args.device;
-      desk = folder_told g.D.Folder.contents g.D.Folder.moments g.D.Folder.paths g.D.Folder.faults c.args.desk;
-      source = source_told g.S.Source c.args.source.now;
-      trace = sink_told g.T.Sink c.args.trace.now;
-    } in
-    let after : CallTold = record {
-      palm = folder_told g.H.Folder.contents g.H.Folder.moments g.H.Folder.paths g.H.Folder.faults c.copy_handheld.new.device;
-      desk = folder_told g.D.Folder.contents g.D.Folder.moments g.D.Folder.paths g.D.Folder.faults c.args.desk;
-      source = source_told g.S.Source c.script_of.new.source;
-      trace = sink_told g.T.Sink c.args.trace.now;
-    } in
+    let before = call_told g.H.Folder g.D.Folder g.S.Source g.T.Sink c.args.device c.args.desk c.args.source.now c.args.trace.now in
+    let after = call_told g.H.Folder g.D.Folder g.S.Source g.T.Sink c.copy_handheld.new.device c.args.desk c.script_of.new.source c.args.trace.now in
     let palm = copy_told c.in-Ok-copy_handheld.palm in
     let copied = c.in-Ok-copy_handheld.ensures in
     let stays : StaysAsItWas before.palm after.palm = record { contents = copied.contents; moments = copied.moments } in
@@ -77,7 +46,7 @@ returns-in-Err-open_handheld-clause-ran g c =
     let end = c.not_started-in-Err-open_handheld.ensures in
     rw (end.status, end.device, end.desk)
     (dry_by_copies copies left
-    (by_handheld run (over copies before) (over left after) end.report (record { rules = c.in-Ok.script; scripted = c.in-Ok.ensures.script }) opened.refused opened.failed opened.in_use c.in-Ok.ensures.path
+    (by_handheld (run_judged run) (over copies before) (over left after) end.report (record { rules = c.in-Ok.script; scripted = c.in-Ok.ensures.script }) opened.refused opened.failed opened.in_use c.in-Ok.ensures.path
     (record { contents = opened.contents; moments = opened.moments }) opened.path refl refl)
     (record { stays = stays; copied_is = copied.copied }) (uncopied (record { contents = refl; moments = refl }))
     (copy_blamed _ _ _ _ run.handheld _ _ copied.paths_of_copy opened.path (copied.steady c.in-Err-open_handheld.refused)) (λ rose. rose)
@@ -86,18 +55,9 @@ returns-in-Err-open_handheld-clause-ran g c =
 pub returns-in-Err-copy_desktop-clause-ran : goal.returns-in-Err-copy_desktop-clause-ran
 returns-in-Err-copy_desktop-clause-ran g c =
     let run = run_view c.args.words.now in
-    let before : CallTold = record {
-      palm = folder_told g.H.Folder.contents g.H.Folder.moments g.H.Folder.paths g.H.Folder.faults c.args.device;
-      desk = folder_told g.D.Folder.contents g.D.Folder.moments g.D.Folder.paths g.D.Folder.faults c.args.desk;
-      source = source_told g.S.Source c.args.source.now;
-      trace = sink_told g.T.Sink c.args.trace.now;
-    } in
-    let after : CallTold = record {
-      palm = folder_told g.H.Folder.contents g.H.Folder.moments g.H.Folder.paths g.H.Folder.faults c.copy_handheld.new.device;
-      desk = folder_told g.D.Folder.contents g.D.Folder.moments g.D.Folder.paths g.D.Folder.faults c.copy_desktop.new.desk;
-      source = source_told g.S.Source c.script_of.new.source;
-      trace = sink_told g.T.Sink c.args.trace.now;
-    } in
+    let before = call_told g.H.Folder g.D.Folder g.S.Source g.T.Sink c.args.device c.args.desk c.args.source.now c.args.trace.now in
+    let after =
+    call_told g.H.Folder g.D.Folder g.S.Source g.T.Sink c.copy_handheld.new.device c.copy_desktop.new.desk c.script_of.new.source c.args.trace.now in
     let palm = copy_told c.in-Ok-copy_handheld.palm in
     let copied = c.in-Ok-copy_handheld.ensures in
     let stays : StaysAsItWas before.palm after.palm = record { contents = copied.contents; moments = copied.moments } in
@@ -112,26 +72,23 @@ returns-in-Err-copy_desktop-clause-ran g c =
     let end = c.not_started-in-Err-copy_desktop.ensures in
     rw (end.status, end.device, end.desk)
     (dry_by_copies copies left
-    (by_desktop run (over copies before) (over left after) end.report (record { rules = c.in-Ok.script; scripted = c.in-Ok.ensures.script })
-    (record { databases = c.in-Ok-open_handheld.store.databases; user = c.in-Ok-open_handheld.store.user; holds = c.in-Ok-open_handheld.ensures.held; side = c.in-Ok-open_handheld.ensures.side })
-    (inl kept.refused) kept.failed kept.in_use (λ unread. desk_stays) c.in-Ok.ensures.path seen store.ensures.path (stands_still desk_stays) kept.path refl)
+    (by_folder (run_judged run) (over copies before) (over left after) end.report (record { rules = c.in-Ok.script; scripted = c.in-Ok.ensures.script })
+    (record {
+      databases = c.in-Ok-open_handheld.store.databases;
+      user = c.in-Ok-open_handheld.store.user;
+      holds = c.in-Ok-open_handheld.ensures.held;
+      side = c.in-Ok-open_handheld.ensures.side;
+    })
+    (inl kept.refused) kept.failed kept.in_use c.in-Ok.ensures.path seen store.ensures.path
+    (record { stands = stands_still desk_stays; unread = λ unread. desk_stays }) kept.path refl)
     (record { stays = stays; copied_is = copied.copied }) (uncopied desk_stays) blamed (λ rose. rose) copied.path kept.path (not_begun end.report))
 
 pub returns-in-Err-open_desktop-clause-ran : goal.returns-in-Err-open_desktop-clause-ran
 returns-in-Err-open_desktop-clause-ran g c =
     let run = run_view c.args.words.now in
-    let before : CallTold = record {
-      palm = folder_told g.H.Folder.contents g.H.Folder.moments g.H.Folder.paths g.H.Folder.faults c.args.device;
-      desk = folder_told g.D.Folder.contents g.D.Folder.moments g.D.Folder.paths g.D.Folder.faults c.args.desk;
-      source = source_told g.S.Source c.args.source.now;
-      trace = sink_told g.T.Sink c.args.trace.now;
-    } in
-    let after : CallTold = record {
-      palm = folder_told g.H.Folder.contents g.H.Folder.moments g.H.Folder.paths g.H.Folder.faults c.copy_handheld.new.device;
-      desk = folder_told g.D.Folder.contents g.D.Folder.moments g.D.Folder.paths g.D.Folder.faults c.copy_desktop.new.desk;
-      source = source_told g.S.Source c.script_of.new.source;
-      trace = sink_told g.T.Sink c.args.trace.now;
-    } in
+    let before = call_told g.H.Folder g.D.Folder g.S.Source g.T.Sink c.args.device c.args.desk c.args.source.now c.args.trace.now in
+    let after =
+    call_told g.H.Folder g.D.Folder g.S.Source g.T.Sink c.copy_handheld.new.device c.copy_desktop.new.desk c.script_of.new.source c.args.trace.now in
     let palm = copy_told c.in-Ok-copy_handheld.palm in
     let copied = c.in-Ok-copy_handheld.ensures in
     let stays : StaysAsItWas before.palm after.palm = record { contents = copied.contents; moments = copied.moments } in
@@ -147,28 +104,27 @@ returns-in-Err-open_desktop-clause-ran g c =
     let end = c.not_started-in-Err-open_desktop.ensures in
     rw (end.status, end.device, end.desk)
     (dry_by_copies copies left
-    (by_desktop run (over copies before) (over left after) end.report (record { rules = c.in-Ok.script; scripted = c.in-Ok.ensures.script })
-    (record { databases = c.in-Ok-open_handheld.store.databases; user = c.in-Ok-open_handheld.store.user; holds = c.in-Ok-open_handheld.ensures.held; side = c.in-Ok-open_handheld.ensures.side })
-    opened.refused opened.failed opened.in_use (λ unread. let same = opened.unread unread in record { contents = same.0; moments = same.1 })
-    c.in-Ok.ensures.path seen store.ensures.path (record { stands = opened.stands; each_moment = opened.each_moment }) opened.path refl)
+    (by_folder (run_judged run) (over copies before) (over left after) end.report (record { rules = c.in-Ok.script; scripted = c.in-Ok.ensures.script })
+    (record {
+      databases = c.in-Ok-open_handheld.store.databases;
+      user = c.in-Ok-open_handheld.store.user;
+      holds = c.in-Ok-open_handheld.ensures.held;
+      side = c.in-Ok-open_handheld.ensures.side;
+    })
+    opened.refused opened.failed opened.in_use c.in-Ok.ensures.path seen store.ensures.path
+    (record {
+      stands = record { stands = opened.stands; each_moment = opened.each_moment };
+      unread = λ unread. let same = opened.unread unread in record { contents = same.0; moments = same.1 };
+    }) opened.path refl)
     (record { stays = stays; copied_is = copied.copied }) (record { stays = desk_stays; copied_is = kept.copied }) blamed
     (copy_blamed _ _ _ _ run.desktop _ _ kept.paths_of_copy opened.path (kept.steady c.in-Err-open_desktop.refused)) copied.path kept.path (not_begun end.report))
 
 pub returns-in-Err-open_trace-clause-ran : goal.returns-in-Err-open_trace-clause-ran
 returns-in-Err-open_trace-clause-ran g c =
     let run = run_view c.args.words.now in
-    let before : CallTold = record {
-      palm = folder_told g.H.Folder.contents g.H.Folder.moments g.H.Folder.paths g.H.Folder.faults c.args.device;
-      desk = folder_told g.D.Folder.contents g.D.Folder.moments g.D.Folder.paths g.D.Folder.faults c.args.desk;
-      source = source_told g.S.Source c.args.source.now;
-      trace = sink_told g.T.Sink c.args.trace.now;
-    } in
-    let after : CallTold = record {
-      palm = folder_told g.H.Folder.contents g.H.Folder.moments g.H.Folder.paths g.H.Folder.faults c.copy_handheld.new.device;
-      desk = folder_told g.D.Folder.contents g.D.Folder.moments g.D.Folder.paths g.D.Folder.faults c.copy_desktop.new.desk;
-      source = source_told g.S.Source c.script_of.new.source;
-      trace = sink_told g.T.Sink c.open_trace.new.trace;
-    } in
+    let before = call_told g.H.Folder g.D.Folder g.S.Source g.T.Sink c.args.device c.args.desk c.args.source.now c.args.trace.now in
+    let after =
+    call_told g.H.Folder g.D.Folder g.S.Source g.T.Sink c.copy_handheld.new.device c.copy_desktop.new.desk c.script_of.new.source c.open_trace.new.trace in
     let palm = copy_told c.in-Ok-copy_handheld.palm in
     let copied = c.in-Ok-copy_handheld.ensures in
     let stays : StaysAsItWas before.palm after.palm = record { contents = copied.contents; moments = copied.moments } in
@@ -185,10 +141,16 @@ returns-in-Err-open_trace-clause-ran g c =
     let end = c.not_started-in-Err-open_trace.ensures in
     rw (end.status, end.device, end.desk)
     (dry_by_copies copies left
-    (by_trace run (over copies before) (over left after) end.report (record { rules = c.in-Ok.script; scripted = c.in-Ok.ensures.script })
-    (record { databases = c.in-Ok-open_handheld.store.databases; user = c.in-Ok-open_handheld.store.user; holds = c.in-Ok-open_handheld.ensures.held; side = c.in-Ok-open_handheld.ensures.side })
+    (by_trace (run_judged run) (over copies before) (over left after) end.report (record { rules = c.in-Ok.script; scripted = c.in-Ok.ensures.script })
+    (record {
+      databases = c.in-Ok-open_handheld.store.databases;
+      user = c.in-Ok-open_handheld.store.user;
+      holds = c.in-Ok-open_handheld.ensures.held;
+      side = c.in-Ok-open_handheld.ensures.side;
+    })
     desk.ensures.desktop c.in-Err-open_trace.ensures.refused (λ e. c.in-Err-open_trace.ensures.failed (ap Err e)) c.in-Ok.ensures.path
-    seen store.ensures.path (record { stands = desk.ensures.stands; each_moment = desk.ensures.each_moment }) desk.ensures.path
+    seen store.ensures.path
+    (keeps_traced c.in-Err-open_trace.ensures.refused (record { stands = desk.ensures.stands; each_moment = desk.ensures.each_moment })) desk.ensures.path
     c.in-Err-open_trace.ensures.path c.in-Err-open_trace.ensures.taken)
     (record { stays = stays; copied_is = copied.copied }) (record { stays = desk_stays; copied_is = kept.copied }) blamed desk_blamed
     copied.path kept.path (not_begun end.report))
@@ -196,18 +158,9 @@ returns-in-Err-open_trace-clause-ran g c =
 pub returns-in-Ok-open_trace-clause-ran : goal.returns-in-Ok-open_trace-clause-ran
 returns-in-Ok-open_trace-clause-ran g c =
     let run = run_view c.args.words.now in
-    let before : CallTold = record {
-      palm = folder_told g.H.Folder.contents g.H.Folder.moments g.H.Folder.paths g.H.Folder.faults c.args.device;
-      desk = folder_told g.D.Folder.contents g.D.Folder.moments g.D.Folder.paths g.D.Folder.faults c.args.desk;
-      source = source_told g.S.Source c.args.source.now;
-      trace = sink_told g.T.Sink c.args.trace.now;
-    } in
-    let after : CallTold = record {
-      palm = folder_told g.H.Folder.contents g.H.Folder.moments g.H.Folder.paths g.H.Folder.faults c.copy_handheld.new.device;
-      desk = folder_told g.D.Folder.contents g.D.Folder.moments g.D.Folder.paths g.D.Folder.faults c.copy_desktop.new.desk;
-      source = source_told g.S.Source c.script_of.new.source;
-      trace = sink_told g.T.Sink c.traced_talk-answer.new.trace;
-    } in
+    let before = call_told g.H.Folder g.D.Folder g.S.Source g.T.Sink c.args.device c.args.desk c.args.source.now c.args.trace.now in
+    let after =
+    call_told g.H.Folder g.D.Folder g.S.Source g.T.Sink c.copy_handheld.new.device c.copy_desktop.new.desk c.script_of.new.source c.traced_talk-answer.new.trace in
     let palm = copy_told c.in-Ok-copy_handheld.palm in
     let copied = c.in-Ok-copy_handheld.ensures in
     let stays : StaysAsItWas before.palm after.palm = record { contents = copied.contents; moments = copied.moments } in
@@ -220,24 +173,23 @@ returns-in-Ok-open_trace-clause-ran g c =
     let desk = c.in-Ok-open_desktop in
     let answer = c.traced_talk-answer.result in
     let left : SidesTold = record { palm = copy_told answer.device; desk = copy_told answer.desk } in
-    let ran = by_session (over copies before) (over left after) (record {
-      scripted = c.in-Ok.ensures.script;
-      script_opened = c.in-Ok.ensures.opened;
-      script = c.in-Ok.ensures.path;
+    let ran = by_run {run = run} (over copies before) (over left after) (record {
+      source_opened = c.in-Ok.ensures.opened;
       handheld = store.ensures.held;
       closed = refl;
-      stays = seen;
+      palm_stays = seen;
       palm_opened = store.ensures.opened;
       palm_later = store.ensures.later;
-      slots_are = desk.ensures.slots;
-      finished_is = desk.ensures.finished;
-      stands = record { stands = desk.ensures.stands; each_moment = desk.ensures.each_moment };
       desk_opened = desk.ensures.opened;
       desk_later = desk.ensures.later;
       trace_opened = c.in-Ok-open_trace.ensures.opened;
-      trace_at_most = c.in-Ok-open_trace.ensures.path;
       trace_taken = c.in-Ok-open_trace.ensures.taken;
       trace_later = c.in-Ok-open_trace.ensures.later;
+    }) (record {
+      scripted = c.in-Ok.ensures.script;
+      slots_are = desk.ensures.slots;
+      finished_is = desk.ensures.finished;
+      stands = record { stands = desk.ensures.stands; each_moment = desk.ensures.each_moment };
     }) c.traced_talk-answer.ensures.talk c.traced_talk-answer.ensures.traced in
     dry_by_copies copies left ran (record { stays = stays; copied_is = copied.copied }) (record { stays = desk_stays; copied_is = kept.copied })
     (copy_blamed _ _ _ _ run.handheld _ _ copied.paths_of_copy ran.opened.handheld (copied.steady answer.device))

@@ -6,7 +6,7 @@ use Rattle.hs_folders.specs.FileMaps.{FileMap}
 use Rattle.trace_text.specs.declared.frame.End.{End}
 use Rattle.trace_text.specs.declared.frame.End.TheVariants as line_end
 use Rattle.cmd_status.specs.Opening.{OpensGivenAtMost}
-use Rattle.cmd_files.specs.Judges.{Judges, Refuses}
+use Rattle.call_parts.specs.Judges.{Judges, Refuses}
 use Rattle.call_parts.specs.Refusals.{HandheldRefuses, HasHandheld, IsDesktopFailure, TraceRefuses}
 use Rattle.call_parts.specs.Reports.{IsNotStarted}
 use Rattle.call_parts.specs.Scripts.{IsScriptRefusal}

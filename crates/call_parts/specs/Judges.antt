@@ -2,7 +2,8 @@
 use Rattle.std.specs.Prelude.{◌⊎◌, ℕ, List, Option}
 use Rattle.hs_folders.specs.FileMaps.{FileMap}
 use Rattle.cmd_status.specs.declared.status.Status.{Status}
-use Rattle.call_parts.specs.Refusals.{HandheldRefuses, HasHandheld, TraceRefuses}
+use Rattle.call_parts.specs.Refusals.{DesktopRefuses, HandheldRefuses, HasDesktop, HasHandheld, TraceRefuses}
+use Rattle.call_parts.specs.Scripts.{HasScript, ScriptRefuses}
 use Rattle.call_parts.specs.Told.{CallTold}
 
 -- what a command wants of its source and of the other folder, and what either refuses it with
@@ -20,3 +21,13 @@ Refuses judges trace before refusal =
     ⊎ (judges.HasSource before.source.left × (HandheldRefuses before.palm.contents refusal
     ⊎ (HasHandheld before.palm.contents × (judges.FolderRefuses before.desk.contents refusal
     ⊎ (judges.HasFolder before.desk.contents × TraceRefuses trace refusal)))))
+
+-- what a session between a handheld and a desktop wants: a script where its words name one, and the
+-- desktop's folder
+abbrev pub desktop_judges : Option (List ℕ) → Judges
+desktop_judges script = record {
+  SourceRefuses = λ left refusal. ScriptRefuses script left refusal;
+  HasSource = λ left. HasScript script left;
+  FolderRefuses = λ kept refusal. DesktopRefuses kept refusal;
+  HasFolder = λ kept. HasDesktop kept;
+}
