@@ -13,7 +13,7 @@ ghost use Rattle.desk_store.specs.Desks.{IsDesk};
 ghost use Rattle.desk_store.specs.Views.{folder_in as desk_in};
 ghost use Rattle.cmd_status.specs.Opening.{Opens, OpensAtMost};
 ghost use Rattle.call_parts.specs.Files.{FilesRefuse, StandsApart, is_synced, lists_synced};
-ghost use Rattle.call_parts.specs.Refusals.{DesktopRefuses, DesktopShows, HandheldRefuses, HandheldShows, HasDesktop, LeavesDesktopUnread, is_desktop, is_handheld};
+ghost use Rattle.call_parts.specs.Refusals.{DesktopRefuses, DesktopShows, HandheldRefuses, HandheldShows, HasDesktop, HasHandheld, LeavesDesktopUnread, is_desktop, is_handheld};
 ghost use Rattle.call_parts.specs.Views.{device_in, folder_in};
 
 use cmd_status::Status;
@@ -36,7 +36,7 @@ pub fn open_handheld<H: Folder>(
     ensures bounded { IfOk result (λ store. IsBounded (opened_device store.databases
         store.user)) }
     ensures sound { IfOk result (λ store. store.sound ≡ true) }
-    ensures side { OnOk result (IfSome (H.contents device) (λ files. is_desktop files ≡ false)) }
+    ensures has { OnOk result (HasHandheld (H.contents device)) }
     ensures refused { IfErr result (λ refused. HandheldRefuses (H.contents device) refused.0) }
     ensures failed { IfErr result (λ refused. refused.0 ≡ Status.HandheldFolder
         → Rose (H.faults device) (H.faults refused.1)) }
@@ -66,7 +66,7 @@ fn judge_handheld<H: Folder>(alloc: Global, device: H) -> Result<Store<H>, (Stat
     ensures bounded { IfOk result (λ store. IsBounded (opened_device store.databases
         store.user)) }
     ensures sound { IfOk result (λ store. store.sound ≡ true) }
-    ensures side { OnOk result (IfSome (H.contents device) (λ files. is_desktop files ≡ false)) }
+    ensures has { OnOk result (HasHandheld (H.contents device)) }
     ensures refused { IfErr result (λ refused. HandheldRefuses (H.contents device) refused.0) }
     ensures failed { IfErr result (λ refused. refused.0 ≡ Status.HandheldFolder
         → Rose (H.faults device) (H.faults refused.1)) }
@@ -95,6 +95,7 @@ fn open_store<H: Folder>(alloc: Global, device: H) -> Result<Store<H>, (Status, 
     ensures bounded { IfOk result (λ store. IsBounded (opened_device store.databases
         store.user)) }
     ensures sound { IfOk result (λ store. store.sound ≡ true) }
+    ensures has { OnOk result (HasHandheld (H.contents device)) }
     ensures refused { IfErr result (λ refused. HandheldShows (H.contents device) refused.0) }
     ensures failed { IfErr result (λ refused. refused.0 ≡ Status.HandheldFolder
         → Rose (H.faults device) (H.faults refused.1)) }

@@ -15,12 +15,7 @@ returns-in-Err-open_files-clause-ran g c =
     let end = c.not_started-in-Err-open_files.ensures in
     rw (end.status, end.device, end.desk, c.into_folder.ensures)
     (by_folder (backup_judged words) before after end.report (record { rules = c.in-Ok.script; scripted = c.in-Ok.ensures.script })
-    (record {
-      databases = c.in-Ok-open_handheld.store.databases;
-      user = c.in-Ok-open_handheld.store.user;
-      holds = c.in-Ok-open_handheld.ensures.held;
-      side = c.in-Ok-open_handheld.ensures.side;
-    })
+    c.in-Ok-open_handheld.ensures.has
     c.in-Err-open_files.ensures.refused c.in-Err-open_files.ensures.failed c.in-Err-open_files.ensures.in_use
     c.in-Ok.ensures.path
     (record { contents = c.in-Ok-open_handheld.ensures.contents; moments = c.in-Ok-open_handheld.ensures.moments }) c.in-Ok-open_handheld.ensures.path
@@ -32,7 +27,8 @@ returns-in-Ok-open_trace-clause-ran g c =
     let words = between_view c.args.words.now in
     let before = call_told g.H.Folder g.D.Folder g.S.Source g.T.Sink c.args.device c.args.desk c.args.source.now c.args.trace.now in
     let after =
-    call_told g.H.Folder g.D.Folder g.S.Source g.T.Sink c.traced_backup.result.device c.traced_backup.result.desk c.script_of.new.source c.traced_backup.new.trace in
+    call_told g.H.Folder g.D.Folder g.S.Source g.T.Sink c.traced_backup.result.device c.traced_backup.result.desk c.script_of.new.source
+    c.traced_backup.new.trace in
     by_backup {words = words} before after (record {
       source_opened = c.in-Ok.ensures.opened;
       handheld = c.in-Ok-open_handheld.ensures.held;
@@ -54,16 +50,12 @@ returns-in-Err-open_trace-clause-ran g c =
     let words = between_view c.args.words.now in
     let before = call_told g.H.Folder g.D.Folder g.S.Source g.T.Sink c.args.device c.args.desk c.args.source.now c.args.trace.now in
     let after =
-    call_told g.H.Folder g.D.Folder g.S.Source g.T.Sink c.in-Ok-open_handheld.store.folder c.in-Ok-open_files.files c.script_of.new.source c.open_trace.new.trace in
+    call_told g.H.Folder g.D.Folder g.S.Source g.T.Sink c.in-Ok-open_handheld.store.folder c.in-Ok-open_files.files c.script_of.new.source
+    c.open_trace.new.trace in
     let end = c.not_started-in-Err-open_trace.ensures in
     rw (end.status, end.device, end.desk, c.into_folder-in-Err-open_trace.ensures)
     (by_trace (backup_judged words) before after end.report (record { rules = c.in-Ok.script; scripted = c.in-Ok.ensures.script })
-    (record {
-      databases = c.in-Ok-open_handheld.store.databases;
-      user = c.in-Ok-open_handheld.store.user;
-      holds = c.in-Ok-open_handheld.ensures.held;
-      side = c.in-Ok-open_handheld.ensures.side;
-    })
+    c.in-Ok-open_handheld.ensures.has
     c.in-Ok-open_files.ensures.apart c.in-Err-open_trace.ensures.refused (λ e. c.in-Err-open_trace.ensures.failed (ap Err e)) c.in-Ok.ensures.path
     (record { contents = c.in-Ok-open_handheld.ensures.contents; moments = c.in-Ok-open_handheld.ensures.moments }) c.in-Ok-open_handheld.ensures.path
     (record { contents = c.in-Ok-open_files.ensures.contents; moments = c.in-Ok-open_files.ensures.moments }) c.in-Ok-open_files.ensures.path
@@ -76,7 +68,8 @@ returns-in-Err-clause-ran g c =
     let after = call_told g.H.Folder g.D.Folder g.S.Source g.T.Sink c.args.device c.args.desk c.script_of.new.source c.args.trace.now in
     let end = c.not_started.ensures in
     rw (end.status, end.device, end.desk)
-    (by_source (backup_judged words) before after end.report c.in-Err.ensures.refused (λ e. c.in-Err.ensures.failed (ap Err e)) c.in-Err.ensures.path refl refl refl)
+    (by_source (backup_judged words) before after end.report c.in-Err.ensures.refused (λ e. c.in-Err.ensures.failed (ap Err e)) c.in-Err.ensures.path refl
+    refl refl)
 
 pub returns-in-Err-open_handheld-clause-ran : goal.returns-in-Err-open_handheld-clause-ran
 returns-in-Err-open_handheld-clause-ran g c =
@@ -85,7 +78,8 @@ returns-in-Err-open_handheld-clause-ran g c =
     let after = call_told g.H.Folder g.D.Folder g.S.Source g.T.Sink c.in-Err-open_handheld.device c.args.desk c.script_of.new.source c.args.trace.now in
     let end = c.not_started-in-Err-open_handheld.ensures in
     rw (end.status, end.device, end.desk)
-    (by_handheld (backup_judged words) before after end.report (record { rules = c.in-Ok.script; scripted = c.in-Ok.ensures.script }) c.in-Err-open_handheld.ensures.refused
+    (by_handheld (backup_judged words) before after end.report (record { rules = c.in-Ok.script; scripted = c.in-Ok.ensures.script })
+    c.in-Err-open_handheld.ensures.refused
     c.in-Err-open_handheld.ensures.failed c.in-Err-open_handheld.ensures.in_use c.in-Ok.ensures.path
     (record { contents = c.in-Err-open_handheld.ensures.contents; moments = c.in-Err-open_handheld.ensures.moments })
     c.in-Err-open_handheld.ensures.path refl refl)

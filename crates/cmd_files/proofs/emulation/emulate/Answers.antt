@@ -1,28 +1,19 @@
 use Rattle.std.proofs.Common.{◌≡◌, ◌∙◌, ap, length}
 use Rattle.run_words.specs.Views.{capture_view}
 use Rattle.hotsync_looks.specs.Served.{served_lines}
-use Rattle.cmd_status.specs.Told.{sink_told, source_told}
+use Rattle.cmd_status.specs.Told.{sink_told}
 use Rattle.cmd_status.proofs.PrintedLaws.{printed_weaken}
-use Rattle.call_parts.specs.Told.{CallTold, folder_told}
+use Rattle.call_parts.specs.Told.{call_told}
 use Rattle.cmd_files.proofs.EmulationLaws.{emulation_decided, emulation_printed}
 use Rattle.cmd_files.proofs.emulation.emulate.Goals as goal
 
 pub returns-clause-emulation : goal.returns-clause-emulation
 returns-clause-emulation g c =
     let capture = capture_view c.args.words.now in
-    let before : CallTold = record {
-      palm = folder_told g.H.Folder.contents g.H.Folder.moments g.H.Folder.paths g.H.Folder.faults c.args.device;
-      desk = folder_told g.D.Folder.contents g.D.Folder.moments g.D.Folder.paths g.D.Folder.faults c.args.desk;
-      source = source_told g.S.Source c.args.source.now;
-      trace = sink_told g.T.Sink c.args.sink.now;
-    } in
+    let before = call_told g.H.Folder g.D.Folder g.S.Source g.T.Sink c.args.device c.args.desk c.args.source.now c.args.sink.now in
     let answer = c.judged_emulation-answer.result in
-    let after : CallTold = record {
-      palm = folder_told g.H.Folder.contents g.H.Folder.moments g.H.Folder.paths g.H.Folder.faults answer.device;
-      desk = folder_told g.D.Folder.contents g.D.Folder.moments g.D.Folder.paths g.D.Folder.faults answer.desk;
-      source = source_told g.S.Source c.judged_emulation-answer.new.source;
-      trace = sink_told g.T.Sink c.judged_emulation-answer.new.sink;
-    } in
+    let after = call_told g.H.Folder g.D.Folder g.S.Source g.T.Sink answer.device answer.desk c.judged_emulation-answer.new.source
+    c.judged_emulation-answer.new.sink in
     let out = sink_told g.O.Sink c.args.out.now in
     let out_after = sink_told g.O.Sink c.print_talk-status.new.out in
     let printed = c.print_talk-status.ensures.printed in

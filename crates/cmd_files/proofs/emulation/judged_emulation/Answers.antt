@@ -1,25 +1,14 @@
 use Rattle.std.proofs.Common.{ap, refl, Err}
 use Rattle.run_words.specs.Views.{capture_view}
-use Rattle.cmd_status.specs.Told.{sink_told, source_told}
-use Rattle.call_parts.specs.Told.{CallTold, folder_told}
+use Rattle.call_parts.specs.Told.{call_told, folder_told}
 use Rattle.cmd_files.proofs.EmulationLaws.{by_handheld, by_sink, by_source, by_talk}
 use Rattle.cmd_files.proofs.emulation.judged_emulation.Goals as goal
 
 pub returns-in-Err-clause-ran : goal.returns-in-Err-clause-ran
 returns-in-Err-clause-ran g c =
     let capture = capture_view c.args.words.now in
-    let before : CallTold = record {
-      palm = folder_told g.H.Folder.contents g.H.Folder.moments g.H.Folder.paths g.H.Folder.faults c.args.device;
-      desk = folder_told g.D.Folder.contents g.D.Folder.moments g.D.Folder.paths g.D.Folder.faults c.args.desk;
-      source = source_told g.S.Source c.args.source.now;
-      trace = sink_told g.T.Sink c.args.sink.now;
-    } in
-    let after : CallTold = record {
-      palm = folder_told g.H.Folder.contents g.H.Folder.moments g.H.Folder.paths g.H.Folder.faults c.in-Err.device;
-      desk = folder_told g.D.Folder.contents g.D.Folder.moments g.D.Folder.paths g.D.Folder.faults c.args.desk;
-      source = source_told g.S.Source c.args.source.now;
-      trace = sink_told g.T.Sink c.args.sink.now;
-    } in
+    let before = call_told g.H.Folder g.D.Folder g.S.Source g.T.Sink c.args.device c.args.desk c.args.source.now c.args.sink.now in
+    let after = call_told g.H.Folder g.D.Folder g.S.Source g.T.Sink c.in-Err.device c.args.desk c.args.source.now c.args.sink.now in
     let end = c.not_started.ensures in
     rw (end.status, end.device, end.desk)
     (by_handheld capture before after end.report c.in-Err.ensures.refused c.in-Err.ensures.failed c.in-Err.ensures.in_use
@@ -28,27 +17,12 @@ returns-in-Err-clause-ran g c =
 pub returns-in-Err-open_source-clause-ran : goal.returns-in-Err-open_source-clause-ran
 returns-in-Err-open_source-clause-ran g c =
     let capture = capture_view c.args.words.now in
-    let before : CallTold = record {
-      palm = folder_told g.H.Folder.contents g.H.Folder.moments g.H.Folder.paths g.H.Folder.faults c.args.device;
-      desk = folder_told g.D.Folder.contents g.D.Folder.moments g.D.Folder.paths g.D.Folder.faults c.args.desk;
-      source = source_told g.S.Source c.args.source.now;
-      trace = sink_told g.T.Sink c.args.sink.now;
-    } in
-    let after : CallTold = record {
-      palm = folder_told g.H.Folder.contents g.H.Folder.moments g.H.Folder.paths g.H.Folder.faults c.in-Ok.store.folder;
-      desk = folder_told g.D.Folder.contents g.D.Folder.moments g.D.Folder.paths g.D.Folder.faults c.args.desk;
-      source = source_told g.S.Source c.open_source.new.source;
-      trace = sink_told g.T.Sink c.args.sink.now;
-    } in
+    let before = call_told g.H.Folder g.D.Folder g.S.Source g.T.Sink c.args.device c.args.desk c.args.source.now c.args.sink.now in
+    let after = call_told g.H.Folder g.D.Folder g.S.Source g.T.Sink c.in-Ok.store.folder c.args.desk c.open_source.new.source c.args.sink.now in
     let end = c.not_started-in-Err-open_source.ensures in
     rw (end.status, end.device, end.desk, c.into_folder.ensures)
     (by_source capture before after end.report
-    (record {
-      databases = c.in-Ok.store.databases;
-      user = c.in-Ok.store.user;
-      holds = c.in-Ok.ensures.held;
-      side = c.in-Ok.ensures.side;
-    })
+    c.in-Ok.ensures.has
     c.in-Err-open_source.ensures.refused (λ e. c.in-Err-open_source.ensures.failed (ap Err e))
     (record {
       stays = record { contents = c.in-Ok.ensures.contents; moments = c.in-Ok.ensures.moments };
@@ -61,27 +35,12 @@ returns-in-Err-open_source-clause-ran g c =
 pub returns-in-Err-open_named-clause-ran : goal.returns-in-Err-open_named-clause-ran
 returns-in-Err-open_named-clause-ran g c =
     let capture = capture_view c.args.words.now in
-    let before : CallTold = record {
-      palm = folder_told g.H.Folder.contents g.H.Folder.moments g.H.Folder.paths g.H.Folder.faults c.args.device;
-      desk = folder_told g.D.Folder.contents g.D.Folder.moments g.D.Folder.paths g.D.Folder.faults c.args.desk;
-      source = source_told g.S.Source c.args.source.now;
-      trace = sink_told g.T.Sink c.args.sink.now;
-    } in
-    let after : CallTold = record {
-      palm = folder_told g.H.Folder.contents g.H.Folder.moments g.H.Folder.paths g.H.Folder.faults c.in-Ok.store.folder;
-      desk = folder_told g.D.Folder.contents g.D.Folder.moments g.D.Folder.paths g.D.Folder.faults c.args.desk;
-      source = source_told g.S.Source c.open_source.new.source;
-      trace = sink_told g.T.Sink c.open_named.new.trace;
-    } in
+    let before = call_told g.H.Folder g.D.Folder g.S.Source g.T.Sink c.args.device c.args.desk c.args.source.now c.args.sink.now in
+    let after = call_told g.H.Folder g.D.Folder g.S.Source g.T.Sink c.in-Ok.store.folder c.args.desk c.open_source.new.source c.open_named.new.trace in
     let end = c.not_started-in-Err-open_named.ensures in
     rw (end.status, end.device, end.desk, c.into_folder-in-Err-open_named.ensures)
     (by_sink capture before after end.report
-    (record {
-      databases = c.in-Ok.store.databases;
-      user = c.in-Ok.store.user;
-      holds = c.in-Ok.ensures.held;
-      side = c.in-Ok.ensures.side;
-    })
+    c.in-Ok.ensures.has
     c.in-Err-open_named.ensures.refused (λ e. c.in-Err-open_named.ensures.failed (ap Err e))
     (record {
       stays = record { contents = c.in-Ok.ensures.contents; moments = c.in-Ok.ensures.moments };
@@ -93,24 +52,10 @@ returns-in-Err-open_named-clause-ran g c =
 
 pub returns-in-Ok-open_named-clause-ran : goal.returns-in-Ok-open_named-clause-ran
 returns-in-Ok-open_named-clause-ran g c =
-    let before : CallTold = record {
-      palm = folder_told g.H.Folder.contents g.H.Folder.moments g.H.Folder.paths g.H.Folder.faults c.args.device;
-      desk = folder_told g.D.Folder.contents g.D.Folder.moments g.D.Folder.paths g.D.Folder.faults c.args.desk;
-      source = source_told g.S.Source c.args.source.now;
-      trace = sink_told g.T.Sink c.args.sink.now;
-    } in
-    let opened : CallTold = record {
-      palm = folder_told g.H.Folder.contents g.H.Folder.moments g.H.Folder.paths g.H.Folder.faults c.in-Ok.store.folder;
-      desk = folder_told g.D.Folder.contents g.D.Folder.moments g.D.Folder.paths g.D.Folder.faults c.args.desk;
-      source = source_told g.S.Source c.open_source.new.source;
-      trace = sink_told g.T.Sink c.open_named.new.trace;
-    } in
-    let after : CallTold = record {
-      palm = folder_told g.H.Folder.contents g.H.Folder.moments g.H.Folder.paths g.H.Folder.faults c.talk_over.result.device;
-      desk = folder_told g.D.Folder.contents g.D.Folder.moments g.D.Folder.paths g.D.Folder.faults c.talk_over.result.desk;
-      source = source_told g.S.Source c.talk_over.new.source;
-      trace = sink_told g.T.Sink c.talk_over.new.sink;
-    } in
+    let before = call_told g.H.Folder g.D.Folder g.S.Source g.T.Sink c.args.device c.args.desk c.args.source.now c.args.sink.now in
+    let opened = call_told g.H.Folder g.D.Folder g.S.Source g.T.Sink c.in-Ok.store.folder c.args.desk c.open_source.new.source c.open_named.new.trace in
+    let after = call_told g.H.Folder g.D.Folder g.S.Source g.T.Sink c.talk_over.result.device c.talk_over.result.desk c.talk_over.new.source
+    c.talk_over.new.sink in
     by_talk (capture_view c.args.words.now) before opened after (record {
       stays = record { contents = c.in-Ok.ensures.contents; moments = c.in-Ok.ensures.moments };
       palm_opened = c.in-Ok.ensures.opened;

@@ -2,26 +2,16 @@ use Rattle.std.proofs.Common.{◌∙◌, refl, subst, sym}
 use Rattle.hs_folders.specs.Causes.{Rose}
 use Rattle.handheld_files.specs.Openings.{opened_device}
 use Rattle.handheld_server.specs.Servers.{ServerValue}
-use Rattle.cmd_status.specs.Told.{sink_told, source_told}
-use Rattle.call_parts.specs.Told.{CallTold, folder_told}
+use Rattle.call_parts.specs.Told.{call_told}
 use Rattle.cmd_files.proofs.EmulationLaws.{had_talk, keeper_end, sink_end, source_end, talk_unprinted}
 use Rattle.cmd_files.proofs.emulation.talk_over.Goals as goal
 
 pub returns-clause-talk : goal.returns-clause-talk
 returns-clause-talk g c =
     let ran = c.run_device-end.ensures in
-    let before : CallTold = record {
-      palm = folder_told g.H.Folder.contents g.H.Folder.moments g.H.Folder.paths g.H.Folder.faults c.args.store.folder;
-      desk = folder_told g.D.Folder.contents g.D.Folder.moments g.D.Folder.paths g.D.Folder.faults c.args.desk;
-      source = source_told g.S.Source c.args.source.now;
-      trace = sink_told g.T.Sink c.args.sink.now;
-    } in
-    let after : CallTold = record {
-      palm = folder_told g.H.Folder.contents g.H.Folder.moments g.H.Folder.paths g.H.Folder.faults c.run_device-end.result.2;
-      desk = folder_told g.D.Folder.contents g.D.Folder.moments g.D.Folder.paths g.D.Folder.faults c.args.desk;
-      source = source_told g.S.Source c.run_device-end.new.source;
-      trace = sink_told g.T.Sink c.run_device-end.new.sink;
-    } in
+    let before = call_told g.H.Folder g.D.Folder g.S.Source g.T.Sink c.args.store.folder c.args.desk c.args.source.now c.args.sink.now in
+    let after = call_told g.H.Folder g.D.Folder g.S.Source g.T.Sink c.run_device-end.result.2 c.args.desk c.run_device-end.new.source
+    c.run_device-end.new.sink in
     let server : ServerValue _ = record {
       folder = c.args.store.folder;
       device = opened_device c.args.store.databases c.args.store.user;

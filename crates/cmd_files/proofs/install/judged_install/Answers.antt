@@ -13,7 +13,8 @@ returns-in-Err-clause-ran g c =
     let after = call_told g.H.Folder g.D.Folder g.S.Source g.T.Sink c.args.device c.args.desk c.read_install_file.new.source c.args.trace.now in
     let end = c.not_started.ensures in
     rw (end.status, end.device, end.desk)
-    (by_source (install_judged words) before after end.report (record { is = c.in-Err.ensures.refusal; shown = c.in-Err.ensures.shown }) (λ e. c.in-Err.ensures.failed (ap Err e))
+    (by_source (install_judged words) before after end.report (record { is = c.in-Err.ensures.refusal; shown = c.in-Err.ensures.shown })
+    (λ e. c.in-Err.ensures.failed (ap Err e))
     c.in-Err.ensures.path refl refl refl)
 
 pub returns-in-Err-open_handheld-clause-ran : goal.returns-in-Err-open_handheld-clause-ran
@@ -23,7 +24,8 @@ returns-in-Err-open_handheld-clause-ran g c =
     let after = call_told g.H.Folder g.D.Folder g.S.Source g.T.Sink c.in-Err-open_handheld.device c.args.desk c.read_install_file.new.source c.args.trace.now in
     let end = c.not_started-in-Err-open_handheld.ensures in
     rw (end.status, end.device, end.desk)
-    (by_handheld (install_judged words) before after end.report (record { database = c.in-Ok.database; file = c.in-Ok.ensures.file }) c.in-Err-open_handheld.ensures.refused
+    (by_handheld (install_judged words) before after end.report (record { database = c.in-Ok.database; file = c.in-Ok.ensures.file })
+    c.in-Err-open_handheld.ensures.refused
     c.in-Err-open_handheld.ensures.failed c.in-Err-open_handheld.ensures.in_use c.in-Ok.ensures.path
     (record { contents = c.in-Err-open_handheld.ensures.contents; moments = c.in-Err-open_handheld.ensures.moments })
     c.in-Err-open_handheld.ensures.path refl refl)
@@ -37,12 +39,7 @@ returns-in-Err-open_trace-clause-ran g c =
     let end = c.not_started-in-Err-open_trace.ensures in
     rw (end.status, end.device, end.desk, c.into_folder.ensures)
     (by_trace (install_judged words) before after end.report (record { database = c.in-Ok.database; file = c.in-Ok.ensures.file })
-    (record {
-      databases = c.in-Ok-open_handheld.store.databases;
-      user = c.in-Ok-open_handheld.store.user;
-      holds = c.in-Ok-open_handheld.ensures.held;
-      side = c.in-Ok-open_handheld.ensures.side;
-    })
+    c.in-Ok-open_handheld.ensures.has
     tt c.in-Err-open_trace.ensures.refused (λ e. c.in-Err-open_trace.ensures.failed (ap Err e)) c.in-Ok.ensures.path
     (record { contents = c.in-Ok-open_handheld.ensures.contents; moments = c.in-Ok-open_handheld.ensures.moments }) c.in-Ok-open_handheld.ensures.path refl
     (inl refl) c.in-Err-open_trace.ensures.path c.in-Err-open_trace.ensures.taken)
@@ -52,7 +49,8 @@ returns-in-Ok-open_trace-clause-ran g c =
     let words = between_view c.args.words.now in
     let before = call_told g.H.Folder g.D.Folder g.S.Source g.T.Sink c.args.device c.args.desk c.args.source.now c.args.trace.now in
     let after =
-    call_told g.H.Folder g.D.Folder g.S.Source g.T.Sink c.traced_install.result.device c.traced_install.result.desk c.read_install_file.new.source c.traced_install.new.trace in
+    call_told g.H.Folder g.D.Folder g.S.Source g.T.Sink c.traced_install.result.device c.traced_install.result.desk c.read_install_file.new.source
+    c.traced_install.new.trace in
     by_install {words = words} before after (record {
       source_opened = c.in-Ok.ensures.opened;
       handheld = c.in-Ok-open_handheld.ensures.held;

@@ -1,7 +1,7 @@
 use Rattle.std.proofs.Common.{ap, inl, refl, Err}
 use Rattle.run_words.specs.Views.{run_view}
 use Rattle.call_parts.specs.Stays.{StaysAsItWas}
-use Rattle.call_parts.specs.Told.{SidesTold}
+use Rattle.call_parts.specs.Told.{SidesTold, call_told}
 use Rattle.cmd_session.proofs.DryLaws.{copy_blamed, copy_stands, copy_told, dry_by_copies, dry_of_run, not_begun, stands_still, uncopied}
 use Rattle.call_parts.proofs.JudgedCalls.{by_folder, by_handheld, by_source, by_trace}
 use Rattle.cmd_session.proofs.SessionRuns.{by_run, keeps_traced, run_judged}
@@ -18,7 +18,8 @@ returns-in-Err-clause-ran g c =
     let still : StaysAsItWas before.palm after.palm = record { contents = refl; moments = refl } in
     let desk_still : StaysAsItWas before.desk after.desk = record { contents = refl; moments = refl } in
     rw (end.status, end.device, end.desk)
-    (dry_of_run (by_source (run_judged run) before after end.report c.in-Err.ensures.refused (λ e. c.in-Err.ensures.failed (ap Err e)) c.in-Err.ensures.path refl refl refl) still desk_still)
+    (dry_of_run (by_source (run_judged run) before after end.report c.in-Err.ensures.refused (λ e. c.in-Err.ensures.failed (ap Err e)) c.in-Err.ensures.path
+    refl refl refl) still desk_still)
 
 pub returns-in-Err-copy_handheld-clause-ran : goal.returns-in-Err-copy_handheld-clause-ran
 returns-in-Err-copy_handheld-clause-ran g c =
@@ -29,7 +30,8 @@ returns-in-Err-copy_handheld-clause-ran g c =
     let copied = c.in-Err-copy_handheld.ensures in
     let stays : StaysAsItWas before.palm after.palm = record { contents = copied.contents; moments = copied.moments } in
     rw (end.status, end.device, end.desk)
-    (dry_of_run (by_handheld (run_judged run) before after end.report (record { rules = c.in-Ok.script; scripted = c.in-Ok.ensures.script }) (inl copied.refused)
+    (dry_of_run (by_handheld (run_judged run) before after end.report (record { rules = c.in-Ok.script; scripted = c.in-Ok.ensures.script })
+    (inl copied.refused)
     copied.failed copied.in_use c.in-Ok.ensures.path stays copied.path refl refl) stays (record { contents = refl; moments = refl }))
 
 pub returns-in-Err-open_handheld-clause-ran : goal.returns-in-Err-open_handheld-clause-ran
@@ -46,7 +48,8 @@ returns-in-Err-open_handheld-clause-ran g c =
     let end = c.not_started-in-Err-open_handheld.ensures in
     rw (end.status, end.device, end.desk)
     (dry_by_copies copies left
-    (by_handheld (run_judged run) (over copies before) (over left after) end.report (record { rules = c.in-Ok.script; scripted = c.in-Ok.ensures.script }) opened.refused opened.failed opened.in_use c.in-Ok.ensures.path
+    (by_handheld (run_judged run) (over copies before) (over left after) end.report (record { rules = c.in-Ok.script; scripted = c.in-Ok.ensures.script })
+    opened.refused opened.failed opened.in_use c.in-Ok.ensures.path
     (record { contents = opened.contents; moments = opened.moments }) opened.path refl refl)
     (record { stays = stays; copied_is = copied.copied }) (uncopied (record { contents = refl; moments = refl }))
     (copy_blamed _ _ _ _ run.handheld _ _ copied.paths_of_copy opened.path (copied.steady c.in-Err-open_handheld.refused)) (λ rose. rose)
@@ -73,12 +76,7 @@ returns-in-Err-copy_desktop-clause-ran g c =
     rw (end.status, end.device, end.desk)
     (dry_by_copies copies left
     (by_folder (run_judged run) (over copies before) (over left after) end.report (record { rules = c.in-Ok.script; scripted = c.in-Ok.ensures.script })
-    (record {
-      databases = c.in-Ok-open_handheld.store.databases;
-      user = c.in-Ok-open_handheld.store.user;
-      holds = c.in-Ok-open_handheld.ensures.held;
-      side = c.in-Ok-open_handheld.ensures.side;
-    })
+    c.in-Ok-open_handheld.ensures.has
     (inl kept.refused) kept.failed kept.in_use c.in-Ok.ensures.path seen store.ensures.path
     (record { stands = stands_still desk_stays; unread = λ unread. desk_stays }) kept.path refl)
     (record { stays = stays; copied_is = copied.copied }) (uncopied desk_stays) blamed (λ rose. rose) copied.path kept.path (not_begun end.report))
@@ -105,12 +103,7 @@ returns-in-Err-open_desktop-clause-ran g c =
     rw (end.status, end.device, end.desk)
     (dry_by_copies copies left
     (by_folder (run_judged run) (over copies before) (over left after) end.report (record { rules = c.in-Ok.script; scripted = c.in-Ok.ensures.script })
-    (record {
-      databases = c.in-Ok-open_handheld.store.databases;
-      user = c.in-Ok-open_handheld.store.user;
-      holds = c.in-Ok-open_handheld.ensures.held;
-      side = c.in-Ok-open_handheld.ensures.side;
-    })
+    c.in-Ok-open_handheld.ensures.has
     opened.refused opened.failed opened.in_use c.in-Ok.ensures.path seen store.ensures.path
     (record {
       stands = record { stands = opened.stands; each_moment = opened.each_moment };
@@ -142,12 +135,7 @@ returns-in-Err-open_trace-clause-ran g c =
     rw (end.status, end.device, end.desk)
     (dry_by_copies copies left
     (by_trace (run_judged run) (over copies before) (over left after) end.report (record { rules = c.in-Ok.script; scripted = c.in-Ok.ensures.script })
-    (record {
-      databases = c.in-Ok-open_handheld.store.databases;
-      user = c.in-Ok-open_handheld.store.user;
-      holds = c.in-Ok-open_handheld.ensures.held;
-      side = c.in-Ok-open_handheld.ensures.side;
-    })
+    c.in-Ok-open_handheld.ensures.has
     desk.ensures.desktop c.in-Err-open_trace.ensures.refused (λ e. c.in-Err-open_trace.ensures.failed (ap Err e)) c.in-Ok.ensures.path
     seen store.ensures.path
     (keeps_traced c.in-Err-open_trace.ensures.refused (record { stands = desk.ensures.stands; each_moment = desk.ensures.each_moment })) desk.ensures.path
@@ -160,7 +148,8 @@ returns-in-Ok-open_trace-clause-ran g c =
     let run = run_view c.args.words.now in
     let before = call_told g.H.Folder g.D.Folder g.S.Source g.T.Sink c.args.device c.args.desk c.args.source.now c.args.trace.now in
     let after =
-    call_told g.H.Folder g.D.Folder g.S.Source g.T.Sink c.copy_handheld.new.device c.copy_desktop.new.desk c.script_of.new.source c.traced_talk-answer.new.trace in
+    call_told g.H.Folder g.D.Folder g.S.Source g.T.Sink c.copy_handheld.new.device c.copy_desktop.new.desk c.script_of.new.source
+    c.traced_talk-answer.new.trace in
     let palm = copy_told c.in-Ok-copy_handheld.palm in
     let copied = c.in-Ok-copy_handheld.ensures in
     let stays : StaysAsItWas before.palm after.palm = record { contents = copied.contents; moments = copied.moments } in

@@ -15,12 +15,7 @@ returns-in-Err-open_desktop-clause-ran g c =
     let end = c.not_started-in-Err-open_desktop.ensures in
     rw (end.status, end.device, end.desk, c.into_folder.ensures)
     (by_folder (run_judged run) before after end.report (record { rules = c.in-Ok.script; scripted = c.in-Ok.ensures.script })
-    (record {
-      databases = c.in-Ok-open_handheld.store.databases;
-      user = c.in-Ok-open_handheld.store.user;
-      holds = c.in-Ok-open_handheld.ensures.held;
-      side = c.in-Ok-open_handheld.ensures.side;
-    })
+    c.in-Ok-open_handheld.ensures.has
     c.in-Err-open_desktop.ensures.refused c.in-Err-open_desktop.ensures.failed c.in-Err-open_desktop.ensures.in_use
     c.in-Ok.ensures.path
     (record { contents = c.in-Ok-open_handheld.ensures.contents; moments = c.in-Ok-open_handheld.ensures.moments }) c.in-Ok-open_handheld.ensures.path
@@ -60,16 +55,12 @@ returns-in-Err-open_trace-clause-ran g c =
     let run = run_view c.args.words.now in
     let before = call_told g.H.Folder g.D.Folder g.S.Source g.T.Sink c.args.device c.args.desk c.args.source.now c.args.trace.now in
     let after =
-    call_told g.H.Folder g.D.Folder g.S.Source g.T.Sink c.in-Ok-open_handheld.store.folder c.in-Ok-open_desktop.desk.folder c.script_of.new.source c.open_trace.new.trace in
+    call_told g.H.Folder g.D.Folder g.S.Source g.T.Sink c.in-Ok-open_handheld.store.folder c.in-Ok-open_desktop.desk.folder c.script_of.new.source
+    c.open_trace.new.trace in
     let end = c.not_started-in-Err-open_trace.ensures in
     rw (end.status, end.device, end.desk, c.into_folder-in-Err-open_trace.ensures, c.into_folder-in-Err-open_trace-2.ensures)
     (by_trace (run_judged run) before after end.report (record { rules = c.in-Ok.script; scripted = c.in-Ok.ensures.script })
-    (record {
-      databases = c.in-Ok-open_handheld.store.databases;
-      user = c.in-Ok-open_handheld.store.user;
-      holds = c.in-Ok-open_handheld.ensures.held;
-      side = c.in-Ok-open_handheld.ensures.side;
-    })
+    c.in-Ok-open_handheld.ensures.has
     c.in-Ok-open_desktop.ensures.desktop c.in-Err-open_trace.ensures.refused (λ e. c.in-Err-open_trace.ensures.failed (ap Err e)) c.in-Ok.ensures.path
     (record { contents = c.in-Ok-open_handheld.ensures.contents; moments = c.in-Ok-open_handheld.ensures.moments }) c.in-Ok-open_handheld.ensures.path
     (keeps_traced c.in-Err-open_trace.ensures.refused (record {
@@ -94,7 +85,8 @@ returns-in-Err-open_handheld-clause-ran g c =
     let after = call_told g.H.Folder g.D.Folder g.S.Source g.T.Sink c.in-Err-open_handheld.device c.args.desk c.script_of.new.source c.args.trace.now in
     let end = c.not_started-in-Err-open_handheld.ensures in
     rw (end.status, end.device, end.desk)
-    (by_handheld (run_judged run) before after end.report (record { rules = c.in-Ok.script; scripted = c.in-Ok.ensures.script }) c.in-Err-open_handheld.ensures.refused
+    (by_handheld (run_judged run) before after end.report (record { rules = c.in-Ok.script; scripted = c.in-Ok.ensures.script })
+    c.in-Err-open_handheld.ensures.refused
     c.in-Err-open_handheld.ensures.failed c.in-Err-open_handheld.ensures.in_use c.in-Ok.ensures.path
     (record { contents = c.in-Err-open_handheld.ensures.contents; moments = c.in-Err-open_handheld.ensures.moments })
     c.in-Err-open_handheld.ensures.path refl refl)

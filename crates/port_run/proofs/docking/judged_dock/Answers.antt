@@ -32,7 +32,7 @@ returns-in-Err-open_port-clause-ran g c =
     undocked (dock_view c.args.dock.now) before after
     (ap (λ f. folder_told g.H.Folder.contents g.H.Folder.moments g.H.Folder.paths g.H.Folder.faults f) (end.ensures.device ∙ c.into_folder.ensures))
     (ap (λ p. port_told g.P.Port p) end.ensures.port) end.ensures.report
-    (record { side = c.in-Ok.ensures.side; databases = store.databases; user = store.user; holds = c.in-Ok.ensures.held })
+    c.in-Ok.ensures.has
     (record { contents = c.in-Ok.ensures.contents; moments = c.in-Ok.ensures.moments }) c.in-Ok.ensures.opened c.in-Err-open_port.refusal
     end.ensures.status (inl refused.refused) (record { given = refused.given; taken = refused.taken; palm = refused.palm }) refused.path refl (inl refl) refused.failed
     (λ e. absurd (port_not_trace c.in-Err-open_port.refusal refused.refused e))
@@ -49,7 +49,7 @@ returns-in-Err-open_trace-clause-ran g c =
     (ap (λ f. folder_told g.H.Folder.contents g.H.Folder.moments g.H.Folder.paths g.H.Folder.faults f)
     (end.ensures.device ∙ c.into_folder-in-Err-open_trace.ensures))
     (ap (λ p. port_told g.P.Port p) end.ensures.port) end.ensures.report
-    (record { side = c.in-Ok.ensures.side; databases = store.databases; user = store.user; holds = c.in-Ok.ensures.held })
+    c.in-Ok.ensures.has
     (record { contents = c.in-Ok.ensures.contents; moments = c.in-Ok.ensures.moments }) c.in-Ok.ensures.opened c.in-Err-open_trace.refusal
     end.ensures.status (inr refused.refused) (record { given = port.given; taken = port.taken; palm = port.palm }) (inr port.opened) refused.taken refused.path
     (λ e. absurd (trace_not_port c.in-Err-open_trace.refusal refused.refused e)) (λ e. refused.failed (ap (λ s. Err s) e))
