@@ -1,7 +1,8 @@
 -- What holds of every call that may have a session, by what its command promises of its own.
-use Rattle.std.specs.Prelude.{◌≡◌, ◌⊎◌, List, Option, ℕ}
+use Rattle.std.specs.Prelude.{◌≡◌, ◌⊎◌, List, Option, Some, ℕ}
 use Rattle.hs_folders.specs.Causes.{Rose}
 use Rattle.trace_text.specs.declared.frame.End.TheVariants as end
+use Rattle.run_words.specs.Betweens.{Between}
 use Rattle.call_parts.specs.Causes.{ByEnd, HasBegun}
 use Rattle.call_parts.specs.DoneLines.{done_lines}
 use Rattle.cmd_status.specs.Opening.{OpensGiven, OpensGivenAtMost}
@@ -25,6 +26,15 @@ pub record Paths : Type 0 where
   pub desktop : Option (List ℕ)
   pub source : Option (List ℕ)
   pub trace : Option (List ℕ)
+
+-- those of words for a handheld and another folder, beside a script and a trace
+abbrev pub between_paths : Between → Paths
+between_paths words = record {
+  handheld = Some words.handheld;
+  desktop = Some words.other;
+  source = words.script;
+  trace = words.trace;
+}
 
 -- A command with a session, by the words for it: the paths of its objects, what refuses it before
 -- its session, what is kept of the desktop's folder then, what is known of its session, and when

@@ -12,7 +12,8 @@ use Rattle.line_script.specs.Rules.{RuleValue}
 use Rattle.install_backup.specs.Backups.{HasSome}
 use Rattle.run_words.specs.Betweens.{Between}
 use Rattle.cmd_status.specs.Told.{SinkTold}
-use Rattle.cmd_files.specs.Backups.{BackupLeft, BackupRan, HasBackedUp, IsBackupTalk, KeepsFiles, backup_command, backup_file, backup_judges, backup_paths}
+use Rattle.cmd_files.specs.Backups.{BackupLeft, BackupRan, IsBackupTalk, KeepsFiles, backup_command, backup_file, backup_judges}
+use Rattle.call_parts.specs.SessionCalls.{MayHaveSession, between_paths}
 use Rattle.call_parts.specs.Files.{FilesRefuse, StandsApart}
 use Rattle.call_parts.specs.Scripts.{IsScripted}
 use Rattle.call_parts.specs.Stays.{StaysAsItWas}
@@ -82,10 +83,10 @@ left_from {device} {first} {before} {after} palm desk left = record {
 
 -- a backup with a session
 pub by_backup : {words : Between} (before after : CallTold) {palm desk : FolderTold} {trace : SinkTold} {rules : List RuleValue} {device : Device}
-    {status : Status} {report : Report} → AreOpened (backup_paths words) before after.source palm desk trace device
+    {status : Status} {report : Report} → AreOpened (between_paths words) before after.source palm desk trace device
     → IsScripted words.script before.source.left rules → StandsApart before.desk.contents → StaysAsItWas before.desk desk
     → IsBackupTalk rules device (both_told palm desk) (sides_of after) status report → TracesReport words.trace report trace after.trace status
-    → HasBackedUp words before after status report
+    → MayHaveSession (backup_command words) before after status report
 by_backup {words} before after {palm} {desk} {rules = rules} {device} opened scripted apart stays talk traced =
     by_session (backup_command words) before after opened (λ same memory. subst (StaysAsItWas before.desk) (sym same) stays) talk traced
     (λ had. had.spoke.why.ends) (λ had. record {

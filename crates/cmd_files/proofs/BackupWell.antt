@@ -5,10 +5,11 @@ use Rattle.hs_folders.specs.FileMaps.{FileMap}
 use Rattle.run_words.specs.Betweens.{Between}
 use Rattle.cmd_status.specs.Printed.{IsPrinted}
 use Rattle.cmd_status.specs.Told.{SinkTold}
-use Rattle.cmd_files.specs.Backups.{BackupShows, HasBackedUp, IsCalmBackup, backup_command}
+use Rattle.cmd_files.specs.Backups.{BackupShows, IsCalmBackup, backup_command}
 use Rattle.cmd_files.proofs.BackupRuns.{backup_judged}
 use Rattle.call_parts.proofs.JudgedCalls.{refuses_none}
 use Rattle.call_parts.proofs.WellLaws.{IsOwnStop, call_well, session_well}
+use Rattle.call_parts.specs.SessionCalls.{MayHaveSession}
 use Rattle.call_parts.specs.Files.{FilesRefuse, is_synced}
 use Rattle.call_parts.specs.Refusals.{IsDesktopFailure}
 use Rattle.call_parts.specs.Told.{CallTold}
@@ -41,7 +42,8 @@ finds_none _ shows own = own
 
 -- a backup that nothing disturbs is done whole
 pub backup_ends_well : (words : Between) (before after : CallTold) (out out_after : SinkTold) (status : Status) (report : Report) {IsText : List ℕ → Type 0}
-    → HasBackedUp words before after status report → IsPrinted IsText out out_after status → IsCalmBackup words before after out out_after report
+    → MayHaveSession (backup_command words) before after status report → IsPrinted IsText out out_after status
+    → IsCalmBackup words before after out out_after report
     → EndsWell status report
 backup_ends_well words before after out out_after status report has printed calm =
     call_well (backup_command words) before after has printed calm.none_failed

@@ -8,8 +8,9 @@ use Rattle.install_backup.specs.InstallActs.{install_mark}
 use Rattle.run_words.specs.Betweens.{Between}
 use Rattle.hotsync_looks.specs.InstallFiles.{IsFileRefusal, IsInstallFile}
 use Rattle.cmd_status.specs.Told.{SinkTold}
-use Rattle.cmd_files.specs.Installs.{HasInstalled, InstallRan, install_command, install_judges, install_paths}
+use Rattle.cmd_files.specs.Installs.{InstallRan, install_command, install_judges, install_paths}
 use Rattle.cmd_files.specs.Loads.{IsLoadTalk}
+use Rattle.call_parts.specs.SessionCalls.{MayHaveSession}
 use Rattle.call_parts.specs.Told.{CallTold, FolderTold, sides_of}
 use Rattle.call_parts.specs.Traces.{TracesReport}
 use Rattle.call_parts.proofs.JudgedCalls.{IsJudged, IsSourceAlone, never_done}
@@ -44,7 +45,7 @@ pub by_install : {words : Between} (before after : CallTold) {palm : FolderTold}
     {status : Status} {report : Report} → AreOpened (install_paths words) before after.source palm before.desk trace device
     → IfSome before.source.left (λ bytes. IsInstallFile bytes database) → is_read_only database.head.attributes ≡ false → after.desk ≡ before.desk
     → IsLoadTalk [] (install_mark database) device (database ∷ []) (both_told palm before.desk) (sides_of after) status report
-    → TracesReport words.trace report trace after.trace status → HasInstalled words before after status report
+    → TracesReport words.trace report trace after.trace status → MayHaveSession (install_command words) before after status report
 by_install {words} before after {device = device} {database} opened file writable same talk traced =
     by_session (install_command words) before after opened (λ same memory. same) talk traced (λ had. had.spoke.why.ends) (λ had. record {
       database = database;

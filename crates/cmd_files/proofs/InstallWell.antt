@@ -12,12 +12,13 @@ use Rattle.hotsync_looks.proofs.LookLaws.{file_not_broken}
 use Rattle.hotsync_looks.specs.InstallFiles.{FileRefuses, FileShows, IsInstallFile}
 use Rattle.cmd_status.specs.Printed.{IsPrinted}
 use Rattle.cmd_status.specs.Told.{SinkTold}
-use Rattle.cmd_files.specs.Installs.{HasInstalled, InstallRan, IsCalmInstall, install_command}
+use Rattle.cmd_files.specs.Installs.{InstallRan, IsCalmInstall, install_command}
 use Rattle.cmd_files.proofs.InstallLaws.{full_of}
 use Rattle.cmd_files.proofs.InstallRuns.{install_judged}
 use Rattle.call_parts.proofs.JudgedCalls.{refuses_none}
 use Rattle.cmd_files.proofs.LoadWell.{load_well}
 use Rattle.call_parts.proofs.WellLaws.{call_well, kind_line}
+use Rattle.call_parts.specs.SessionCalls.{MayHaveSession}
 use Rattle.call_parts.specs.LineRuns.{frames_in}
 use Rattle.call_parts.specs.Told.{CallTold}
 use Rattle.call_parts.specs.Undisturbed.{EndsWell}
@@ -67,7 +68,8 @@ module _ (words : Between) {before after : CallTold} {out out_after : SinkTold} 
 
 -- an install that nothing disturbs is done whole
 pub install_ends_well : (words : Between) (before after : CallTold) (out out_after : SinkTold) (status : Status) (report : Report) {IsText : List ℕ → Type 0}
-    → HasInstalled words before after status report → IsPrinted IsText out out_after status → IsCalmInstall before after out out_after
+    → MayHaveSession (install_command words) before after status report → IsPrinted IsText out out_after status
+    → IsCalmInstall before after out out_after
     → EndsWell status report
 install_ends_well words before after out out_after status report has printed calm =
     call_well (install_command words) before after has printed calm.none_failed

@@ -13,7 +13,8 @@ use Rattle.run_words.specs.Betweens.{Between}
 use Rattle.cmd_status.specs.FolderFaults.{backup_status}
 use Rattle.cmd_status.specs.Told.{SinkTold}
 use Rattle.cmd_files.specs.Loads.{IsLoadTalk}
-use Rattle.cmd_files.specs.Restores.{BackupsRefuse, HasRestored, RestoreRan, restore_command, restore_judges, restore_paths}
+use Rattle.cmd_files.specs.Restores.{BackupsRefuse, RestoreRan, restore_command, restore_judges}
+use Rattle.call_parts.specs.SessionCalls.{MayHaveSession, between_paths}
 use Rattle.call_parts.specs.Scripts.{IsScripted}
 use Rattle.call_parts.specs.Stays.{StaysAsItWas}
 use Rattle.call_parts.specs.Told.{CallTold, FolderTold, sides_of}
@@ -52,10 +53,10 @@ restore_judged words = record {
 
 -- a restore with a session
 pub by_restore : {words : Between} (before after : CallTold) {palm desk : FolderTold} {trace : SinkTold} {rules : List RuleValue} {device : Device}
-    {databases : List DatabaseValue} {status : Status} {report : Report} → AreOpened (restore_paths words) before after.source palm desk trace device
+    {databases : List DatabaseValue} {status : Status} {report : Report} → AreOpened (between_paths words) before after.source palm desk trace device
     → IsScripted words.script before.source.left rules → IfSome before.desk.contents (λ held. HoldsBackups held databases) → StaysAsItWas before.desk desk
     → after.desk ≡ desk → IsLoadTalk rules (restore_mark databases) device databases (both_told palm desk) (sides_of after) status report
-    → TracesReport words.trace report trace after.trace status → HasRestored words before after status report
+    → TracesReport words.trace report trace after.trace status → MayHaveSession (restore_command words) before after status report
 by_restore {words} before after {rules = rules} {device} {databases} opened scripted backups stays same talk traced =
     by_session (restore_command words) before after opened (λ same memory. subst (StaysAsItWas before.desk) (sym same) stays) talk traced
     (λ had. had.spoke.why.ends) (λ had. record {

@@ -17,7 +17,8 @@ use Rattle.call_parts.proofs.JudgedCalls.{refuses_none}
 use Rattle.cmd_files.proofs.RestoreRuns.{restore_judged}
 use Rattle.cmd_files.proofs.LoadWell.{load_well}
 use Rattle.call_parts.proofs.WellLaws.{call_well}
-use Rattle.cmd_files.specs.Restores.{BackupsRefuse, HasRestored, IsCalmRestore, IsGoodBackups, restore_command}
+use Rattle.cmd_files.specs.Restores.{BackupsRefuse, IsCalmRestore, IsGoodBackups, restore_command}
+use Rattle.call_parts.specs.SessionCalls.{MayHaveSession}
 use Rattle.call_parts.specs.Refusals.{IsDesktopFailure}
 use Rattle.call_parts.specs.Told.{CallTold}
 use Rattle.call_parts.specs.Undisturbed.{EndsWell}
@@ -52,7 +53,8 @@ judged_backups {told} {status} good (inr shows) =
 
 -- a restore that nothing disturbs is done whole
 pub restore_ends_well : (words : Between) (before after : CallTold) (out out_after : SinkTold) (status : Status) (report : Report) {IsText : List ℕ → Type 0}
-    → HasRestored words before after status report → IsPrinted IsText out out_after status → IsCalmRestore words before after out out_after report
+    → MayHaveSession (restore_command words) before after status report → IsPrinted IsText out out_after status
+    → IsCalmRestore words before after out out_after report
     → EndsWell status report
 restore_ends_well words before after out out_after status report has printed calm =
     call_well (restore_command words) before after has printed calm.none_failed

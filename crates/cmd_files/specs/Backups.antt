@@ -29,7 +29,7 @@ use Rattle.call_parts.specs.LineRuns.{SaidAll, frames_in, log_in}
 use Rattle.call_parts.specs.Judges.{Judges, Refuses}
 use Rattle.call_parts.specs.Scripts.{HasScript, IsScripted, ScriptRefuses}
 use Rattle.call_parts.specs.Files.{FilesRefuse, StandsApart, is_synced}
-use Rattle.call_parts.specs.SessionCalls.{IsSessionCall, MayHaveSession, Paths, SessionCommand}
+use Rattle.call_parts.specs.SessionCalls.{SessionCommand, between_paths}
 use Rattle.call_parts.specs.Stays.{StaysAsItWas}
 use Rattle.call_parts.specs.Sessions.{Agenda, HadSession, IsTalk}
 use Rattle.call_parts.specs.Told.{CallTold, FolderTold, SidesTold, sides_of}
@@ -156,32 +156,12 @@ pub record IsCalmBackup (words : Between) (before after : CallTold) (out out_aft
   pub apart : is_synced files ≡ false
   pub none_failed : NoneFailed before after out out_after
 
--- the paths of a backup's words
-abbrev pub backup_paths : Between → Paths
-backup_paths words = record {
-  handheld = Some words.handheld;
-  desktop = Some words.other;
-  source = words.script;
-  trace = words.trace;
-}
-
 -- a backup as a command: the script, both folders and the trace are judged, in this order
 abbrev pub backup_command : Between → SessionCommand
 backup_command words = record {
-  paths = backup_paths words;
+  paths = between_paths words;
   Judged = λ before refusal. BackupRefuses words before refusal;
   Kept = λ before after status. StaysAsItWas before after;
   Had = λ before after status report. BackupRan words before after status report;
   Undisturbed = λ before after out said report. IsCalmBackup words before after out said report;
 }
-
--- what is known of a backup before its lines are printed
-abbrev pub HasBackedUp : Between → CallTold → CallTold → Status → Report → Type 0
-HasBackedUp words before after status report =
-    MayHaveSession (backup_command words) before after status report
-
--- what is known of a backup
-abbrev pub IsBackup : Between → CallTold → CallTold → SinkTold → SinkTold → Status → Report
-    → Type 0
-IsBackup words before after out out_after status report =
-    IsSessionCall (backup_command words) before after out out_after status report

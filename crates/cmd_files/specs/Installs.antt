@@ -20,7 +20,7 @@ use Rattle.cmd_status.specs.declared.status.Status.{Status}
 use Rattle.call_parts.specs.Judges.{Judges, Refuses}
 use Rattle.cmd_files.specs.Loads.{HadLoad}
 use Rattle.call_parts.specs.LineRuns.{SaidAll, frames_in}
-use Rattle.call_parts.specs.SessionCalls.{IsSessionCall, MayHaveSession, Paths, SessionCommand}
+use Rattle.call_parts.specs.SessionCalls.{Paths, SessionCommand}
 use Rattle.call_parts.specs.Told.{CallTold, FolderTold}
 use Rattle.call_parts.specs.Traces.{TakesTrace}
 use Rattle.call_parts.specs.Undisturbed.{IsGoodHandheld, NoneFailed}
@@ -114,14 +114,3 @@ install_command words = record {
   Had = λ before after status report. InstallRan words before after status report;
   Undisturbed = λ before after out said report. IsCalmInstall before after out said;
 }
-
--- what is known of an install before its lines are printed
-abbrev pub HasInstalled : Between → CallTold → CallTold → Status → Report → Type 0
-HasInstalled words before after status report =
-    MayHaveSession (install_command words) before after status report
-
--- what is known of an install
-abbrev pub IsInstall : Between → CallTold → CallTold → SinkTold → SinkTold → Status → Report
-    → Type 0
-IsInstall words before after out out_after status report =
-    IsSessionCall (install_command words) before after out out_after status report

@@ -22,7 +22,7 @@ use Rattle.cmd_files.specs.Loads.{HadLoad}
 use Rattle.call_parts.specs.LineRuns.{frames_in}
 use Rattle.call_parts.specs.Refusals.{IsDesktopFailure}
 use Rattle.call_parts.specs.Scripts.{HasScript, IsScripted, ScriptRefuses}
-use Rattle.call_parts.specs.SessionCalls.{IsSessionCall, MayHaveSession, Paths, SessionCommand}
+use Rattle.call_parts.specs.SessionCalls.{SessionCommand, between_paths}
 use Rattle.call_parts.specs.Stays.{StaysAsItWas}
 use Rattle.call_parts.specs.Told.{CallTold}
 use Rattle.call_parts.specs.Traces.{TakesTrace}
@@ -105,32 +105,12 @@ pub record IsCalmRestore (words : Between) (before after : CallTold) (out out_af
       → first_full databases device.databases ≡ None
   pub none_failed : NoneFailed before after out out_after
 
--- the paths of a restore's words
-abbrev pub restore_paths : Between → Paths
-restore_paths words = record {
-  handheld = Some words.handheld;
-  desktop = Some words.other;
-  source = words.script;
-  trace = words.trace;
-}
-
 -- a restore as a command: the script, both folders and the trace are judged, in this order
 abbrev pub restore_command : Between → SessionCommand
 restore_command words = record {
-  paths = restore_paths words;
+  paths = between_paths words;
   Judged = λ before refusal. RestoreRefuses words before refusal;
   Kept = λ before after status. StaysAsItWas before after;
   Had = λ before after status report. RestoreRan words before after status report;
   Undisturbed = λ before after out said report. IsCalmRestore words before after out said report;
 }
-
--- what is known of a restore before its lines are printed
-abbrev pub HasRestored : Between → CallTold → CallTold → Status → Report → Type 0
-HasRestored words before after status report =
-    MayHaveSession (restore_command words) before after status report
-
--- what is known of a restore
-abbrev pub IsRestore : Between → CallTold → CallTold → SinkTold → SinkTold → Status → Report
-    → Type 0
-IsRestore words before after out out_after status report =
-    IsSessionCall (restore_command words) before after out out_after status report

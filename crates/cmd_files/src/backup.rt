@@ -4,7 +4,8 @@ ghost use Rattle.handheld_files.specs.Openings.{AreKept, Stands, opened_device};
 ghost use Rattle.palm_device.specs.Bounds.{IsBounded};
 ghost use Rattle.run_words.specs.Views.{between_view};
 ghost use Rattle.cmd_status.specs.Told.{sink_told};
-ghost use Rattle.cmd_files.specs.Backups.{HasBackedUp, IsBackup, IsBackupTalk};
+ghost use Rattle.cmd_files.specs.Backups.{IsBackupTalk, backup_command};
+ghost use Rattle.call_parts.specs.SessionCalls.{IsSessionCall, MayHaveSession};
 ghost use Rattle.call_parts.specs.OfCalls.{OfCall, OfRun, OfSides};
 ghost use Rattle.call_parts.specs.Refusals.{BlamesHandheld, BlamesSource};
 ghost use Rattle.call_parts.specs.Traces.{TracesReport};
@@ -28,7 +29,7 @@ pub fn backup_folder<H: Folder, D: Folder, S: Source, T: Sink, O: Sink>(
     trace: &mut T,
     out: &mut O,
 ) -> Answer<H, D>
-    ensures backup { OfCall (IsBackup (between_view words.now))
+    ensures backup { OfCall (IsSessionCall (backup_command (between_view words.now)))
         H.Folder D.Folder S.Source T.Sink O.Sink
         device desk source.old trace.old out.old
         result source.new trace.new out.new }
@@ -52,7 +53,7 @@ fn judged_backup<H: Folder, D: Folder, S: Source, T: Sink>(
     source: &mut S,
     trace: &mut T,
 ) -> Answer<H, D>
-    ensures ran { OfRun (HasBackedUp (between_view words.now))
+    ensures ran { OfRun (MayHaveSession (backup_command (between_view words.now)))
         H.Folder D.Folder S.Source T.Sink device desk source.old trace.old
         result source.new trace.new }
     ensures unprinted { result.status ≢ Status.OutWrite }

@@ -4,9 +4,10 @@ ghost use Rattle.handheld_files.specs.Openings.{AreKept, Stands, opened_device};
 ghost use Rattle.palm_device.specs.Bounds.{IsBounded, IsBoundedDatabase};
 ghost use Rattle.run_words.specs.Views.{between_view};
 ghost use Rattle.cmd_status.specs.Told.{sink_told};
+ghost use Rattle.call_parts.specs.SessionCalls.{IsSessionCall, MayHaveSession};
 ghost use Rattle.call_parts.specs.OfCalls.{OfCall, OfRun, OfSides};
 ghost use Rattle.install_backup.specs.InstallActs.{install_mark as mark_of};
-ghost use Rattle.cmd_files.specs.Installs.{HasInstalled, IsInstall};
+ghost use Rattle.cmd_files.specs.Installs.{install_command};
 ghost use Rattle.cmd_files.specs.Loads.{IsLoadTalk};
 ghost use Rattle.call_parts.specs.Refusals.{BlamesSource};
 ghost use Rattle.call_parts.specs.Traces.{TracesReport};
@@ -33,7 +34,7 @@ pub fn install_file<H: Folder, D: Folder, S: Source, T: Sink, O: Sink>(
     trace: &mut T,
     out: &mut O,
 ) -> Answer<H, D>
-    ensures install { OfCall (IsInstall (between_view words.now))
+    ensures install { OfCall (IsSessionCall (install_command (between_view words.now)))
         H.Folder D.Folder S.Source T.Sink O.Sink
         device desk source.old trace.old out.old
         result source.new trace.new out.new }
@@ -54,7 +55,7 @@ fn judged_install<H: Folder, D: Folder, S: Source, T: Sink>(
     source: &mut S,
     trace: &mut T,
 ) -> Answer<H, D>
-    ensures ran { OfRun (HasInstalled (between_view words.now))
+    ensures ran { OfRun (MayHaveSession (install_command (between_view words.now)))
         H.Folder D.Folder S.Source T.Sink device desk source.old trace.old
         result source.new trace.new }
     ensures unprinted { result.status ≢ Status.OutWrite }

@@ -6,11 +6,12 @@ ghost use Rattle.palm_device.specs.Bounds.{IsBounded, IsBoundedDatabase};
 ghost use Rattle.pdb_values.specs.NamedDatabases.{NamesRise};
 ghost use Rattle.run_words.specs.Views.{between_view};
 ghost use Rattle.cmd_status.specs.Told.{sink_told};
+ghost use Rattle.call_parts.specs.SessionCalls.{IsSessionCall, MayHaveSession};
 ghost use Rattle.call_parts.specs.OfCalls.{OfCall, OfRun, OfSides};
 ghost use Rattle.call_parts.specs.Refusals.{BlamesHandheld, BlamesSource};
 ghost use Rattle.install_backup.specs.InstallActs.{restore_mark as mark_of};
 ghost use Rattle.cmd_files.specs.Loads.{IsLoadTalk};
-ghost use Rattle.cmd_files.specs.Restores.{HasRestored, IsRestore};
+ghost use Rattle.cmd_files.specs.Restores.{restore_command};
 ghost use Rattle.call_parts.specs.Traces.{TracesReport};
 
 use crate::backups::{Backups, open_backups};
@@ -35,7 +36,7 @@ pub fn restore_folder<H: Folder, D: Folder, S: Source, T: Sink, O: Sink>(
     trace: &mut T,
     out: &mut O,
 ) -> Answer<H, D>
-    ensures restore { OfCall (IsRestore (between_view words.now))
+    ensures restore { OfCall (IsSessionCall (restore_command (between_view words.now)))
         H.Folder D.Folder S.Source T.Sink O.Sink
         device desk source.old trace.old out.old
         result source.new trace.new out.new }
@@ -59,7 +60,7 @@ fn judged_restore<H: Folder, D: Folder, S: Source, T: Sink>(
     source: &mut S,
     trace: &mut T,
 ) -> Answer<H, D>
-    ensures ran { OfRun (HasRestored (between_view words.now))
+    ensures ran { OfRun (MayHaveSession (restore_command (between_view words.now)))
         H.Folder D.Folder S.Source T.Sink device desk source.old trace.old
         result source.new trace.new }
     ensures unprinted { result.status ≢ Status.OutWrite }

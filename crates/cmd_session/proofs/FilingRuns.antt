@@ -12,8 +12,9 @@ use Rattle.category_mirror.specs.FilingEnds.{StandsFiled}
 use Rattle.category_mirror.specs.Sides.{Filing, filing_of}
 use Rattle.run_words.specs.Betweens.{Between}
 use Rattle.cmd_status.specs.Told.{SinkTold}
+use Rattle.call_parts.specs.SessionCalls.{MayHaveSession, between_paths}
 use Rattle.call_parts.specs.Judges.{desktop_judges}
-use Rattle.cmd_session.specs.Filings.{CategoriesRan, FilingLeft, HasFiled, IsFilingTalk, StandsInSomeTurn, categories_command, categories_paths}
+use Rattle.cmd_session.specs.Filings.{CategoriesRan, FilingLeft, IsFilingTalk, StandsInSomeTurn, categories_command}
 use Rattle.call_parts.specs.Stays.{StandsAsItDid}
 use Rattle.call_parts.specs.Stays.{StaysAsItWas}
 use Rattle.call_parts.specs.Told.{CallTold, FolderTold, SidesTold, sides_of}
@@ -67,10 +68,10 @@ left_from {filing} {first} {before} {after} stays finished_is stood left = recor
 
 -- a call with a session
 pub by_filing : {words : Between} (before after : CallTold) {palm desk : FolderTold} {trace : SinkTold} {rules : List RuleValue} {device : Device}
-    {slots : List SlotValue} {status : Status} {report : Report} → AreOpened (categories_paths words) before after.source palm desk trace device
+    {slots : List SlotValue} {status : Status} {report : Report} → AreOpened (between_paths words) before after.source palm desk trace device
     → IsDeskOpened words.script before.source.left before.desk desk rules slots
     → IsFilingTalk rules (filing_of device slots) (both_told palm desk) (sides_of after) status report
-    → TracesReport words.trace report trace after.trace status → HasFiled words before after status report
+    → TracesReport words.trace report trace after.trace status → MayHaveSession (categories_command words) before after status report
 by_filing {words} before after {palm} {desk} {rules = rules} {device} {slots} opened met talk traced =
     by_session (categories_command words) before after opened (λ same memory. keeps_stood met.stands same memory) talk traced
     (λ had. had.spoke.why.ends) (λ had. record {

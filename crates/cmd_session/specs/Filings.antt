@@ -1,6 +1,6 @@
 -- What holds of every call that brings the categories of both sides together: all objects before
 -- it, and all of them after it.
-use Rattle.std.specs.Prelude.{◌≡◌, ◌⊎◌, ⊤, ℕ, List, [], ◌∷◌, length, map, Option, None, Some, IfErr, IfSome, IsErr, IsOk, Err}
+use Rattle.std.specs.Prelude.{◌≡◌, ◌⊎◌, ⊤, ℕ, List, [], ◌∷◌, length, map, Option, None, IfErr, IfSome, IsErr, IsOk, Err}
 use Rattle.std.specs.Option.{option_map}
 use Rattle.hs_folders.specs.FileMaps.{FileMap}
 use Rattle.hs_folders.specs.Moments.{EachMomentSince}
@@ -29,7 +29,7 @@ use Rattle.call_parts.specs.LineRuns.{SaidAll, frames_in, log_in}
 use Rattle.call_parts.specs.Judges.{Refuses, desktop_judges}
 use Rattle.cmd_session.specs.Runs.{KeepsDesktop}
 use Rattle.call_parts.specs.Scripts.{IsScripted}
-use Rattle.call_parts.specs.SessionCalls.{IsSessionCall, MayHaveSession, Paths, SessionCommand}
+use Rattle.call_parts.specs.SessionCalls.{SessionCommand, between_paths}
 use Rattle.call_parts.specs.Sessions.{Agenda, HadSession, IsTalk}
 use Rattle.call_parts.specs.Told.{CallTold, FolderTold, SidesTold, sides_of}
 use Rattle.call_parts.specs.Traces.{TakesTrace}
@@ -41,7 +41,8 @@ use Rattle.call_parts.specs.declared.report.SessionEnd.TheVariants.{Ended, Stopp
 
 -- the script is judged, the handheld's folder, the desktop's and the trace, in this order
 abbrev pub FilingRefuses : Between → CallTold → Status → Type 0
-FilingRefuses words before refusal = Refuses (desktop_judges words.script) words.trace before refusal
+FilingRefuses words before refusal =
+    Refuses (desktop_judges words.script) words.trace before refusal
 
 -- ---- what a session leaves
 
@@ -169,32 +170,12 @@ pub record IsCalmFiling (words : Between) (before after : CallTold) (out out_aft
   pub seated : HasSeat before
   pub none_failed : NoneFailed before after out out_after
 
--- the paths of the words
-abbrev pub categories_paths : Between → Paths
-categories_paths words = record {
-  handheld = Some words.handheld;
-  desktop = Some words.other;
-  source = words.script;
-  trace = words.trace;
-}
-
 -- as a command: the script, both folders and the trace are judged, in this order
 abbrev pub categories_command : Between → SessionCommand
 categories_command words = record {
-  paths = categories_paths words;
+  paths = between_paths words;
   Judged = λ before refusal. FilingRefuses words before refusal;
   Kept = λ before after status. KeepsDesktop before after status;
   Had = λ before after status report. CategoriesRan words before after status report;
   Undisturbed = λ before after out said report. IsCalmFiling words before after out said report;
 }
-
--- what is known of a call before its lines are printed
-abbrev pub HasFiled : Between → CallTold → CallTold → Status → Report → Type 0
-HasFiled words before after status report =
-    MayHaveSession (categories_command words) before after status report
-
--- what is known of a call
-abbrev pub IsCategories : Between → CallTold → CallTold → SinkTold → SinkTold → Status → Report
-    → Type 0
-IsCategories words before after out out_after status report =
-    IsSessionCall (categories_command words) before after out out_after status report

@@ -5,8 +5,9 @@ ghost use Rattle.desk_store.specs.Bounds.{AreBounded};
 ghost use Rattle.desk_store.specs.Desks.{IsDesk};
 ghost use Rattle.handheld_files.specs.Openings.{AreKept, Stands, opened_device};
 ghost use Rattle.palm_device.specs.Bounds.{IsBounded};
+ghost use Rattle.call_parts.specs.SessionCalls.{IsSessionCall, MayHaveSession};
 ghost use Rattle.call_parts.specs.OfCalls.{OfCall, OfRun, OfSides};
-ghost use Rattle.cmd_session.specs.Filings.{HasFiled, IsCategories, IsFilingTalk};
+ghost use Rattle.cmd_session.specs.Filings.{IsFilingTalk, categories_command};
 ghost use Rattle.call_parts.specs.Refusals.{BlamesHandheld, BlamesSource};
 ghost use Rattle.call_parts.specs.Traces.{TracesReport};
 ghost use Rattle.cmd_status.specs.Told.{sink_told};
@@ -32,7 +33,7 @@ pub fn file_categories<H: Folder, D: Folder, S: Source, T: Sink, O: Sink>(
     trace: &mut T,
     out: &mut O,
 ) -> Answer<H, D>
-    ensures categories { OfCall (IsCategories (between_view words.now))
+    ensures categories { OfCall (IsSessionCall (categories_command (between_view words.now)))
         H.Folder D.Folder S.Source T.Sink O.Sink
         device desk source.old trace.old out.old
         result source.new trace.new out.new }
@@ -56,7 +57,7 @@ fn judged_categories<H: Folder, D: Folder, S: Source, T: Sink>(
     source: &mut S,
     trace: &mut T,
 ) -> Answer<H, D>
-    ensures ran { OfRun (HasFiled (between_view words.now))
+    ensures ran { OfRun (MayHaveSession (categories_command (between_view words.now)))
         H.Folder D.Folder S.Source T.Sink device desk source.old trace.old
         result source.new trace.new }
     ensures unprinted { result.status ≢ Status.OutWrite }

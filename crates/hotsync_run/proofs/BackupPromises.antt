@@ -3,10 +3,10 @@ use Rattle.std.proofs.Common.{◌≡◌, subst}
 use Rattle.std.specs.Prelude.{Option, Some}
 use Rattle.run_words.specs.Betweens.{Between}
 use Rattle.run_words.specs.Commands.{Backup, WordTask}
-use Rattle.cmd_files.specs.Backups.{BackupLeft, BackupRan, IsBackup, backup_command}
+use Rattle.cmd_files.specs.Backups.{BackupLeft, BackupRan, backup_command}
 use Rattle.hotsync_run.specs.Calls.{Call, IsAnsweredCall, IsCall}
 use Rattle.call_parts.specs.Causes.{ByEnd, HasBegun}
-use Rattle.call_parts.specs.SessionCalls.{SentNothing}
+use Rattle.call_parts.specs.SessionCalls.{IsSessionCall, SentNothing}
 use Rattle.call_parts.specs.Told.{sides_of}
 use Rattle.hotsync_run.proofs.HeadlineLaws.{begun_by}
 use Rattle.call_parts.specs.declared.report.SessionEnd.{SessionEnd}
@@ -19,7 +19,7 @@ module _ (call : Call) (words : Between) (is : IsAnsweredCall call) (task : call
   abbrev Session : Type 0
   Session = BackupRan words call.before call.after call.status call.report
 
-  answered : IsBackup words call.before call.after call.out call.out_after call.status call.report
+  answered : IsSessionCall (backup_command words) call.before call.after call.out call.out_after call.status call.report
   answered = subst (λ (task : Option WordTask). IsCall task call.before call.after call.out call.out_after call.status call.report) task is
 
   pub backup_refused : call.report.end ≡ NotStarted → Silent

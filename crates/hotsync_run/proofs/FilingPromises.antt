@@ -6,8 +6,8 @@ use Rattle.run_words.specs.Commands.{Categories, WordTask}
 use Rattle.category_mirror.specs.Sides.{filing_of}
 use Rattle.hotsync_run.specs.Calls.{Call, IsAnsweredCall, IsCall}
 use Rattle.call_parts.specs.Causes.{ByEnd, HasBegun}
-use Rattle.cmd_session.specs.Filings.{CategoriesRan, EndedFiling, IsCategories, StoppedFiling, categories_command}
-use Rattle.call_parts.specs.SessionCalls.{SentNothing}
+use Rattle.cmd_session.specs.Filings.{CategoriesRan, EndedFiling, StoppedFiling, categories_command}
+use Rattle.call_parts.specs.SessionCalls.{IsSessionCall, SentNothing}
 use Rattle.hotsync_run.proofs.HeadlineLaws.{begun_by}
 use Rattle.call_parts.specs.declared.report.SessionEnd.{SessionEnd}
 use Rattle.call_parts.specs.declared.report.SessionEnd.TheVariants.{Ended, NotStarted, Stopped}
@@ -19,7 +19,7 @@ module _ (call : Call) (words : Between) (is : IsAnsweredCall call) (task : call
   abbrev Session : Type 0
   Session = CategoriesRan words call.before call.after call.status call.report
 
-  answered : IsCategories words call.before call.after call.out call.out_after call.status call.report
+  answered : IsSessionCall (categories_command words) call.before call.after call.out call.out_after call.status call.report
   answered = subst (λ (task : Option WordTask). IsCall task call.before call.after call.out call.out_after call.status call.report) task is
 
   pub filing_refused : call.report.end ≡ NotStarted → Silent

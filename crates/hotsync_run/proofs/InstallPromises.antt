@@ -10,10 +10,10 @@ use Rattle.cmd_files.specs.Besides.{StandsBeside}
 use Rattle.hotsync_run.specs.Calls.{Call, IsAnsweredCall, IsCall}
 use Rattle.call_parts.specs.Causes.{ByEnd, HasBegun}
 use Rattle.hotsync_run.specs.Clean.{GoesThrough}
-use Rattle.cmd_files.specs.Installs.{EndedInstall, InstallRan, IsInstall, install_command}
+use Rattle.cmd_files.specs.Installs.{EndedInstall, InstallRan, install_command}
 use Rattle.cmd_files.proofs.InstallLaws.{ended_install}
 use Rattle.hotsync_run.specs.Promises.{IsReadWhole, IsReadWholeOrSame}
-use Rattle.call_parts.specs.SessionCalls.{SentNothing}
+use Rattle.call_parts.specs.SessionCalls.{IsSessionCall, SentNothing}
 use Rattle.hotsync_run.proofs.CleanLaws.{spoke_through}
 use Rattle.hotsync_run.proofs.HeadlineLaws.{begun_by}
 use Rattle.hotsync_run.proofs.NextLaws.{read_whole, read_whole_or_same}
@@ -27,7 +27,7 @@ module _ (call : Call) (words : Between) (is : IsAnsweredCall call) (task : call
   abbrev Session : Type 0
   Session = InstallRan words call.before call.after call.status call.report
 
-  answered : IsInstall words call.before call.after call.out call.out_after call.status call.report
+  answered : IsSessionCall (install_command words) call.before call.after call.out call.out_after call.status call.report
   answered = subst (λ (task : Option WordTask). IsCall task call.before call.after call.out call.out_after call.status call.report) task is
 
   pub install_refused : call.report.end ≡ NotStarted → Silent

@@ -11,8 +11,8 @@ use Rattle.hotsync_run.specs.Calls.{Call, IsAnsweredCall, IsCall}
 use Rattle.call_parts.specs.Causes.{ByEnd, HasBegun}
 use Rattle.hotsync_run.specs.Promises.{IsReadWhole, IsReadWholeOrSame}
 use Rattle.cmd_files.specs.Loads.{EndedLoad}
-use Rattle.cmd_files.specs.Restores.{IsRestore, RestoreRan, restore_command}
-use Rattle.call_parts.specs.SessionCalls.{SentNothing}
+use Rattle.cmd_files.specs.Restores.{RestoreRan, restore_command}
+use Rattle.call_parts.specs.SessionCalls.{IsSessionCall, SentNothing}
 use Rattle.call_parts.specs.Stays.{StaysAsItWas}
 use Rattle.hotsync_run.proofs.HeadlineLaws.{begun_by}
 use Rattle.hotsync_run.proofs.NextLaws.{read_whole, read_whole_or_same}
@@ -26,7 +26,7 @@ module _ (call : Call) (words : Between) (is : IsAnsweredCall call) (task : call
   abbrev Session : Type 0
   Session = RestoreRan words call.before call.after call.status call.report
 
-  answered : IsRestore words call.before call.after call.out call.out_after call.status call.report
+  answered : IsSessionCall (restore_command words) call.before call.after call.out call.out_after call.status call.report
   answered = subst (λ (task : Option WordTask). IsCall task call.before call.after call.out call.out_after call.status call.report) task is
 
   pub restore_refused : call.report.end ≡ NotStarted → Silent

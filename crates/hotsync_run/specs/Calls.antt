@@ -6,16 +6,16 @@ use Rattle.run_words.specs.Faults.{Fault, fault_of}
 use Rattle.hotsync_looks.specs.Helped.{IsHelped}
 use Rattle.hotsync_looks.specs.Looks.{IsLook}
 use Rattle.hotsync_looks.specs.Misuses.{IsMisuse}
-use Rattle.cmd_files.specs.Backups.{IsBackup, backup_paths}
+use Rattle.cmd_files.specs.Backups.{backup_command}
 use Rattle.cmd_session.specs.DryRuns.{IsDryRun}
 use Rattle.cmd_files.specs.Emulations.{IsEmulation, emulation_paths}
-use Rattle.cmd_session.specs.Filings.{IsCategories, categories_paths}
-use Rattle.cmd_files.specs.Installs.{IsInstall, install_paths}
+use Rattle.cmd_session.specs.Filings.{categories_command}
+use Rattle.cmd_files.specs.Installs.{install_command, install_paths}
 use Rattle.cmd_session.specs.Makes.{IsMake}
 use Rattle.cmd_status.specs.Printed.{IsPrinted}
-use Rattle.cmd_files.specs.Restores.{IsRestore, restore_paths}
+use Rattle.cmd_files.specs.Restores.{restore_command}
 use Rattle.cmd_session.specs.Runs.{IsRun, run_paths}
-use Rattle.call_parts.specs.SessionCalls.{Paths}
+use Rattle.call_parts.specs.SessionCalls.{IsSessionCall, Paths, between_paths}
 use Rattle.hotsync_looks.specs.Scans.{IsScanned}
 use Rattle.cmd_status.specs.Told.{SinkTold}
 use Rattle.call_parts.specs.Told.{CallTold}
@@ -54,15 +54,15 @@ IsCall (Some (Scan bytes)) before after out out_after status report =
 IsCall (Some (Make seed count)) before after out out_after status report =
     IsMake seed count out out_after status report
 IsCall (Some (Install words)) before after out out_after status report =
-    IsInstall words before after out out_after status report
+    IsSessionCall (install_command words) before after out out_after status report
 IsCall (Some (Backup words)) before after out out_after status report =
-    IsBackup words before after out out_after status report
+    IsSessionCall (backup_command words) before after out out_after status report
 IsCall (Some (Restore words)) before after out out_after status report =
-    IsRestore words before after out out_after status report
+    IsSessionCall (restore_command words) before after out out_after status report
 IsCall (Some (Emulate capture)) before after out out_after status report =
     IsEmulation capture before after out out_after status report
 IsCall (Some (Categories words)) before after out out_after status report =
-    IsCategories words before after out out_after status report
+    IsSessionCall (categories_command words) before after out out_after status report
 IsCall (Some (Help topic)) before after out out_after status report =
     IsHelped topic out out_after status
 
@@ -110,9 +110,9 @@ abbrev pub paths_of : Option WordTask → Paths
 paths_of (Some (Sync run)) = run_paths run
 paths_of (Some (DryRun run)) = run_paths run
 paths_of (Some (Install words)) = install_paths words
-paths_of (Some (Backup words)) = backup_paths words
-paths_of (Some (Restore words)) = restore_paths words
+paths_of (Some (Backup words)) = between_paths words
+paths_of (Some (Restore words)) = between_paths words
 paths_of (Some (Emulate capture)) = emulation_paths capture
-paths_of (Some (Categories words)) = categories_paths words
+paths_of (Some (Categories words)) = between_paths words
 paths_of (Some (LookAt look file)) = record no_paths { source = Some file }
 paths_of _ = no_paths
