@@ -76,7 +76,7 @@ kind_line frames = record { fair = always_fair frames; goes_on = λ number. refl
 -- ---- a call
 
 -- where no object failed none is blamed
-none_blamed : {before after : CallTold} {out out_after : SinkTold} {status : Status} {IsText : List ℕ → Type 0} → BlamesByCount before after status
+pub none_blamed : {before after : CallTold} {out out_after : SinkTold} {status : Status} {IsText : List ℕ → Type 0} → BlamesByCount before after status
     → IsPrinted IsText out out_after status → NoneFailed before after out out_after → BlamesNone status
 none_blamed blames printed failed = record {
   source = λ e. failed.reading (blames.source e);

@@ -37,6 +37,8 @@ use Rattle.call_parts.specs.Stays.{StaysAsItWas}
 use Rattle.call_parts.specs.Told.{CallTold, FolderTold, folder_told}
 use Rattle.call_parts.specs.declared.report.Report.{Report}
 use Rattle.call_parts.proofs.RefusalLaws.{handheld_alone, trace_alone}
+use Rattle.call_parts.proofs.JudgedCalls.{IsSourceAlone}
+use Rattle.call_parts.proofs.WellLaws.{none_blamed}
 use Rattle.call_parts.proofs.UndisturbedLaws.{BlamesNone, failed_handheld, judged_handheld}
 use Rattle.folder_copies.proofs.CopyLaws.{rose_before}
 use Rattle.call_parts.proofs.RetoldCalls.{still_blames}
@@ -114,16 +116,7 @@ talk_unprinted end e = grind (arith, common_steps)
 -- ---- what is refused
 
 -- a refusal to open the captured bytes is no other one
-pub record IsSourceAlone (refusal : Status) : Type 0 where
-  pub handheld : refusal ≡ HandheldFolder → ⊥
-  pub desktop : refusal ≡ DesktopFolder → ⊥
-  pub handheld_in_use : refusal ≡ InUse line_end.Handheld → ⊥
-  pub desktop_in_use : refusal ≡ InUse line_end.Desktop → ⊥
-  pub trace : refusal ≡ TraceWrite → ⊥
-  pub done : refusal ≡ Done → ⊥
-  pub out : refusal ≡ OutWrite → ⊥
-
-pub source_alone : (refusal : Status) → IsSourceFailure refusal → IsSourceAlone refusal
+source_alone : (refusal : Status) → IsSourceFailure refusal → IsSourceAlone refusal
 source_alone refusal is = grind (arith, common_steps)
 
 -- what a refused call opened, and what it read
@@ -177,8 +170,8 @@ module _ (capture : Capture) (before after : CallTold) {report : Report} (is : I
         blames = record {
           source = failed;
           folders = record { handheld = λ e. absurd (alone.handheld e); desktop = λ e. absurd (alone.desktop e) };
-          handheld_in_use = λ e. absurd (alone.handheld_in_use e);
-          desktop_in_use = λ e. absurd (alone.desktop_in_use e);
+          handheld_in_use = λ e. absurd (alone.in_use line_end.Handheld e);
+          desktop_in_use = λ e. absurd (alone.in_use line_end.Desktop e);
           trace = λ e. absurd (alone.trace e);
         };
       }
@@ -377,16 +370,7 @@ pub emulation_decided : (capture : Capture) (before after : CallTold) (out out_a
     {IsText : List ℕ → Type 0} → MayEmulate capture before after status report → IsPrinted IsText out out_after status
     → IsCalmEmulation before after out out_after → (status ≡ NoMemory) ⊎ IsHeardOut status
 emulation_decided capture before after out out_after status report may printed calm =
-    let failed = calm.none_failed in
-    let blames : BlamesNone status = record {
-      source = λ e. failed.reading (may.blames.source e);
-      handheld = λ e. failed.handheld (may.blames.folders.handheld e);
-      desktop = λ e. failed.desktop (may.blames.folders.desktop e);
-      handheld_in_use = λ e. failed.handheld (may.blames.handheld_in_use e);
-      desktop_in_use = λ e. failed.desktop (may.blames.desktop_in_use e);
-      trace = λ e. failed.tracing (may.blames.trace e);
-      out = λ e. failed.printing (printed.failed e);
-    } in
+    let blames : BlamesNone status = none_blamed may.blames printed calm.none_failed in
     elim may.shown [
       | inl nothing ↦ (elim nothing.refused [
         | inl palm ↦ inl (failed_handheld blames (judged_handheld calm.handheld palm.refuses))
