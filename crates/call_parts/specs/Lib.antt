@@ -3,6 +3,7 @@ pub mod Clocks
 pub mod Closings
 pub mod DoneLines
 pub mod Files
+pub mod FreshLines
 pub mod Judges
 pub mod LineRuns
 pub mod OfCalls

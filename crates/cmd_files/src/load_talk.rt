@@ -1,26 +1,22 @@
 // The session that installs databases, of a file or of a folder of backups.
-ghost use Rattle.std.specs.Prelude.{◌≡◌, None, false, true};
+ghost use Rattle.std.specs.Prelude.{◌≡◌, true};
 ghost use Rattle.std.specs.List.{AllByRecursion};
 ghost use Rattle.handheld_files.specs.Openings.{AreKept, Stands, opened_device};
-ghost use Rattle.line_world.specs.Logs.{no_log};
 ghost use Rattle.palm_device.specs.Bounds.{IsBounded, IsBoundedDatabase};
-ghost use Rattle.palm_device.specs.Handles.{no_handles};
 ghost use Rattle.pdb_values.specs.NamedDatabases.{NamesRise};
 ghost use Rattle.call_parts.specs.OfCalls.{OfSides};
 ghost use Rattle.call_parts.specs.Causes.{IsUnsaid};
 ghost use Rattle.cmd_files.specs.Loads.{IsLoadTalk};
 
 use crate::moved::{Way, moves_told};
-use call_parts::{Answer, Closed, close_session};
+use call_parts::{Answer, Closed, close_session, line_to};
 use cmd_status::Status;
-use handheld_server::Server;
 use handheld_store::Store;
 use hs_folders::Folder;
 use install_backup::{Mark, MoveOutcome, install_session};
 use line_script::Script;
-use line_world::World;
 use pdb_values::Database;
-use std::alloc::{AllocError, Global};
+use std::alloc::Global;
 
 /// The session that installs databases in byte order of their names behind a mark, over a line that does with each frame what the
 /// script says. The other folder is handed back.
@@ -44,37 +40,10 @@ pub fn load_talk<H: Folder, D: Folder>(
     ensures unsaid { IsUnsaid result.status }
     ensures other { result.desk ≡ other }
 {
-    match World::new(alloc, Server::new(store), script) {
-        Ok(world) => load_over(alloc, world, other, mark, databases),
-        Err((AllocError, server)) => {
-            Answer::not_started(alloc, Status::NoMemory, server.into_folder(), other)
-        }
-    }
-}
-
-// The session over a line over which nothing was sent.
-fn load_over<H: Folder, D: Folder>(
-    alloc: Global,
-    world: World<H>,
-    other: D,
-    mark: Mark,
-    databases: &[Database],
-) -> Answer<H, D>
-    requires stands { Stands (H.contents world.server.folder) world.server.device.databases
-        world.server.device.user }
-    requires kept { AreKept world.server.device.databases }
-    requires proper { IsBounded world.server.device }
-    requires closed { world.server.device.handles ≡ no_handles }
-    requires order { NamesRise databases.now }
-    requires bounded { AllByRecursion IsBoundedDatabase databases.now }
-    requires silent { world.log ≡ no_log }
-    requires begun { world.begun ≡ false }
-    requires cause { world.cause ≡ None }
-    ensures talk { OfSides (IsLoadTalk world.script mark world.server.device databases.now)
-        H.Folder D.Folder world.server.folder other result }
-    ensures unsaid { IsUnsaid result.status }
-    ensures other { result.desk ≡ other }
-{
+    let world = match line_to(alloc, store, script) {
+        Ok(world) => world,
+        Err(device) => return Answer::not_started(alloc, Status::NoMemory, device, other),
+    };
     let outcome = install_session(alloc, world, mark, databases);
     let MoveOutcome {
         link,
