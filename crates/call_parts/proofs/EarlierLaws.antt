@@ -1,5 +1,5 @@
 -- What is known of a session, told from an earlier time on.
-use Rattle.std.proofs.Common.{◌-◌, List, subst}
+use Rattle.std.proofs.Common.{List, subst}
 use Rattle.std.specs.Prelude.{Option}
 use Rattle.hs_folders.specs.FileMaps.{FileMap}
 use Rattle.hs_folders.specs.Moments.{EachMomentSince, Moments}

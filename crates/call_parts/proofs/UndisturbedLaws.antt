@@ -1,6 +1,6 @@
 -- Good objects refuse nothing, and a kind line goes on.
 use Rattle.std.proofs.lemmas.Grind.{common_steps}
-use Rattle.std.proofs.Common.{◌≡◌, ◌⊎◌, ◌∙◌, ◌+◌, ◌-◌, ℕ, List, [], ◌∷◌, ◌++◌, inl, inr, refl, subst, arith, Ok, Err, zero, suc, true, false}
+use Rattle.std.proofs.Common.{◌≡◌, ◌⊎◌, ◌∙◌, ◌+◌, ℕ, List, [], ◌∷◌, ◌++◌, inl, inr, refl, subst, arith, Ok, Err, zero, suc, true, false}
 use Rattle.std.specs.Prelude.{IfSome, None, Option, Some, IsSome, string_bytes}
 use Rattle.hs_folders.specs.FileMaps.{FileMap}
 use Rattle.desk_journal.specs.Overlays.{finished}
@@ -21,7 +21,7 @@ use Rattle.call_parts.specs.Refusals.{DesktopRefuses, HandheldRefuses, IsDesktop
 use Rattle.call_parts.specs.Scripts.{IsScript, IsScriptRefusal, ScriptRefuses, ScriptShows}
 use Rattle.call_parts.specs.Undisturbed.{IsGoodDesktop, IsGoodHandheld, IsGoodScript}
 use Rattle.call_parts.specs.declared.report.SessionEnd.{SessionEnd}
-use Rattle.cmd_status.specs.declared.status.Status.TheVariants.{BadScript, TooLong, HandheldFolder, DesktopFolder, SourceRead, TraceWrite, OutWrite, NoMemory, Unplugged, Aborted, InUse}
+use Rattle.cmd_status.specs.declared.status.Status.TheVariants.{BadScript, TooLong, HandheldFolder, DesktopFolder, SourceRead, TraceWrite, OutWrite, NoMemory, InUse}
 use Rattle.handheld_files.specs.Openings as handheld
 use Rattle.handheld_files.specs.declared.fault.OpenFault.TheVariants as opening
 use Rattle.line_script.specs.declared.fault.ScriptFault.TheVariants as script

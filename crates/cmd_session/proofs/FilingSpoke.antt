@@ -1,5 +1,5 @@
 -- What is known of a session that brings categories together, by what its call answered, and whatever is written of it.
-use Rattle.std.proofs.Common.{◌≡◌, ◌⊎◌, ◌∙◌, ap, arith, inl, inr, refl, subst, sym, ℕ, List, [], ◌∷◌, ◌++◌, length}
+use Rattle.std.proofs.Common.{◌≡◌, ◌⊎◌, ◌∙◌, ap, arith, inl, inr, refl, subst, sym, ℕ, List, [], ◌∷◌, length}
 use Rattle.std.proofs.lemmas.List.{append-nil}
 use Rattle.std.specs.Prelude.{IfOk, IsErr, OnErr, Option, None, Some, Result, Ok, Err, filter}
 use Rattle.std.specs.Global.{Vec}

@@ -1,5 +1,5 @@
 -- What is promised of a dry run.
-use Rattle.std.proofs.Common.{◌≡◌, ◌-◌, ℕ, inl, inr, refl, subst}
+use Rattle.std.proofs.Common.{◌≡◌, ℕ, inl, inr, refl, subst}
 use Rattle.std.specs.Prelude.{IfSome, Option, Some}
 use Rattle.hs_folders.specs.Causes.{Rose}
 use Rattle.hs_folders.specs.FileMaps.{FileMap}

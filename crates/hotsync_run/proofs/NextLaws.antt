@@ -1,6 +1,6 @@
 -- The run behind an install or a restore.
 use Rattle.std.proofs.Common.{◌≡◌, ◌∙◌, ◌<◌, ap, arith, inl, inr, subst, sym, false, List, ℕ}
-use Rattle.std.specs.Prelude.{◌&&◌, ◌⊎◌, Option, is_some, not}
+use Rattle.std.specs.Prelude.{◌&&◌, Option, is_some, not}
 use Rattle.std.specs.Option.{option_map}
 use Rattle.hs_folders.specs.FileMaps.{FileMap}
 use Rattle.pdb_values.specs.Databases.{DatabaseValue}
@@ -18,7 +18,7 @@ use Rattle.session_plan.specs.Tasks.{Meeting, Task, slot_of}
 use Rattle.install_backup.specs.declared.mark.Mark.{Mark}
 use Rattle.install_backup.specs.declared.mark.Mark.TheVariants.{Unchanged}
 use Rattle.folder_files.specs.Partings.{is_parted}
-use Rattle.install_backup.specs.InstallFronts.{IsAsItWas, IsMarkedFirst}
+use Rattle.install_backup.specs.InstallFronts.{IsMarkedFirst}
 use Rattle.install_backup.specs.Marks.{marked_user}
 use Rattle.install_backup.proofs.MarkLaws.{marked_apart}
 use Rattle.hotsync_run.specs.Calls.{Call}

@@ -1,5 +1,5 @@
 -- Whether a limit would be passed depends on both sides and on what is asked, not on the date.
-use Rattle.std.proofs.Common.{arith, ◌≡◌, refl, ℕ, Bool, false, List, [], ◌∷◌, length}
+use Rattle.std.proofs.Common.{arith, ◌≡◌, refl, ℕ, Bool, List, [], ◌∷◌, length}
 use Rattle.std.specs.Global.{Vec}
 use Rattle.pdb_values.specs.declared.user.UserInfo.{UserInfo}
 use Rattle.palm_device.specs.Handles.{no_handles}
