@@ -1,7 +1,7 @@
 -- The command of a form, made argument by argument.
 use Rattle.std.proofs.Common.{◌≡◌, ◌+◌, ◌<◌, ℕ, List, [], ◌∷◌, ◌++◌, map, drop, get_or, length, append-nil, append_assoc, refl, sym, ap, ◌∙◌, add-one, drop-cons}
 use Rattle.clap.specs.Words.{App, Rule, with_rule}
-use Rattle.run_clap.specs.Apps.{empty_app, flag_rule, form_app, form_rules, option_rule, plain_rule, with_rules}
+use Rattle.run_clap.specs.Apps.{empty_app, form_app, form_rules, option_rule, plain_rule, with_rules}
 use Rattle.run_words.specs.Forms.{WordFormValue}
 
 pub with_rules-append : (app : App) (xs ys : List Rule) → with_rules app (xs ++ ys) ≡ with_rules (with_rules app xs) ys
@@ -24,16 +24,14 @@ pub form_app-is : (form : WordFormValue) → form_app form ≡ app_with (form_ru
 unfolding form_app
 form_app-is form = with_rules-are empty_app (form_rules form)
 
--- the command of a form, made in three steps
-pub form_app-made : (form : WordFormValue) (empty plain named whole : App) → empty ≡ empty_app → plain ≡ with_rules empty (map plain_rule form.plain)
-    → named ≡ with_rules plain (map option_rule form.options) → whole ≡ with_rules named (map flag_rule form.flags) → whole ≡ form_app form
+-- the command of a form, made in two steps
+pub form_app-made : (form : WordFormValue) (empty plain whole : App) → empty ≡ empty_app → plain ≡ with_rules empty (map plain_rule form.plain)
+    → whole ≡ with_rules plain (map option_rule form.options) → whole ≡ form_app form
 unfolding form_app
-form_app-made form empty plain named whole a b c d =
+form_app-made form empty plain whole a b c =
     let options = map option_rule form.options in
-    let flags = map flag_rule form.flags in
-    d ∙ ap (λ (app : App). with_rules app flags) c ∙ sym (with_rules-append plain options flags)
-    ∙ ap (λ (app : App). with_rules app (options ++ flags)) (b ∙ ap (λ (app : App). with_rules app (map plain_rule form.plain)) a)
-    ∙ sym (with_rules-append empty_app (map plain_rule form.plain) (options ++ flags))
+    c ∙ ap (λ (app : App). with_rules app options) (b ∙ ap (λ (app : App). with_rules app (map plain_rule form.plain)) a)
+    ∙ sym (with_rules-append empty_app (map plain_rule form.plain) options)
 
 -- one argument more: with those that are left it is the same command
 pub one_more : {A B : Type 0} (rule : B → Rule) (view : A → B) (xs : List A) (place : ℕ) (none : A) (app next : App) {made : Rule} → place < length xs

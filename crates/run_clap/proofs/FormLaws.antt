@@ -1,6 +1,6 @@
 -- Words of a form are taken by `clap`, whose matches have what they hold: for all forms whose names differ.
-use Rattle.std.proofs.Common.{◌≡◌, inl, inr, ◌<◌, ◌≤◌, ℕ, zero, suc, Bool, true, false, List, [], ◌∷◌, ◌++◌, ◌||◌, subst, cond, length, append_assoc, append-nil}
-use Rattle.std.proofs.Common.{map, refl, sym, ap, ◌∙◌, codes, arith, Option, Some, None, option_map}
+use Rattle.std.proofs.Common.{◌≡◌, inl, inr, ◌<◌, ◌≤◌, ℕ, zero, suc, Bool, true, false, List, [], ◌∷◌, ◌++◌, subst, cond, length, append_assoc, append-nil}
+use Rattle.std.proofs.Common.{map, refl, sym, ap, ◌∙◌, arith, Option, Some, None, option_map}
 use Rattle.std.proofs.lemmas.Bool.{and_parts}
 use Rattle.std.proofs.lemmas.List.{length-append, map-append}
 use Rattle.std.proofs.lemmas.List.Elements.{filter-append}
@@ -8,15 +8,15 @@ use Rattle.std.specs.Option.{option_or}
 use Rattle.std.proofs.lemmas.List.Folds.{list_all-append}
 use Rattle.std.specs.Prelude.{find, fold, is_some, slice_get}
 use Rattle.std.specs.Str.{bytes_eq}
-use Rattle.std.specs.List.{filter, list_all, list_any}
+use Rattle.std.specs.List.{filter, list_all}
 use Rattle.clap.specs.Walk.{Held, Row, Rule, has_row, nothing_held, walked}
 use Rattle.clap.specs.Takes.{walk_passes}
-use Rattle.run_words.specs.Forms.{WordFormValue, NamedOption, flag_count, has_flag, is_flag, is_option, is_word, option_count, plain_at, plain_words, value_in, value_of}
+use Rattle.run_words.specs.Forms.{WordFormValue, NamedOption, is_word, plain_at, plain_words, said_in, said_of, use_count}
 use Rattle.run_words.specs.Words.{is_plain}
-use Rattle.run_clap.proofs.Lists.{IsIn, Text, disjoint_in}
-use Rattle.run_clap.proofs.RuleLaws.{at_place, by_flag, by_id, by_option, names_of, rules_of}
-use Rattle.run_clap.proofs.UseLaws.{IsWord, Proper, id_at, place_after, place_after-is, place_after-more, next_place, at_id, name_in, use-long, use-plain, used, used_flag, used_option, used_plain, use_of, uses, uses-more, word_is}
-use Rattle.run_clap.proofs.WalkLaws.{Fits, Turns, at, flag_turns, option_turns, plain_turns, row, shape_of}
+use Rattle.run_clap.proofs.Lists.{IsIn, Text}
+use Rattle.run_clap.proofs.RuleLaws.{at_place, by_id, by_option, rules_of}
+use Rattle.run_clap.proofs.UseLaws.{IsWord, Proper, id_at, place_after, place_after-is, place_after-more, next_place, at_id, use-long, use-plain, used, used_plain, used_said, said_more, said_none, use_of, uses, uses-more, word_is}
+use Rattle.run_clap.proofs.WalkLaws.{Fits, Turns, at, long_turns, plain_turns, row, shape_of}
 
 -- ---- rows and uses
 
@@ -45,11 +45,6 @@ some_row (Some u) = refl
 pub has_use : (id : Text) (us : List (Text × Text)) → has_row id (map row us) ≡ is_some (used id us)
 has_use id us = has_row-find id (map row us) ∙ ap is_some (row_used id us) ∙ some_row (find (λ (u : Text × Text). bytes_eq u.0 id) us)
 
-not_among : (options : List NamedOption) (name : Text) → ((option : NamedOption) → IsIn option options → bytes_eq option.name name ≡ false)
-    → list_any (λ (option : NamedOption). bytes_eq option.name name) options ≡ false
-not_among [] name h = refl
-not_among (option ∷ options) name h = let first = h option (inl refl) in rw first (not_among options name (λ o i. h o (inr i)))
-
 -- ---- how often a word stands
 
 -- one that stands here stood not before, where it stands at most once
@@ -68,33 +63,33 @@ no_value : (o : Option Text) → is_some o ≡ false → o ≡ None
 no_value None e = refl
 no_value (Some v) e = cc
 
-none_of : (name : Text) (words : List Text) → option_count name words ≡ 0 → value_of name words ≡ None
-none_of name [] e = refl
-none_of name (word ∷ words) e =
-    let parts = no_more (is_option name word) word (filter (is_option name) words) e in
-    ap (λ o. option_or o (value_of name words)) (no_value (value_in name word) parts.0) ∙ none_of name words parts.1
+-- a word that says something of an option
+abbrev says : NamedOption → Text → Bool
+says option word = is_some (said_in option word)
+
+none_of : (option : NamedOption) (words : List Text) → use_count option words ≡ 0 → said_of words option ≡ None
+none_of option [] e = said_none option.kind option.name
+none_of option (word ∷ words) e =
+    let parts = no_more (says option word) word (filter (says option) words) e in
+    sym (said_more option.kind option.name word words) ∙ ap (λ o. option_or o (said_of words option)) (no_value (said_in option word) parts.0)
+    ∙ none_of option words parts.1
 
 one_of_some : (o : Option Text) (word : Text) (words : List Text) (rest : Option Text) → 1 ≤ length (cond (is_some o) (word ∷ words) words)
     → (1 ≤ length words → is_some rest ≡ true) → is_some (option_or o rest) ≡ true
 one_of_some None word words rest le h = h le
 one_of_some (Some v) word words rest le h = refl
 
-pub some_of : (name : Text) (words : List Text) → 1 ≤ option_count name words → is_some (value_of name words) ≡ true
-some_of name [] le = absurd (omega arith)
-some_of name (word ∷ words) le = one_of_some (value_in name word) word (filter (is_option name) words) (value_of name words) le (some_of name words)
-
-no_flag : (name : Text) (words : List Text) → flag_count name words ≡ 0 → has_flag name words ≡ false
-no_flag name [] e = refl
-no_flag name (word ∷ words) e =
-    let parts = no_more (is_flag name word) word (filter (is_flag name) words) e in
-    ap (λ b. b || has_flag name words) parts.0 ∙ no_flag name words parts.1
+pub some_of : (option : NamedOption) (words : List Text) → 1 ≤ use_count option words → is_some (said_of words option) ≡ true
+some_of option [] le = absurd (omega arith)
+some_of option (word ∷ words) le =
+    ap is_some (sym (said_more option.kind option.name word words))
+    ∙ one_of_some (said_in option word) word (filter (says option) words) (said_of words option) le (some_of option words)
 
 -- what is counted of words of a form
 pub record Counted (form : WordFormValue) (words : List Text) : Type 0 where
   pub all : list_all (is_word form) words ≡ true
   pub plain : length (plain_words words) ≤ length form.plain
-  pub options : (option : NamedOption) → IsIn option form.options → option_count option.name words ≤ 1
-  pub flags : (flag : Text) → IsIn flag form.flags → flag_count flag words ≤ 1
+  pub options : (option : NamedOption) → IsIn option form.options → use_count option words ≤ 1
 
 part_counted : (form : WordFormValue) (seen words : List Text) → Counted form (seen ++ words) → Counted form seen
 part_counted form seen words c = record {
@@ -105,11 +100,7 @@ part_counted form seen words c = record {
       omega arith;
   options = λ option i.
       let le = c.options option i in
-      let whole = ap length (filter-append (is_option option.name) seen words) ∙ length-append (filter (is_option option.name) seen) (filter (is_option option.name) words) in
-      omega arith;
-  flags = λ flag i.
-      let le = c.flags flag i in
-      let whole = ap length (filter-append (is_flag flag) seen words) ∙ length-append (filter (is_flag flag) seen) (filter (is_flag flag) words) in
+      let whole = ap length (filter-append (says option) seen words) ∙ length-append (filter (says option) seen) (filter (says option) words) in
       omega arith;
 }
 
@@ -162,31 +153,17 @@ module _ (form : WordFormValue) (proper : Proper form) where
       let used_so = subst (λ u. Turns rules word (suc k) (suc (suc k)) (rows_after seen ++ row u ∷ []) h) (sym (use-plain form proper k p)) same in
       let placed = subst (λ n. Turns rules word (suc k) (suc n) (rows_after seen ++ row (use_of form.plain k word) ∷ []) h) (sym (ap (λ b. cond b (suc k) k) p.plain)) used_so in
       subst (λ rows. Turns rules word (suc k) (suc (next_place k word)) rows h) (rows-more seen word) placed
-  word_turns seen word rest h (inr (inl o)) c f =
+  word_turns seen word rest h (inr o) c f =
       let k = place_after 0 seen in
-      let name = o.option.name in
+      let option = o.option in
       let before = part_counted form seen (word ∷ rest) c in
       let le = before.plain in
-      let stands : is_option name word ≡ true = ap is_some o.gives in
-      let none : has_row name (rows_after seen) ≡ false = has_use name (uses form.plain 0 seen)
-      ∙ ap is_some (used_option form proper o.option o.among 0 seen before.all (omega arith)
-      ∙ none_of name seen (stood_not (is_option name) seen word rest (c.options o.option o.among) stands)) in
-      let turned = option_turns rules o.option o.value word (suc k) (rows_after seen) h (by_option form o.option proper.options o.among) o.long f none in
+      let none : has_row option.name (rows_after seen) ≡ false = has_use option.name (uses form.plain 0 seen)
+      ∙ ap is_some (used_said form proper option o.among 0 seen before.all (omega arith)
+      ∙ none_of option seen (stood_not (says option) seen word rest (c.options option o.among) (ap is_some o.says))) in
+      let turned = long_turns rules option.kind option.name o.text word (suc k) (rows_after seen) h (by_option form option proper.options o.among) o.long f none in
       let used_so = subst (λ u. Turns rules word (suc k) (suc k) (rows_after seen ++ row u ∷ []) h) (sym (use-long form proper k word o.other o.long)) turned in
       let placed = subst (λ n. Turns rules word (suc k) (suc n) (rows_after seen ++ row (use_of form.plain k word) ∷ []) h) (sym (ap (λ b. cond b (suc k) k) o.other)) used_so in
-      subst (λ rows. Turns rules word (suc k) (suc (next_place k word)) rows h) (rows-more seen word) placed
-  word_turns seen word rest h (inr (inr g)) c f =
-      let k = place_after 0 seen in
-      let before = part_counted form seen (word ∷ rest) c in
-      let le = before.plain in
-      let apart_names = not_among form.options g.flag (λ option i. disjoint_in (names_of form.options) form.flags option.name g.flag proper.options_flags
-      (name_in form proper option i) g.among) in
-      let none : has_row g.flag (rows_after seen) ≡ false = has_use g.flag (uses form.plain 0 seen)
-      ∙ ap is_some (used_flag form proper g.flag g.among 0 seen before.all (omega arith)
-      ∙ ap (λ b. cond b (Some (codes "true")) None) (no_flag g.flag seen (stood_not (is_flag g.flag) seen word rest (c.flags g.flag g.among) g.is))) in
-      let turned = flag_turns rules g.flag word (suc k) (rows_after seen) h (by_flag form g.flag proper.flags apart_names g.among) g.long f none in
-      let used_so = subst (λ u. Turns rules word (suc k) (suc k) (rows_after seen ++ row u ∷ []) h) (sym (use-long form proper k word g.other g.long)) turned in
-      let placed = subst (λ n. Turns rules word (suc k) (suc n) (rows_after seen ++ row (use_of form.plain k word) ∷ []) h) (sym (ap (λ b. cond b (suc k) k) g.other)) used_so in
       subst (λ rows. Turns rules word (suc k) (suc (next_place k word)) rows h) (rows-more seen word) placed
 
   pub record Ends (place : ℕ) (seen words : List Text) (h : Held) : Type 0 where

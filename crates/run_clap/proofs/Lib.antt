@@ -1,5 +1,5 @@
 pub mod AppLaws
-pub mod CommandLaws
+pub mod AskLaws
 pub mod EndLaws
 pub mod FormLaws
 pub mod Lists

@@ -1,10 +1,12 @@
 -- Lists of names.
 use Rattle.std.proofs.Common.{◌≡◌, ◌⊎◌, inl, inr, ◌<◌, ℕ, zero, suc, Bool, true, false, List, [], ◌∷◌, length, map, refl, sym, ap, ◌∙◌, arith}
-use Rattle.std.proofs.Common.{Some}
-use Rattle.std.specs.Prelude.{not, bytes_eq, slice_get, ◌&&◌, ◌||◌}
-use Rattle.std.specs.List.{list_all, list_any}
+use Rattle.std.proofs.Common.{Option, Some, cond}
+use Rattle.std.specs.Prelude.{not, bytes_eq, slice_get, ◌||◌}
+use Rattle.std.specs.List.{find, list_all, list_any}
 use Rattle.std.proofs.lemmas.Bool.{and_parts, or_parts}
 use Rattle.std.proofs.lemmas.Slice.Eq.{bytes_eq-Decides}
+use Rattle.run_words.specs.Forms.{NamedOption}
+use Rattle.run_clap.specs.Propers.{apart, disjoint, names_of}
 
 abbrev pub Text : Type 0
 Text = List ℕ
@@ -13,15 +15,6 @@ Text = List ℕ
 abbrev pub IsIn : {X : Type 0} → X → List X → Type 0
 IsIn x [] = ⊥
 IsIn x (y ∷ ys) = (y ≡ x) ⊎ IsIn x ys
-
--- no two names are the same
-abbrev pub apart : List Text → Bool
-apart [] = true
-apart (x ∷ xs) = not (list_any (bytes_eq x) xs) && apart xs
-
--- none of the names is one of the others
-abbrev pub disjoint : List Text → List Text → Bool
-disjoint xs ys = list_all (λ x. not (list_any (bytes_eq x) ys)) xs
 
 pub not_true : (b : Bool) → not b ≡ true → b ≡ false
 not_true b e = grind arith
@@ -91,3 +84,27 @@ each_passes p (y ∷ xs) x e i =
 pub all_pass : {X : Type 0} (p : X → Bool) (xs : List X) → ((x : X) → IsIn x xs → p x ≡ true) → list_all p xs ≡ true
 all_pass p [] h = refl
 all_pass p (x ∷ xs) h = let first = h x (inl refl) in rw first (all_pass p xs (λ y i. h y (inr i)))
+
+-- what is found is one of the list
+first_found : {X : Type 0} (b : Bool) (y : X) (ys : List X) (o : Option X) {x : X} → cond b (Some y) o ≡ Some x → (o ≡ Some x → IsIn x ys) → IsIn x (y ∷ ys)
+first_found true y ys o e rest = inl cc
+first_found false y ys o e rest = inr (rest e)
+
+pub found_in : {X : Type 0} (p : X → Bool) (xs : List X) {x : X} → find p xs ≡ Some x → IsIn x xs
+found_in p [] e = cc
+found_in p (y ∷ ys) e = first_found (p y) y ys (find p ys) e (found_in p ys)
+
+-- options of one name are one
+pub same_option : (options : List NamedOption) (a b : NamedOption) → apart (names_of options) ≡ true → IsIn a options → IsIn b options → bytes_eq a.name b.name ≡ true
+    → a ≡ b
+same_option [] a b differ i j e = absurd i
+same_option (x ∷ options) a b differ (inl p) (inl q) e = sym p ∙ q
+same_option (x ∷ options) a b differ (inl p) (inr j) e =
+    let no : bytes_eq x.name b.name ≡ false = differs_in x.name (names_of options) b.name (apart_first x.name (names_of options) differ).0 (in-map (λ (o : NamedOption). o.name) options b j) in
+    let yes : bytes_eq x.name b.name ≡ true = ap (λ (o : NamedOption). bytes_eq o.name b.name) p ∙ e in
+    cc
+same_option (x ∷ options) a b differ (inr i) (inl q) e =
+    let no : bytes_eq x.name a.name ≡ false = differs_in x.name (names_of options) a.name (apart_first x.name (names_of options) differ).0 (in-map (λ (o : NamedOption). o.name) options a i) in
+    let yes : bytes_eq x.name a.name ≡ true = ap (λ (o : NamedOption). bytes_eq o.name a.name) q ∙ ap (bytes_eq b.name) (same_is a.name b.name e) ∙ same_text b.name in
+    cc
+same_option (x ∷ options) a b differ (inr i) (inr j) e = same_option options a b (apart_first x.name (names_of options) differ).1 i j e

@@ -4,33 +4,48 @@ use Rattle.std.proofs.Common.{◌≡◌, ◌⊎◌, inl, inr, ◌<◌, ◌≤◌
 use Rattle.std.proofs.Common.{Option, Some, None}
 use Rattle.std.proofs.lemmas.Bool.{and_parts, or_parts}
 use Rattle.std.proofs.lemmas.Bool.Decides.{nat_tests}
-use Rattle.std.specs.Prelude.{bytes_eq, slice_get, not, ◌&&◌, ◌||◌, option_map, unwrap_or}
+use Rattle.std.specs.Prelude.{bytes_eq, nat_lt, slice_get, not, ◌||◌, option_map, unwrap_or}
 use Rattle.std.specs.Option.{option_map_or, option_or}
 use Rattle.std.specs.List.{find, list_all, list_any}
 use Rattle.clap.specs.Lexer.{long_of}
 use Rattle.clap.proofs.CutLemmas.{Lacks}
 use Rattle.clap.proofs.LexerLemmas.{name_and_value-at, name_and_value-without}
-use Rattle.run_words.specs.Forms.{WordFormValue, NamedOption, has_flag, has_value, is_flag, is_word, plain_at, plain_words, value_in, value_of}
+use Rattle.run_words.specs.Forms.{WordFormValue, NamedOption, flag_said, has_flag, is_flag, is_use, is_word, plain_at, plain_words, said_by, said_in, said_kind, said_of, value_in}
+use Rattle.run_words.specs.Forms.{OptionKind, Needed, Allowed, Flag}
 use Rattle.run_words.specs.Words.{is_plain}
 use Rattle.run_words.proofs.WordLaws.{after-is}
-use Rattle.run_clap.proofs.Lists.{IsIn, Text, apart, apart_first, differs_at, disjoint, disjoint_in, each_passes, in-map, in_at, not_true, passing, same_is, same_text, some_at}
-use Rattle.run_clap.proofs.RuleLaws.{names_of}
-
--- a name is not empty and has no `=`
-abbrev pub is_name : Text → Bool
-is_name name = not (length name == 0) && not (list_any (λ byte. byte == 61) name)
+use Rattle.run_clap.specs.Propers.{apart, disjoint, is_name, is_proper, names_of}
+use Rattle.run_clap.proofs.RuleLaws.{seen_of}
+use Rattle.run_clap.proofs.Lists.{IsIn, Text, apart_first, differs_at, disjoint_in, each_passes, in-map, in_at, not_true, passing, same_is, same_option, same_text, some_at}
 
 -- the names of a form differ, can be told in a word, and its plain words can be counted
 pub record Proper (form : WordFormValue) : Type 0 where
+  pub some : 0 < length form.plain
   pub few : length form.plain < 18446744073709551615
   pub plain : apart form.plain ≡ true
   pub options : apart (names_of form.options) ≡ true
-  pub flags : apart form.flags ≡ true
   pub plain_options : disjoint form.plain (names_of form.options) ≡ true
-  pub plain_flags : disjoint form.plain form.flags ≡ true
-  pub options_flags : disjoint (names_of form.options) form.flags ≡ true
   pub option_names : list_all is_name (names_of form.options) ≡ true
-  pub flag_names : list_all is_name form.flags ≡ true
+
+lt_of : (m n : ℕ) → nat_lt m n ≡ true → m < n
+lt_of m n e = grind (arith, nat_tests)
+
+pub proper_of : (form : WordFormValue) → is_proper form ≡ true → Proper form
+proper_of form e =
+    let some = and_parts (nat_lt 0 (length form.plain)) _ e in
+    let few = and_parts (nat_lt (length form.plain) 1000) _ some.1 in
+    let plain = and_parts (apart form.plain) _ few.1 in
+    let options = and_parts (apart (names_of form.options)) _ plain.1 in
+    let plain_options = and_parts (disjoint form.plain (names_of form.options)) _ options.1 in
+    let below = lt_of (length form.plain) 1000 few.0 in
+    record {
+      some = lt_of 0 (length form.plain) some.0;
+      few = omega arith;
+      plain = plain.0;
+      options = options.0;
+      plain_options = plain_options.0;
+      option_names = plain_options.1;
+    }
 
 lacks : (name : Text) → list_any (λ byte. byte == 61) name ≡ false → Lacks 61 name
 lacks [] e i lt = absurd (omega arith)
@@ -61,42 +76,50 @@ is_flag-long name word good e = ap long_of (same_is word (45 ∷ 45 ∷ name) e)
 abbrev pub long_name : Option (Text × Option Text) → Text
 long_name o = option_map_or (λ p. p.0) o []
 
-abbrev long_gives : Option (Text × Option Text) → Option Text
-long_gives None = None
-long_gives (Some p) = p.1
+flag_stands : (b : Bool) {text : Text} → flag_said b ≡ Some text → (b ≡ true) × (codes "true" ≡ text)
+flag_stands true e = (refl, cc)
+flag_stands false e = cc
 
--- a word of one name gives no other a value, nor is it another flag
-pub other_value : (name word : Text) {other : Text} {given : Option Text} → is_name name ≡ true → long_of word ≡ Some (other, given) → bytes_eq other name ≡ false
-    → value_in name word ≡ None
-other_value name word {other} {given} good long apart_names = go (value_in name word) refl
+-- what `clap` sees in a word that says something of an option
+said_by-long : (kind : OptionKind) (name word : Text) {text : Text} → is_name name ≡ true → said_by kind name word ≡ Some text
+    → long_of word ≡ Some (name, seen_of kind text)
+said_by-long Needed name word good e = value_in-long name word good e
+said_by-long Allowed name word good e = value_in-long name word good e
+said_by-long Flag name word good e = is_flag-long name word good (flag_stands (is_flag name word) e).0
+
+said_by-text : (kind : OptionKind) (name word : Text) {text : Text} → said_by kind name word ≡ Some text → unwrap_or (seen_of kind text) (codes "true") ≡ text
+said_by-text Needed name word e = refl
+said_by-text Allowed name word e = refl
+said_by-text Flag name word e = (flag_stands (is_flag name word) e).1
+
+-- a word of one name says nothing of another
+other_said : (kind : OptionKind) (name word : Text) {other : Text} {seen : Option Text} → is_name name ≡ true → long_of word ≡ Some (other, seen)
+    → bytes_eq other name ≡ false → said_by kind name word ≡ None
+other_said kind name word {other} {seen} good long apart_names = go (said_by kind name word) refl
   where
-    go : (o : Option Text) → value_in name word ≡ o → o ≡ None
+    go : (o : Option Text) → said_by kind name word ≡ o → o ≡ None
     go None e = refl
-    go (Some value) e =
-        let same : other ≡ name = ap long_name (sym long ∙ value_in-long name word good e) in
+    go (Some text) e =
+        let same : other ≡ name = ap long_name (sym long ∙ said_by-long kind name word good e) in
         let here = same_text name in
         let none : bytes_eq name name ≡ false = ap (λ n. bytes_eq n name) (sym same) ∙ apart_names in
         cc
 
-pub other_flag : (name word : Text) {other : Text} {given : Option Text} → is_name name ≡ true → long_of word ≡ Some (other, given) → bytes_eq other name ≡ false
-    → is_flag name word ≡ false
-other_flag name word {other} good long apart_names = go (is_flag name word) refl
+-- what one word more says
+pub said_more : (kind : OptionKind) (name word : Text) (words : List Text)
+    → option_or (said_by kind name word) (said_kind kind name words) ≡ said_kind kind name (word ∷ words)
+said_more Needed name word words = refl
+said_more Allowed name word words = refl
+said_more Flag name word words = either (is_flag name word) (has_flag name words)
   where
-    go : (b : Bool) → is_flag name word ≡ b → b ≡ false
-    go false e = refl
-    go true e =
-        let same : other ≡ name = ap long_name (sym long ∙ is_flag-long name word good e) in
-        let here = same_text name in
-        let none : bytes_eq name name ≡ false = ap (λ n. bytes_eq n name) (sym same) ∙ apart_names in
-        cc
+    either : (a b : Bool) → option_or (flag_said a) (flag_said b) ≡ flag_said (a || b)
+    either true b = refl
+    either false b = refl
 
--- a flag gives no value
-pub flag_value : (name word : Text) {other : Text} → is_name name ≡ true → long_of word ≡ Some (other, None) → value_in name word ≡ None
-flag_value name word {other} good long = go (value_in name word) refl
-  where
-    go : (o : Option Text) → value_in name word ≡ o → o ≡ None
-    go None e = refl
-    go (Some value) e = let gives = ap long_gives (sym long ∙ value_in-long name word good e) in cc
+pub said_none : (kind : OptionKind) (name : Text) → said_kind kind name [] ≡ None
+said_none Needed name = refl
+said_none Allowed name = refl
+said_none Flag name = refl
 
 pub record IsPlain (word : Text) : Type 0 where
   pub first : ℕ
@@ -115,25 +138,24 @@ plain_value name {word} p = let apart_byte = p.no_dash in ap (value_in name) p.i
 plain_flag : (name : Text) {word : Text} → IsPlain word → is_flag name word ≡ false
 plain_flag name {word} p = let apart_byte = p.no_dash in ap (is_flag name) p.is ∙ rw apart_byte refl
 
+plain_said : (kind : OptionKind) (name : Text) {word : Text} → IsPlain word → said_by kind name word ≡ None
+plain_said Needed name p = plain_value name p
+plain_said Allowed name p = plain_value name p
+plain_said Flag name p = ap flag_said (plain_flag name p)
+
 -- ---- what a word of a form is
 
-pub record IsOptionOf (form : WordFormValue) (word : Text) : Type 0 where
+pub record IsUseOf (form : WordFormValue) (word : Text) : Type 0 where
   pub option : NamedOption
-  pub value : Text
+  pub text : Text
   pub among : IsIn option form.options
-  pub gives : value_in option.name word ≡ Some value
-  pub long : long_of word ≡ Some (option.name, Some value)
-  pub other : is_plain word ≡ false
-
-pub record IsFlagOf (form : WordFormValue) (word : Text) : Type 0 where
-  pub flag : Text
-  pub among : IsIn flag form.flags
-  pub is : is_flag flag word ≡ true
-  pub long : long_of word ≡ Some (flag, None)
+  pub says : said_in option word ≡ Some text
+  pub long : long_of word ≡ Some (option.name, seen_of option.kind text)
+  pub text_is : unwrap_or (seen_of option.kind text) (codes "true") ≡ text
   pub other : is_plain word ≡ false
 
 abbrev pub IsWord : WordFormValue → Text → Type 0
-IsWord form word = IsPlain word ⊎ (IsOptionOf form word ⊎ IsFlagOf form word)
+IsWord form word = IsPlain word ⊎ IsUseOf form word
 
 some_value : (o : Option Text) → option_map_or (λ (value : Text). not (length value == 0)) o false ≡ true → (value : Text) × (o ≡ Some value)
 some_value None e = cc
@@ -143,33 +165,24 @@ or_true : (a b : Bool) → a ≡ false → (a || b) ≡ true → b ≡ true
 or_true a b n e = grind arith
 
 pub word_is : (form : WordFormValue) (word : Text) → Proper form → is_word form word ≡ true → IsWord form word
-word_is form word proper e = go (is_plain word) (list_any (λ (option : NamedOption). has_value option.name word) form.options) refl refl
+word_is form word proper e = go (is_plain word) refl
   where
-    go : (a b : Bool) → is_plain word ≡ a → list_any (λ (option : NamedOption). has_value option.name word) form.options ≡ b → IsWord form word
-    go true b plain given = inl (plain-is word plain)
-    go false true plain given =
-        let found = passing (λ (option : NamedOption). has_value option.name word) form.options given in
-        let value = some_value (value_in found.0.name word) found.2 in
-        let good = each_passes is_name (names_of form.options) found.0.name proper.option_names (in-map (λ (o : NamedOption). o.name) form.options found.0 found.1) in
-        inr (inl (record {
-          option = found.0;
-          value = value.0;
+    go : (b : Bool) → is_plain word ≡ b → IsWord form word
+    go true plain = inl (plain-is word plain)
+    go false plain =
+        let found = passing (is_use word) form.options (or_true (is_plain word) _ plain e) in
+        let option = found.0 in
+        let said = some_value (said_in option word) found.2 in
+        let good = each_passes is_name (names_of form.options) option.name proper.option_names (in-map (λ (o : NamedOption). o.name) form.options option found.1) in
+        inr (record {
+          option = option;
+          text = said.0;
           among = found.1;
-          gives = value.1;
-          long = value_in-long found.0.name word good value.1;
+          says = said.1;
+          long = said_by-long option.kind option.name word good said.1;
+          text_is = said_by-text option.kind option.name word said.1;
           other = plain;
-        }))
-    go false false plain given =
-        let passes = or_true _ (list_any (λ flag. is_flag flag word) form.flags) given (or_true (is_plain word) _ plain e) in
-        let found = passing (λ flag. is_flag flag word) form.flags passes in
-        let good = each_passes is_name form.flags found.0 proper.flag_names found.1 in
-        inr (inr (record {
-          flag = found.0;
-          among = found.1;
-          is = found.2;
-          long = is_flag-long found.0 word good found.2;
-          other = plain;
-        }))
+        })
 
 -- ---- the name and the value of each word
 
@@ -290,97 +303,51 @@ module _ (form : WordFormValue) (proper : Proper form) where
   is_same : (place : ℕ) (word : Text) → is_plain word ≡ false → next_place place word ≡ place
   is_same place word plain = ap (λ b. cond b (suc place) place) plain
 
-  -- ---- the value of an option
+  -- ---- what is said of an option
+
+  said_on : (option : NamedOption) (word : Text) (words : List Text) → said_in option word ≡ None → said_of words option ≡ said_of (word ∷ words) option
+  said_on option word words e = sym (ap (λ o. option_or o (said_of words option)) e) ∙ said_more option.kind option.name word words
+
+  use-said : (place : ℕ) {word : Text} (o : IsUseOf form word) → use_of form.plain place word ≡ (o.option.name, o.text)
+  use-said place {word} o = use-long place word o.other o.long ∙ ap (λ (t : Text). (o.option.name, t)) o.text_is
 
   option_here : (option : NamedOption) → IsIn option form.options → (place : ℕ) (word : Text) (words : List Text) (us : List (Text × Text))
-      → (is_plain word ≡ true → place < length form.plain) → IsWord form word → used option.name us ≡ value_of option.name words
-      → used option.name (use_of form.plain place word ∷ us) ≡ value_of option.name (word ∷ words)
+      → (is_plain word ≡ true → place < length form.plain) → IsWord form word → used option.name us ≡ said_of words option
+      → used option.name (use_of form.plain place word ∷ us) ≡ said_of (word ∷ words) option
   option_here option i place word words us below (inl p) rest =
       let other = disjoint_in form.plain (names_of form.options) (id_at form.plain place) option.name proper.plain_options (id_in place (below p.plain)) (name_in option i) in
       ap (λ u. used option.name (u ∷ us)) (use-plain place p) ∙ used-other option.name (id_at form.plain place, word) us other ∙ rest
-      ∙ ap (λ o. option_or o (value_of option.name words)) (sym (plain_value option.name p))
-  option_here option i place word words us below (inr (inl o)) rest =
-      ap (λ u. used option.name (u ∷ us)) (use-long place word o.other o.long) ∙ go (bytes_eq o.option.name option.name) refl
+      ∙ said_on option word words (plain_said option.kind option.name p)
+  option_here option i place word words us below (inr o) rest =
+      ap (λ u. used option.name (u ∷ us)) (use-said place o) ∙ go (bytes_eq o.option.name option.name) refl
     where
-      go : (b : Bool) → bytes_eq o.option.name option.name ≡ b
-          → used option.name ((o.option.name, o.value) ∷ us) ≡ value_of option.name (word ∷ words)
+      go : (b : Bool) → bytes_eq o.option.name option.name ≡ b → used option.name ((o.option.name, o.text) ∷ us) ≡ said_of (word ∷ words) option
       go true e =
-          let same = same_is o.option.name option.name e in
-          used-first option.name (o.option.name, o.value) us e
-          ∙ ap (λ v. option_or v (value_of option.name words)) (sym (ap (λ n. value_in n word) (sym same) ∙ o.gives))
+          let same = same_option form.options o.option option proper.options o.among i e in
+          let says : said_in option word ≡ Some o.text = ap (λ (x : NamedOption). said_in x word) (sym same) ∙ o.says in
+          used-first option.name (o.option.name, o.text) us e ∙ sym (ap (λ s. option_or s (said_of words option)) says)
+          ∙ said_more option.kind option.name word words
       go false e =
-          used-other option.name (o.option.name, o.value) us e ∙ rest
-          ∙ ap (λ v. option_or v (value_of option.name words)) (sym (other_value option.name word (option_name option i) o.long e))
-  option_here option i place word words us below (inr (inr f)) rest =
-      let other = flipped option.name f.flag (disjoint_in (names_of form.options) form.flags option.name f.flag proper.options_flags (name_in option i) f.among) in
-      ap (λ u. used option.name (u ∷ us)) (use-long place word f.other f.long) ∙ used-other option.name (f.flag, codes "true") us other ∙ rest
-      ∙ ap (λ v. option_or v (value_of option.name words)) (sym (flag_value option.name word (option_name option i) f.long))
+          used-other option.name (o.option.name, o.text) us e ∙ rest
+          ∙ said_on option word words (other_said option.kind option.name word (option_name option i) o.long e)
 
-  pub used_option : (option : NamedOption) → IsIn option form.options → (place : ℕ) (words : List Text) → AllWords words
-      → place + length (plain_words words) ≤ length form.plain → used option.name (uses form.plain place words) ≡ value_of option.name words
-  used_option option i place [] all le = refl
-  used_option option i place (word ∷ words) all le =
+  pub used_said : (option : NamedOption) → IsIn option form.options → (place : ℕ) (words : List Text) → AllWords words
+      → place + length (plain_words words) ≤ length form.plain → used option.name (uses form.plain place words) ≡ said_of words option
+  used_said option i place [] all le = sym (said_none option.kind option.name)
+  used_said option i place (word ∷ words) all le =
       let parts = and_parts (is_word form word) (list_all (is_word form) words) all in
-      let rest = used_option option i (next_place place word) words parts.1 (fewer place word words le) in
+      let rest = used_said option i (next_place place word) words parts.1 (fewer place word words le) in
       option_here option i place word words (uses form.plain (next_place place word) words) (λ plain. is_below place word words plain le)
-      (word_is form word proper parts.0) rest
-
-  -- ---- a flag
-
-  abbrev pub flag_value_of : Bool → Option Text
-  flag_value_of given = cond given (Some (codes "true")) None
-
-  flag_name : (flag : Text) → IsIn flag form.flags → is_name flag ≡ true
-  flag_name flag i = each_passes is_name form.flags flag proper.flag_names i
-
-  flag_here : (flag : Text) → IsIn flag form.flags → (place : ℕ) (word : Text) (words : List Text) (us : List (Text × Text))
-      → (is_plain word ≡ true → place < length form.plain) → IsWord form word → used flag us ≡ flag_value_of (has_flag flag words)
-      → used flag (use_of form.plain place word ∷ us) ≡ flag_value_of (has_flag flag (word ∷ words))
-  flag_here flag i place word words us below (inl p) rest =
-      let other = disjoint_in form.plain form.flags (id_at form.plain place) flag proper.plain_flags (id_in place (below p.plain)) i in
-      ap (λ u. used flag (u ∷ us)) (use-plain place p) ∙ used-other flag (id_at form.plain place, word) us other ∙ rest
-      ∙ ap (λ b. flag_value_of (b || has_flag flag words)) (sym (plain_flag flag p))
-  flag_here flag i place word words us below (inr (inl o)) rest =
-      let other = disjoint_in (names_of form.options) form.flags o.option.name flag proper.options_flags (name_in o.option o.among) i in
-      ap (λ u. used flag (u ∷ us)) (use-long place word o.other o.long) ∙ used-other flag (o.option.name, o.value) us other ∙ rest
-      ∙ ap (λ b. flag_value_of (b || has_flag flag words)) (sym (other_flag flag word (flag_name flag i) o.long other))
-  flag_here flag i place word words us below (inr (inr f)) rest =
-      ap (λ u. used flag (u ∷ us)) (use-long place word f.other f.long) ∙ go (bytes_eq f.flag flag) refl
-    where
-      go : (b : Bool) → bytes_eq f.flag flag ≡ b → used flag ((f.flag, codes "true") ∷ us) ≡ flag_value_of (has_flag flag (word ∷ words))
-      go true e =
-          let same = same_is f.flag flag e in
-          used-first flag (f.flag, codes "true") us e
-          ∙ ap (λ b. flag_value_of (b || has_flag flag words)) (sym (ap (λ n. is_flag n word) (sym same) ∙ f.is))
-      go false e =
-          used-other flag (f.flag, codes "true") us e ∙ rest
-          ∙ ap (λ b. flag_value_of (b || has_flag flag words)) (sym (other_flag flag word (flag_name flag i) f.long e))
-
-  pub used_flag : (flag : Text) → IsIn flag form.flags → (place : ℕ) (words : List Text) → AllWords words
-      → place + length (plain_words words) ≤ length form.plain → used flag (uses form.plain place words) ≡ flag_value_of (has_flag flag words)
-  used_flag flag i place [] all le = refl
-  used_flag flag i place (word ∷ words) all le =
-      let parts = and_parts (is_word form word) (list_all (is_word form) words) all in
-      let rest = used_flag flag i (next_place place word) words parts.1 (fewer place word words le) in
-      flag_here flag i place word words (uses form.plain (next_place place word) words) (λ plain. is_below place word words plain le)
       (word_is form word proper parts.0) rest
 
   -- ---- a plain word
 
-  long_here : (n : ℕ) → n < length form.plain → (place : ℕ) (word : Text) (us : List (Text × Text)) → (IsOptionOf form word ⊎ IsFlagOf form word)
+  long_here : (n : ℕ) → n < length form.plain → (place : ℕ) (word : Text) (us : List (Text × Text)) → IsUseOf form word
       → used (id_at form.plain n) (use_of form.plain place word ∷ us) ≡ used (id_at form.plain n) us
-  long_here n lt place word us (inl o) =
+  long_here n lt place word us o =
       let id = id_at form.plain n in
       let other = flipped id o.option.name (disjoint_in form.plain (names_of form.options) id o.option.name proper.plain_options (id_in n lt) (name_in o.option o.among)) in
-      ap (λ u. used id (u ∷ us)) (use-long place word o.other o.long) ∙ used-other id (o.option.name, o.value) us other
-  long_here n lt place word us (inr f) =
-      let id = id_at form.plain n in
-      let other = flipped id f.flag (disjoint_in form.plain form.flags id f.flag proper.plain_flags (id_in n lt) f.among) in
-      ap (λ u. used id (u ∷ us)) (use-long place word f.other f.long) ∙ used-other id (f.flag, codes "true") us other
-
-  not_plain : {word : Text} → (IsOptionOf form word ⊎ IsFlagOf form word) → is_plain word ≡ false
-  not_plain (inl o) = o.other
-  not_plain (inr f) = f.other
+      ap (λ u. used id (u ∷ us)) (use-said place o) ∙ used-other id (o.option.name, o.text) us other
 
   pub used_plain : (n k place : ℕ) (words : List Text) → n ≡ place + k → n < length form.plain → AllWords words
       → place + length (plain_words words) ≤ length form.plain → used (id_at form.plain n) (uses form.plain place words) ≡ plain_at k words
@@ -407,6 +374,6 @@ module _ (form : WordFormValue) (proper : Proper form) where
           ∙ used-other (id_at form.plain n) (id_at form.plain place, word) _ other ∙ rest j (omega arith)
           ∙ ap (λ b. slice_get (cond b (word ∷ plain_words words) (plain_words words)) (suc j)) (sym p.plain)
       go k (inr named) is rest =
-          let same = is_same place word (not_plain named) in
+          let same = is_same place word named.other in
           long_here n lt place word (uses form.plain (next_place place word) words) named ∙ rest k (omega arith)
-          ∙ ap (λ b. slice_get (cond b (word ∷ plain_words words) (plain_words words)) k) (sym (not_plain named))
+          ∙ ap (λ b. slice_get (cond b (word ∷ plain_words words) (plain_words words)) k) (sym named.other)

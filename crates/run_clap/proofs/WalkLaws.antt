@@ -1,5 +1,5 @@
 -- What `clap` makes of one word of a form.
-use Rattle.std.proofs.Common.{arith, ◌≡◌, ◌≤◌, ◌+◌, ℕ, suc, ◌==◌, Bool, true, false, List, [], ◌∷◌, ◌++◌, ◌&&◌, append-nil, refl, ap, ◌∙◌, codes}
+use Rattle.std.proofs.Common.{arith, ◌≡◌, ◌≤◌, ℕ, suc, ◌==◌, Bool, true, false, List, [], ◌∷◌, ◌++◌, ◌&&◌, append-nil, refl, ap, ◌∙◌, codes}
 use Rattle.std.proofs.Common.{Option, Some, None}
 use Rattle.std.specs.Str.{bytes_eq}
 use Rattle.clap.specs.Lexer.{long_of}
@@ -9,10 +9,11 @@ use Rattle.clap.specs.Walk.{Held, Row, Rule, Walk, arg_by_id, arg_by_index, arg_
 use Rattle.clap.specs.Walk.{pushed, is_pending}
 use Rattle.clap.specs.Simple.{Shape, built}
 use Rattle.clap.specs.Takes.{turn_passes, settle_passes}
-use Rattle.run_words.specs.Forms.{NamedOption}
+use Rattle.std.specs.Prelude.{unwrap_or}
+use Rattle.run_words.specs.Forms.{OptionKind, Needed, Allowed, Flag}
 use Rattle.run_clap.proofs.AppLaws.{app_with}
 use Rattle.run_clap.proofs.Lists.{Text, same_is}
-use Rattle.run_clap.proofs.RuleLaws.{flag_in, option_in, plain_in, least}
+use Rattle.run_clap.proofs.RuleLaws.{least, named, option_in, plain_in, seen_of}
 use Rattle.std.proofs.lemmas.Bool.{or_parts}
 
 -- the command with these arguments, filled in
@@ -60,34 +61,39 @@ no_dashes word {p} e = go (bytes_eq word (45 ∷ 45 ∷ [])) refl
     go false f = refl
     go true f = let none : long_of word ≡ None = ap long_of (same_is word (45 ∷ 45 ∷ []) f) in cc
 
-pub option_turns : (rules : List Rule) (option : NamedOption) (value word : Text) (place : ℕ) (rows : List Row) (h : Held)
-    → arg_by_long rules option.name ≡ Some (option_in option) → long_of word ≡ Some (option.name, Some value) → Fits rules rows h
-    → has_row option.name rows ≡ false → Turns rules word place place (rows ++ row (option.name, value) ∷ []) h
+pub long_turns : (rules : List Rule) (kind : OptionKind) (name text word : Text) (place : ℕ) (rows : List Row) (h : Held)
+    → arg_by_long rules name ≡ Some (option_in (named name kind)) → long_of word ≡ Some (name, seen_of kind text) → Fits rules rows h → has_row name rows ≡ false
+    → Turns rules word place place (rows ++ row (name, unwrap_or (seen_of kind text) (codes "true")) ∷ []) h
 unfolding walked
-option_turns rules option value word place rows h found long f none =
+long_turns rules Needed name text word place rows h found long f none =
     let settles = f.settles in
-    let no = ap (has_row option.name) f.are ∙ none in
+    let no = ap (has_row name) f.are ∙ none in
     let dashes = no_dashes word long in
     record {
-      next_held = reacted rules (option_in option) (value ∷ []) h;
+      next_held = reacted rules (option_in (named name Needed)) (text ∷ []) h;
       passes = rw (dashes, long, found, settles, no) refl;
       goes = rw (dashes, long, found) refl;
-      fits = record { settles = refl; are = with_values-new option.name value (settled rules h).rows no ∙ ap (λ rs. rs ++ row (option.name, value) ∷ []) f.are };
+      fits = record { settles = refl; are = with_values-new name text (settled rules h).rows no ∙ ap (λ rs. rs ++ row (name, text) ∷ []) f.are };
     }
-
-pub flag_turns : (rules : List Rule) (flag word : Text) (place : ℕ) (rows : List Row) (h : Held)
-    → arg_by_long rules flag ≡ Some (flag_in flag) → long_of word ≡ Some (flag, None) → Fits rules rows h
-    → has_row flag rows ≡ false → Turns rules word place place (rows ++ row (flag, codes "true") ∷ []) h
-unfolding walked
-flag_turns rules flag word place rows h found long f none =
+long_turns rules Allowed name text word place rows h found long f none =
     let settles = f.settles in
-    let no = ap (has_row flag) f.are ∙ none in
+    let no = ap (has_row name) f.are ∙ none in
     let dashes = no_dashes word long in
     record {
-      next_held = reacted rules (flag_in flag) [] h;
+      next_held = reacted rules (option_in (named name Allowed)) (text ∷ []) h;
       passes = rw (dashes, long, found, settles, no) refl;
       goes = rw (dashes, long, found) refl;
-      fits = record { settles = refl; are = with_values-new flag (codes "true") (settled rules h).rows no ∙ ap (λ rs. rs ++ row (flag, codes "true") ∷ []) f.are };
+      fits = record { settles = refl; are = with_values-new name text (settled rules h).rows no ∙ ap (λ rs. rs ++ row (name, text) ∷ []) f.are };
+    }
+long_turns rules Flag name text word place rows h found long f none =
+    let settles = f.settles in
+    let no = ap (has_row name) f.are ∙ none in
+    let dashes = no_dashes word long in
+    record {
+      next_held = reacted rules (option_in (named name Flag)) [] h;
+      passes = rw (dashes, long, found, settles, no) refl;
+      goes = rw (dashes, long, found) refl;
+      fits = record { settles = refl; are = with_values-new name (codes "true") (settled rules h).rows no ∙ ap (λ rs. rs ++ row (name, codes "true") ∷ []) f.are };
     }
 
 and_false : (b : Bool) → (b && false) ≡ false

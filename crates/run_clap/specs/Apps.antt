@@ -1,21 +1,28 @@
 -- A form of words, as `clap` sees it.
-use Rattle.std.specs.Prelude.{ℕ, List, [], ◌∷◌, ◌++◌, map, true, Some, codes}
+use Rattle.std.specs.Prelude.{ℕ, List, [], ◌∷◌, ◌++◌, map, true, Option, None, Some, codes}
 use Rattle.clap.specs.Words.{App, Rule, new_app, new_rule, with_rule}
+use Rattle.clap.specs.declared.builder.ArgAction.{ArgAction}
 use Rattle.clap.specs.declared.builder.ArgAction.TheVariants.{SetTrue}
-use Rattle.run_words.specs.Forms.{WordFormValue, NamedOption}
+use Rattle.run_words.specs.Forms.{WordFormValue, NamedOption, is_needed}
+use Rattle.run_words.specs.Forms.{OptionKind, Needed, Allowed, Flag}
 
 -- a plain word, which has to stand
 abbrev pub plain_rule : List ℕ → Rule
 plain_rule id = record (new_rule id) { required = true }
 
--- an option with a value
-abbrev pub option_rule : NamedOption → Rule
-option_rule option =
-    record (new_rule option.name) { long = Some option.name; required = option.is_required }
+-- what a flag does
+abbrev pub action_for : OptionKind → Option ArgAction
+action_for Needed = None
+action_for Allowed = None
+action_for Flag = Some SetTrue
 
--- a flag
-abbrev pub flag_rule : List ℕ → Rule
-flag_rule id = record (new_rule id) { long = Some id; action = Some SetTrue }
+-- an option with a value, or a flag
+abbrev pub option_rule : NamedOption → Rule
+option_rule option = record (new_rule option.name) {
+  long = Some option.name;
+  required = is_needed option.kind;
+  action = action_for option.kind;
+}
 
 -- a command with no argument, and no help
 abbrev pub empty_app : App
@@ -30,8 +37,7 @@ with_rules app (rule ∷ rules) = with_rules (with_rule app rule) rules
 
 -- the arguments of a form
 abbrev pub form_rules : WordFormValue → List Rule
-form_rules form =
-    map plain_rule form.plain ++ (map option_rule form.options ++ map flag_rule form.flags)
+form_rules form = map plain_rule form.plain ++ map option_rule form.options
 
 -- the command of a form
 unfoldable pub form_app : WordFormValue → App

@@ -1,11 +1,11 @@
 // Arguments, as `clap` is told of them.
 ghost use Rattle.std.specs.Prelude.{◌≡◌, IfOk, false};
 ghost use Rattle.clap.specs.Words.{app_of, rule_of, with_rule};
-ghost use Rattle.run_clap.specs.Apps.{empty_app, flag_rule, option_rule, plain_rule};
+ghost use Rattle.run_clap.specs.Apps.{empty_app, option_rule, plain_rule};
 ghost use Rattle.run_words.specs.Views.{option_view};
 
 use clap::{Arg, ArgAction, Command};
-use run_words::ValueOption;
+use run_words::{FormOption, name_of};
 use std::alloc::{AllocError, Global};
 
 // A plain word that has to stand.
@@ -16,21 +16,18 @@ pub fn plain_arg<'a>(alloc: Global, id: &'a str) -> Arg<'a>
     Arg::new(alloc, id).required(true)
 }
 
-// An option with a value.
-pub fn option_arg<'a>(alloc: Global, option: &ValueOption<'a>) -> Arg<'a>
+// An option with a value, or a flag.
+pub fn option_arg<'a>(alloc: Global, option: &FormOption<'a>) -> Arg<'a>
     ensures rule { rule_of result ≡ option_rule (option_view option.now) }
     ensures local { result.global ≡ false }
 {
-    let arg = Arg::new(alloc, option.name).long(option.name);
-    arg.required(option.is_required)
-}
-
-// A flag.
-pub fn flag_arg<'a>(alloc: Global, id: &'a str) -> Arg<'a>
-    ensures rule { rule_of result ≡ flag_rule id.entry.now }
-    ensures local { result.global ≡ false }
-{
-    Arg::new(alloc, id).long(id).action(ArgAction::SetTrue)
+    let name = name_of(option);
+    let arg = Arg::new(alloc, name).long(name);
+    match option {
+        FormOption::Needed(_) => arg.required(true),
+        FormOption::Allowed(_) => arg,
+        FormOption::Flag(_) => arg.action(ArgAction::SetTrue),
+    }
 }
 
 // With one more argument.

@@ -1,4 +1,3 @@
-pub mod DeedLaws
 pub mod ActionLaws
 pub mod ItemLaws
 pub mod NumberLaws

@@ -1,28 +1,15 @@
 -- Which words ask for a session over a cable, and what they give.
-use Rattle.std.specs.Prelude.{◌&&◌, ℕ, Bool, false, not, true, List, [], ◌∷◌, Option, Some, None, codes, bytes_eq, is_none, option_map, option_and_then, if◌then◌else◌}
+use Rattle.std.specs.Prelude.{is_some, ◌&&◌, ℕ, Bool, not, List, Option, Some, None, codes, drop, is_none, option_map, option_and_then, if◌then◌else◌}
 use Rattle.std.specs.Option.{option_or}
-use Rattle.run_words.specs.Choices.{given_actions, is_only_right, restricted_to}
-use Rattle.run_words.specs.Forms.{WordFormValue, has_flag, is_of_form, plain_at, value_of}
-use Rattle.run_words.specs.Runs.{are_actions_right, date_of}
-use Rattle.run_words.specs.UserNames.{is_user_right}
+use Rattle.run_words.specs.Choices.{given_actions, restricted_to}
+use Rattle.run_words.specs.Faults.{right_given}
+use Rattle.run_words.specs.Forms.{Given, has_flag}
+use Rattle.run_words.specs.Helps.{begins}
+use Rattle.run_words.specs.Runs.{date_of}
+use Rattle.run_words.specs.Tables.{cable_form}
 use Rattle.run_words.specs.declared.action.NamedAction.{NamedAction}
 
 -- ---- the words
-
--- `PORT DESKTOP --date=D [--only=L] [--trace=F] [--actions=L] [--slow] [--user=N]
--- [--add-user]`
-abbrev pub cable_form : WordFormValue
-cable_form = record {
-  plain = codes "port" ∷ codes "desktop" ∷ [];
-  options = record { name = codes "date"; is_required = true } ∷ record {
-    name = codes "only";
-    is_required = false;
-  }
-      ∷ record { name = codes "trace"; is_required = false }
-      ∷ record { name = codes "actions"; is_required = false }
-      ∷ record { name = codes "user"; is_required = false } ∷ [];
-  flags = codes "slow" ∷ codes "add-user" ∷ [];
-}
 
 -- a session over a cable: the port, the desktop's folder and a date in seconds, and what may stand
 -- beside them
@@ -38,44 +25,36 @@ pub record Cable : Type 0 where
   pub add_user : Bool
 
 -- the session at this port with this folder at this date, with what the words give beside them
-abbrev pub cable_between : List (List ℕ) → List ℕ → List ℕ → ℕ → Cable
-cable_between words port desktop date = record {
+abbrev pub cable_between : Given → List ℕ → List ℕ → ℕ → Cable
+cable_between given port desktop date = record {
   port = port;
   desktop = desktop;
   date = date;
-  only = value_of (codes "only") words;
-  trace = value_of (codes "trace") words;
-  actions = value_of (codes "actions") words;
-  slow = has_flag (codes "slow") words;
-  user = value_of (codes "user") words;
-  add_user = has_flag (codes "add-user") words;
+  only = given.said (codes "only");
+  trace = given.said (codes "trace");
+  actions = given.said (codes "actions");
+  slow = is_some (given.said (codes "slow"));
+  user = given.said (codes "user");
+  add_user = is_some (given.said (codes "add-user"));
 }
 
--- the session that words of the form give, at the date now
-abbrev pub cable_in : Option ℕ → List (List ℕ) → Option Cable
-cable_in now words =
+-- the session that the words give, at the date now
+unfoldable pub cable_in : Option ℕ → Given → Option Cable
+cable_in now given =
     option_and_then
     (λ port. option_and_then
-    (λ desktop. option_map (cable_between words port desktop) (date_of now words))
-    (plain_at 1 words)) (plain_at 0 words)
-
--- the session that the words behind `sync` ask for, in any order, at the date now
-unfoldable pub cable_of : Option ℕ → List (List ℕ) → Option Cable
-cable_of now words =
-    if is_of_form cable_form words && (are_actions_right words && (is_only_right words && is_user_right words))
-    then cable_in now words else None
+    (λ desktop. option_map (cable_between given port desktop) (date_of now given))
+    (given.plain 1)) (given.plain 0)
 
 -- the first word asks for a session over a cable, and none behind it for help
 abbrev pub begins_sync : List (List ℕ) → Bool
-begins_sync [] = false
-begins_sync (command ∷ words) =
-    bytes_eq command (codes "sync") && not (has_flag (codes "help") words)
+begins_sync words = begins (codes "sync") words && not (has_flag (codes "help") (drop 1 words))
 
 -- the session over a cable that these words ask for, at the date now
 unfoldable pub sync_of : Option ℕ → List (List ℕ) → Option Cable
-sync_of now [] = None
-sync_of now (command ∷ words) =
-    if bytes_eq command (codes "sync") then cable_of now words else None
+sync_of now words =
+    if begins (codes "sync") words
+    then option_and_then (cable_in now) (right_given now cable_form words) else None
 
 -- ---- which databases it touches
 

@@ -1,9 +1,8 @@
 -- Which databases words choose, and what is done with them.
-use Rattle.std.specs.Prelude.{ℕ, Bool, true, List, [], ◌∷◌, ◌++◌, map, Option, Some, None, codes, bytes_eq, is_some, if◌then◌else◌}
+use Rattle.std.specs.Prelude.{ℕ, Bool, List, [], ◌∷◌, ◌++◌, map, Option, Some, None, codes, bytes_eq, is_some, if◌then◌else◌}
 use Rattle.std.specs.List.{filter_map, list_all, list_any}
-use Rattle.std.specs.Option.{option_map_or}
 use Rattle.run_words.specs.Actions.{action_for, actions_in, aimed, items_of}
-use Rattle.run_words.specs.Forms.{value_of}
+use Rattle.run_words.specs.Forms.{Given}
 use Rattle.run_words.specs.StemNames.{name_of}
 use Rattle.run_words.specs.declared.action.ActionWord.{ActionWord}
 use Rattle.run_words.specs.declared.action.ActionWord.TheVariants.{Nothing}
@@ -16,21 +15,15 @@ pub record ChoiceTexts : Type 0 where
   pub actions : Option (List ℕ)
 
 -- the choice that words make
-abbrev pub choice_in : List (List ℕ) → ChoiceTexts
-choice_in words = record {
-  only = value_of (codes "only") words;
-  actions = value_of (codes "actions") words;
-}
+abbrev pub choice_in : Given → ChoiceTexts
+choice_in given =
+    record { only = given.said (codes "only"); actions = given.said (codes "actions") }
 
 -- ---- the words
 
 -- stems, with one comma between them
 abbrev pub are_stems : List ℕ → Bool
 are_stems text = list_all (λ stem. is_some (name_of stem)) (items_of (Some text))
-
--- what `--only` gives, where it stands, are stems
-abbrev pub is_only_right : List (List ℕ) → Bool
-is_only_right words = option_map_or are_stems (value_of (codes "only") words) true
 
 -- ---- what is done
 

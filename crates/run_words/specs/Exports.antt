@@ -1,7 +1,7 @@
--- Which words ask for the text of what a database file holds, or for the database of a text, and
--- what they give.
-use Rattle.std.specs.Prelude.{ℕ, Bool, false, true, List, Option, Some, None, codes, bytes_eq, option_map, option_and_then, if◌then◌else◌}
-use Rattle.run_words.specs.Forms.{has_flag, value_of}
+-- What words give that ask for the text of what a database file holds, or for the database of a
+-- text.
+use Rattle.std.specs.Prelude.{is_some, ℕ, Bool, false, true, List, Option, Some, None, codes, bytes_eq, option_map, option_and_then, if◌then◌else◌}
+use Rattle.run_words.specs.Forms.{Given}
 use Rattle.run_words.specs.Runs.{date_at}
 use Rattle.run_words.specs.declared.look.Export.{Export}
 use Rattle.run_words.specs.declared.look.ExportForm.{ExportForm}
@@ -35,25 +35,25 @@ is_form_word word =
     else (if bytes_eq word (codes "csv") then true
     else (if bytes_eq word (codes "ics") then true else false)))
 
--- how words of that form want a database exported
-abbrev pub export_with : List (List ℕ) → ExportForm → Export
-export_with words form = record {
+-- how words want a database exported
+abbrev pub export_with : Given → ExportForm → Export
+export_with given form = record {
   form = form;
-  without_private = has_flag (codes "without-private") words;
-  keep_broken = has_flag (codes "keep-broken") words;
+  without_private = is_some (given.said (codes "without-private"));
+  keep_broken = is_some (given.said (codes "keep-broken"));
 }
 
--- how words want a database exported, at the date now
-abbrev pub export_in : Option ℕ → List (List ℕ) → Option Export
-export_in now words =
-    option_map (export_with words)
-    (option_and_then (λ word. export_form_of now word (value_of (codes "date") words))
-    (value_of (codes "as") words))
+-- the same, at the date now
+abbrev pub export_in : Option ℕ → Given → Option Export
+export_in now given =
+    option_map (export_with given)
+    (option_and_then (λ word. export_form_of now word (given.said (codes "date")))
+    (given.said (codes "as")))
 
 -- the form of a text that a word names, of which a database is made
 abbrev pub import_form_of : List ℕ → Option ImportForm
 import_form_of word = if bytes_eq word (codes "txt") then Some imports.Text else None
 
 -- the form of the text of which words want a database
-abbrev pub import_in : List (List ℕ) → Option ImportForm
-import_in words = option_and_then import_form_of (value_of (codes "as") words)
+abbrev pub import_in : Given → Option ImportForm
+import_in given = option_and_then import_form_of (given.said (codes "as"))

@@ -1,25 +1,22 @@
--- The word at fault, where words ask for nothing.
-use Rattle.std.specs.Prelude.{ℕ, Bool, false, not, ◌==◌, ◌&&◌, ◌||◌, nat_lt, List, [], ◌∷◌, length, slice_get, Option, Some, None, codes, bytes_eq, is_none, is_some, option_map, option_and_then, if◌then◌else◌}
-use Rattle.std.specs.List.{find, list_any}
+-- The word at fault, where words ask for nothing, and what words give that are right.
+use Rattle.std.specs.Prelude.{ℕ, Bool, false, not, ◌==◌, ◌&&◌, ◌||◌, nat_lt, List, [], ◌∷◌, drop, length, slice_get, Option, Some, None, codes, bytes_eq, is_none, is_some, option_map, option_and_then, if◌then◌else◌}
+use Rattle.std.specs.List.{before_first, find}
 use Rattle.std.specs.Option.{option_map_or, option_or}
 use Rattle.run_words.specs.Actions.{is_actions_text}
-use Rattle.run_words.specs.Betweens.{between_form}
-use Rattle.run_words.specs.Cables.{cable_form}
-use Rattle.run_words.specs.Captures.{capture_form}
 use Rattle.run_words.specs.Choices.{are_stems}
-use Rattle.run_words.specs.Commands.{export_form, file_form, make_form, packet_form, show_form}
 use Rattle.run_words.specs.Exports.{is_form_word}
-use Rattle.run_words.specs.Forms.{WordFormValue, NamedOption, flag_count, is_flag, is_option, is_word, option_count, plain_at, plain_words, value_of}
+use Rattle.run_words.specs.Forms.{Given, WordFormValue, NamedOption, given_by, is_needed, is_of_form, is_word, option_named, plain_at, plain_words, said_of, use_count}
 use Rattle.run_words.specs.Helps.{command_word}
-use Rattle.run_words.specs.Likes.{like_form}
 use Rattle.run_words.specs.Numbers.{count_of, number_of}
-use Rattle.run_words.specs.Runs.{date_at, run_form}
+use Rattle.run_words.specs.Runs.{date_at}
+use Rattle.run_words.specs.Tables.{form_behind}
 use Rattle.run_words.specs.UserNames.{user_of}
-use Rattle.run_words.specs.Words.{is_hex, is_plain}
+use Rattle.run_words.specs.Words.{after, is_hex, is_plain}
+use Rattle.run_words.specs.Forms.{OptionKind, Needed, Allowed, Flag}
 use Rattle.run_words.specs.declared.fault.FaultKind.{FaultKind}
 use Rattle.run_words.specs.declared.fault.FaultKind.TheVariants.{UnknownCommand, UnknownOption, NoValue, ExtraValue, Twice, Extra, Missing, TooFew, BadOption, BadWord}
 use Rattle.run_words.specs.declared.topic.CommandWord.{CommandWord}
-use Rattle.run_words.specs.declared.topic.CommandWord.TheVariants.{Run, Check, Show, Export, Import, Verify, Picture, Packet, Install, Backup, Restore, Device, Categories, Sync, Make}
+use Rattle.run_words.specs.declared.topic.CommandWord.TheVariants.{Make, Packet}
 
 -- a word, or the name of an option or a flag, and what is wrong with it
 pub record Fault : Type 0 where
@@ -29,51 +26,28 @@ pub record Fault : Type 0 where
 abbrev pub fault_in : FaultKind → List ℕ → Fault
 fault_in kind word = record { kind = kind; word = word }
 
--- `HANDHELD FILE [--trace=F]`, behind `install`, whose line loses nothing
-abbrev pub install_form : WordFormValue
-install_form = record {
-  plain = codes "handheld" ∷ codes "file" ∷ [];
-  options = record { name = codes "trace"; is_required = false } ∷ [];
-  flags = [];
-}
-
--- the form of the words behind a command
-abbrev pub form_behind : CommandWord → WordFormValue
-form_behind Run = run_form
-form_behind Check = file_form
-form_behind Show = show_form
-form_behind Export = export_form
-form_behind Import = like_form
-form_behind Verify = file_form
-form_behind Picture = file_form
-form_behind Packet = packet_form
-form_behind Install = install_form
-form_behind Backup = between_form
-form_behind Restore = between_form
-form_behind Device = capture_form
-form_behind Categories = between_form
-form_behind Sync = cable_form
-form_behind Make = make_form
-
 -- ---- words that are none of the form
 
--- a word is this option without a value: `--NAME` or `--NAME=`
-abbrev pub lacks_this : List ℕ → NamedOption → Bool
-lacks_this word option = is_flag option.name word || is_option option.name word
+abbrev pub is_equals : ℕ → Bool
+is_equals byte = byte == 61
 
--- a word is an option of the form without a value
-abbrev pub lacks_value : WordFormValue → List ℕ → Bool
-lacks_value form word = list_any (lacks_this word) form.options
+-- the name that a word gives to an option or a flag: what stands between `--` and the first `=`
+abbrev pub name_in : List ℕ → List ℕ
+name_in word = option_map_or (before_first is_equals) (after (codes "--") word) []
 
--- a word is a flag of the form with a value
-abbrev pub gives_value : WordFormValue → List ℕ → Bool
-gives_value form word = list_any (λ flag. is_option flag word) form.flags
+-- what is wrong with an option that stands so: it lacks its value, or it is a flag and has one
+abbrev pub misspelt : OptionKind → FaultKind
+misspelt Needed = NoValue
+misspelt Allowed = NoValue
+misspelt Flag = ExtraValue
+
+abbrev pub misspelt_or_unknown : Option NamedOption → FaultKind
+misspelt_or_unknown None = UnknownOption
+misspelt_or_unknown (Some option) = misspelt option.kind
 
 -- what is wrong with a word that is none of the form
 abbrev pub strange_kind : WordFormValue → List ℕ → FaultKind
-strange_kind form word =
-    if lacks_value form word then NoValue
-    else (if gives_value form word then ExtraValue else UnknownOption)
+strange_kind form word = misspelt_or_unknown (option_named form (name_in word))
 
 -- a word is none of the form, and not empty
 abbrev pub is_strange : WordFormValue → List ℕ → Bool
@@ -84,35 +58,52 @@ abbrev pub strange_word : WordFormValue → List (List ℕ) → Option Fault
 strange_word form words =
     option_map (λ word. fault_in (strange_kind form word) word) (find (is_strange form) words)
 
--- ---- options, flags and plain words that don't stand as they have to
+-- ---- options
 
--- an option stands more than once
-abbrev pub is_twice : List (List ℕ) → NamedOption → Bool
-is_twice words option = nat_lt 1 (option_count option.name words)
+-- the value of an option of this name means nothing, at the date now
+abbrev pub is_bad_value : Option ℕ → List ℕ → List ℕ → Bool
+is_bad_value now name value =
+    if bytes_eq name (codes "date") then is_none (date_at now value)
+    else (if bytes_eq name (codes "actions") then not (is_actions_text value)
+    else (if bytes_eq name (codes "only") then not (are_stems value)
+    else (if bytes_eq name (codes "as") then not (is_form_word value)
+    else (if bytes_eq name (codes "user") then is_none (user_of value) else false))))
 
--- a flag stands more than once
-abbrev pub is_flag_twice : List (List ℕ) → List ℕ → Bool
-is_flag_twice words flag = nat_lt 1 (flag_count flag words)
+-- an option has this fault, at the date now: it stands more than once, or it has to stand and
+-- doesn't, or its value means nothing
+abbrev pub is_faulty : FaultKind → Option ℕ → List (List ℕ) → NamedOption → Bool
+is_faulty Twice now words option = nat_lt 1 (use_count option words)
+is_faulty Missing now words option = is_needed option.kind && (use_count option words == 0)
+is_faulty BadOption now words option =
+    option_map_or (is_bad_value now option.name) (said_of words option) false
+is_faulty _ now words option = false
 
--- the first option that stands more than once, or else the first such flag
-abbrev pub twice_fault : WordFormValue → List (List ℕ) → Option Fault
-twice_fault form words =
-    option_or
-    (option_map (λ option. fault_in Twice option.name) (find (is_twice words) form.options))
-    (option_map (fault_in Twice) (find (is_flag_twice words) form.flags))
+-- the first option of the form with this fault
+abbrev pub option_fault : FaultKind → Option ℕ → WordFormValue → List (List ℕ) → Option Fault
+option_fault kind now form words =
+    option_map (λ option. fault_in kind option.name)
+    (find (is_faulty kind now words) form.options)
+
+-- ---- words that are right
+
+-- what is given, where there is no fault
+abbrev pub given_unless : Option Fault → Given → Option Given
+given_unless None given = Some given
+given_unless (Some fault) given = None
+
+-- what the words behind the first give, where they are of this form and each value means something,
+-- at the date now
+unfoldable pub right_given : Option ℕ → WordFormValue → List (List ℕ) → Option Given
+right_given now form words =
+    if is_of_form form (drop 1 words)
+    then given_unless (option_fault BadOption now form (drop 1 words))
+    (given_by form (drop 1 words)) else None
+
+-- ---- plain words that don't stand as they have to
 
 -- the first plain word behind those of the form
 abbrev pub extra_word : WordFormValue → List (List ℕ) → Option Fault
 extra_word form words = option_map (fault_in Extra) (plain_at (length form.plain) words)
-
--- an option has to stand and doesn't
-abbrev pub is_missing : List (List ℕ) → NamedOption → Bool
-is_missing words option = option.is_required && (option_count option.name words == 0)
-
--- the first such option
-abbrev pub missing_fault : WordFormValue → List (List ℕ) → Option Fault
-missing_fault form words =
-    option_map (λ option. fault_in Missing option.name) (find (is_missing words) form.options)
 
 -- the command, where fewer plain words stand behind it than its form has
 abbrev pub few_words : WordFormValue → List ℕ → List (List ℕ) → Option Fault
@@ -125,30 +116,9 @@ few_words form command words =
 abbrev pub form_fault : WordFormValue → List ℕ → List (List ℕ) → Option Fault
 form_fault form command words =
     option_or (strange_word form words)
-    (option_or (twice_fault form words)
+    (option_or (option_fault Twice None form words)
     (option_or (extra_word form words)
-    (option_or (missing_fault form words) (few_words form command words))))
-
--- ---- values
-
--- the value of an option of this name means nothing, at the date now
-abbrev pub is_bad_value : Option ℕ → List ℕ → List ℕ → Bool
-is_bad_value now name value =
-    if bytes_eq name (codes "date") then is_none (date_at now value)
-    else (if bytes_eq name (codes "actions") then not (is_actions_text value)
-    else (if bytes_eq name (codes "only") then not (are_stems value)
-    else (if bytes_eq name (codes "as") then not (is_form_word value)
-    else (if bytes_eq name (codes "user") then is_none (user_of value) else false))))
-
--- the value that the words give an option means nothing
-abbrev pub is_wrong : Option ℕ → List (List ℕ) → NamedOption → Bool
-is_wrong now words option =
-    option_map_or (is_bad_value now option.name) (value_of option.name words) false
-
--- the first such option
-abbrev pub value_fault : Option ℕ → WordFormValue → List (List ℕ) → Option Fault
-value_fault now form words =
-    option_map (λ option. fault_in BadOption option.name) (find (is_wrong now words) form.options)
+    (option_or (option_fault Missing None form words) (few_words form command words))))
 
 -- the plain word at a place behind a command means nothing: no hexadecimal, no seed, or no count
 abbrev pub is_bad_word : CommandWord → ℕ → List ℕ → Bool
@@ -174,7 +144,7 @@ bad_word command words = option_or (bad_word_at command 0 words) (bad_word_at co
 abbrev pub command_fault : Option ℕ → CommandWord → List ℕ → List (List ℕ) → Option Fault
 command_fault now known command words =
     option_or (form_fault (form_behind known) command words)
-    (option_or (value_fault now (form_behind known) words) (bad_word known words))
+    (option_or (option_fault BadOption now (form_behind known) words) (bad_word known words))
 
 -- the first word where none is to stand
 abbrev pub word_too_many : List (List ℕ) → Option Fault

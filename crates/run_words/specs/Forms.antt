@@ -1,36 +1,59 @@
--- The form of the words behind a command, and what words hold by it.
-use Rattle.std.specs.Prelude.{ℕ, Bool, false, not, ◌==◌, ◌&&◌, ◌||◌, nat_le, List, [], ◌∷◌, ◌++◌, length, slice_get, Option, None, codes, bytes_eq, is_some}
-use Rattle.std.specs.List.{filter, list_all, list_any}
+-- The form of the words behind a command, and what words of it give.
+use Rattle.std.specs.Prelude.{ℕ, Bool, false, true, not, ◌==◌, ◌&&◌, ◌||◌, nat_le, List, [], ◌∷◌, ◌++◌, length, slice_get, Option, Some, None, codes, bytes_eq, is_some, option_and_then, if◌then◌else◌}
+use Rattle.std.specs.List.{filter, find, list_all, list_any}
 use Rattle.std.specs.Option.{option_map_or, option_or}
 use Rattle.run_words.specs.Words.{after, is_plain}
 
--- an option `--NAME=VALUE`, and whether it has to stand
+-- with a value and has to stand, with a value and may, or a flag
+pub data OptionKind : Type 0 where
+  Needed : OptionKind
+  Allowed : OptionKind
+  Flag : OptionKind
+
+abbrev pub is_needed : OptionKind → Bool
+is_needed Needed = true
+is_needed Allowed = false
+is_needed Flag = false
+
+abbrev pub is_flag_kind : OptionKind → Bool
+is_flag_kind Needed = false
+is_flag_kind Allowed = false
+is_flag_kind Flag = true
+
+-- an option `--NAME=VALUE`, or a flag `--NAME`
 pub record NamedOption : Type 0 where
   pub name : List ℕ
-  pub is_required : Bool
+  pub kind : OptionKind
 
--- the names of the plain words in their order, the options with a value, and the names of the flags
--- `--NAME`
+-- the names of the plain words in their order, and the options
 pub record WordFormValue : Type 0 where
   pub plain : List (List ℕ)
   pub options : List NamedOption
-  pub flags : List (List ℕ)
 
 -- what follows `--NAME=` in a word that begins so
 abbrev pub value_in : List ℕ → List ℕ → Option (List ℕ)
 value_in name word = after (codes "--" ++ (name ++ codes "=")) word
 
--- a word begins with `--NAME=`
-abbrev pub is_option : List ℕ → List ℕ → Bool
-is_option name word = is_some (value_in name word)
-
--- a word begins with `--NAME=`, and more follows
-abbrev pub has_value : List ℕ → List ℕ → Bool
-has_value name word = option_map_or (λ value. not (length value == 0)) (value_in name word) false
-
 -- a word is `--NAME`
 abbrev pub is_flag : List ℕ → List ℕ → Bool
 is_flag name word = bytes_eq word (codes "--" ++ name)
+
+-- the text that says that a flag stands
+abbrev pub flag_said : Bool → Option (List ℕ)
+flag_said stands = if stands then Some (codes "true") else None
+
+-- what a word says of an option: its value, or that it stands
+abbrev pub said_by : OptionKind → List ℕ → List ℕ → Option (List ℕ)
+said_by Needed name word = value_in name word
+said_by Allowed name word = value_in name word
+said_by Flag name word = flag_said (is_flag name word)
+
+abbrev pub said_in : NamedOption → List ℕ → Option (List ℕ)
+said_in option word = said_by option.kind option.name word
+
+-- a word says something of an option, and no empty value
+abbrev pub is_use : List ℕ → NamedOption → Bool
+is_use word option = option_map_or (λ said. not (length said == 0)) (said_in option word) false
 
 -- the plain words among some, in their order
 abbrev pub plain_words : List (List ℕ) → List (List ℕ)
@@ -49,34 +72,50 @@ value_of name (word ∷ words) = option_or (value_in name word) (value_of name w
 abbrev pub has_flag : List ℕ → List (List ℕ) → Bool
 has_flag name words = list_any (is_flag name) words
 
--- a plain word, or an option of the form with a value that isn't empty, or a flag of it
+-- a plain word, or an option of the form
 abbrev pub is_word : WordFormValue → List ℕ → Bool
-is_word form word =
-    is_plain word
-    || (list_any (λ option. has_value option.name word) form.options
-    || list_any (λ flag. is_flag flag word) form.flags)
+is_word form word = is_plain word || list_any (is_use word) form.options
 
--- how many of the words begin with `--NAME=`
-abbrev pub option_count : List ℕ → List (List ℕ) → ℕ
-option_count name words = length (filter (is_option name) words)
-
--- how many of the words are `--NAME`
-abbrev pub flag_count : List ℕ → List (List ℕ) → ℕ
-flag_count name words = length (filter (is_flag name) words)
+-- how many of the words say something of an option
+abbrev pub use_count : NamedOption → List (List ℕ) → ℕ
+use_count option words = length (filter (λ word. is_some (said_in option word)) words)
 
 -- the option stands at most once, and not never where it has to stand
 abbrev pub fits_option : List (List ℕ) → NamedOption → Bool
 fits_option words option =
-    nat_le (option_count option.name words) 1
-    && (not option.is_required || nat_le 1 (option_count option.name words))
+    nat_le (use_count option words) 1
+    && (not (is_needed option.kind) || nat_le 1 (use_count option words))
 
--- the flag stands at most once
-abbrev pub fits_flag : List (List ℕ) → List ℕ → Bool
-fits_flag words flag = nat_le (flag_count flag words) 1
-
--- words are of a form: each is one of it, as many are plain as it has, and each option and each
--- flag of it stands as it has to
+-- words are of a form: each is one of it, as many are plain as it has, and each option of it stands
+-- as it has to
 unfoldable pub is_of_form : WordFormValue → List (List ℕ) → Bool
 is_of_form form words =
     list_all (is_word form) words && ((length (plain_words words) == length form.plain) &&
-    (list_all (fits_option words) form.options && list_all (fits_flag words) form.flags))
+    list_all (fits_option words) form.options)
+
+-- ---- what words of a form give
+
+-- what the first of the words says that says something of an option
+abbrev pub said_kind : OptionKind → List ℕ → List (List ℕ) → Option (List ℕ)
+said_kind Needed name words = value_of name words
+said_kind Allowed name words = value_of name words
+said_kind Flag name words = flag_said (has_flag name words)
+
+abbrev pub said_of : List (List ℕ) → NamedOption → Option (List ℕ)
+said_of words option = said_kind option.kind option.name words
+
+-- the option of a name
+abbrev pub option_named : WordFormValue → List ℕ → Option NamedOption
+option_named form name = find (λ option. bytes_eq option.name name) form.options
+
+-- the plain word at a place, and what is said of an option
+pub record Given : Type 0 where
+  pub plain : ℕ → Option (List ℕ)
+  pub said : List ℕ → Option (List ℕ)
+
+-- what words of a form give: nothing that it doesn't know
+abbrev pub given_by : WordFormValue → List (List ℕ) → Given
+given_by form words = record {
+  plain = λ place. plain_at place words;
+  said = λ name. option_and_then (said_of words) (option_named form name);
+}

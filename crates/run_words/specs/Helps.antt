@@ -1,5 +1,6 @@
--- Which words ask for help, and of what.
-use Rattle.std.specs.Prelude.{ℕ, List, [], ◌∷◌, Option, Some, None, codes, bytes_eq, option_map, if◌then◌else◌}
+-- Which command a first word names, and which words ask for help, and of what.
+use Rattle.std.specs.Prelude.{ℕ, Bool, false, List, [], ◌∷◌, Option, Some, None, codes, bytes_eq, slice_get, option_map, option_and_then, if◌then◌else◌}
+use Rattle.std.specs.Option.{option_map_or}
 use Rattle.run_words.specs.Forms.{has_flag}
 use Rattle.run_words.specs.declared.topic.CommandWord.{CommandWord}
 use Rattle.run_words.specs.declared.topic.CommandWord.TheVariants.{Run, Check, Show, Export, Import, Verify, Picture, Packet, Install, Backup, Restore, Device, Categories, Sync, Make}
@@ -24,6 +25,14 @@ command_word word =
     else (if bytes_eq word (codes "categories") then Some Categories
     else (if bytes_eq word (codes "sync") then Some Sync
     else (if bytes_eq word (codes "make") then Some Make else None))))))))))))))
+
+-- the command that the first of some words names
+abbrev pub command_named : List (List ℕ) → Option CommandWord
+command_named words = option_and_then command_word (slice_get words 0)
+
+-- the first word is this
+abbrev pub begins : List ℕ → List (List ℕ) → Bool
+begins word words = option_map_or (λ first. bytes_eq first word) (slice_get words 0) false
 
 -- the help of the command that a word names
 abbrev pub help_with : List ℕ → Option Topic

@@ -13,6 +13,7 @@ pub mod Likes
 pub mod Numbers
 pub mod Runs
 pub mod StemNames
+pub mod Tables
 pub mod UserNames
 pub mod Views
 pub mod Words

@@ -1,9 +1,7 @@
 -- The name of a user as a word.
-use Rattle.std.specs.Prelude.{ℕ, ◌==◌, Bool, true, List, [], Option, None, Some, chars, codes, is_some, length, option_and_then, if◌then◌else◌}
-use Rattle.std.specs.Option.{option_map_or}
+use Rattle.std.specs.Prelude.{ℕ, ◌==◌, List, [], Option, None, Some, chars, length, option_and_then, if◌then◌else◌}
 use Rattle.memo_texts.specs.Characters.{bytes_of}
 use Rattle.pdb_values.specs.Users.{user_name_of}
-use Rattle.run_words.specs.Forms.{value_of}
 
 -- bytes that are a name: at least one, at most 40, and none of them zero
 abbrev pub as_name : List ℕ → Option (List ℕ)
@@ -12,11 +10,6 @@ as_name bytes = if length bytes == 0 then None else user_name_of bytes
 -- the name of a word: the bytes of its characters
 unfoldable pub user_of : List ℕ → Option (List ℕ)
 user_of word = option_and_then as_name (bytes_of (chars word))
-
--- what `--user` gives, where it stands, is a name
-abbrev pub is_user_right : List (List ℕ) → Bool
-is_user_right words =
-    option_map_or (λ word. is_some (user_of word)) (value_of (codes "user") words) true
 
 -- a name, or none
 abbrev pub name_or_none : Option (List ℕ) → List ℕ

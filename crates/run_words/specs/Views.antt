@@ -1,5 +1,5 @@
 -- What contracts see of words, and of what they give.
-use Rattle.std.specs.Prelude.{map, option_copied}
+use Rattle.std.specs.Prelude.{map, option_copied, string_bytes}
 use Rattle.run_words.specs.Betweens.{Between}
 use Rattle.run_words.specs.Cables.{Cable}
 use Rattle.run_words.specs.Captures.{Capture}
@@ -7,7 +7,7 @@ use Rattle.run_words.specs.Choices.{ChoiceTexts}
 use Rattle.run_words.specs.Commands.{WordTask, Sync, DryRun, LookAt, Scan, Make, Install, Backup, Restore, Emulate, Categories, Help}
 use Rattle.run_words.specs.Faults.{Fault}
 use Rattle.run_words.specs.Docks.{Dock}
-use Rattle.run_words.specs.Forms.{WordFormValue, NamedOption}
+use Rattle.run_words.specs.Forms.{Given, WordFormValue, NamedOption, Needed, Allowed, Flag, given_by}
 use Rattle.run_words.specs.Likes.{Like}
 use Rattle.run_words.specs.Runs.{Run}
 use Rattle.run_words.specs.Words.{bytes_of}
@@ -19,22 +19,29 @@ use Rattle.run_words.specs.declared.command.Command.{Command}
 use Rattle.run_words.specs.declared.command.Command.TheVariants as commands
 use Rattle.run_words.specs.declared.fault.WordFault.{WordFault}
 use Rattle.run_words.specs.declared.dock.DockWords.{DockWords}
-use Rattle.run_words.specs.declared.form.ValueOption.{ValueOption}
+use Rattle.run_words.specs.declared.form.FormOption.{FormOption}
+use Rattle.run_words.specs.declared.form.FormOption.TheVariants as options
 use Rattle.run_words.specs.declared.form.WordForm.{WordForm}
 use Rattle.run_words.specs.declared.like.LikeWords.{LikeWords}
 use Rattle.run_words.specs.declared.run.RunWords.{RunWords}
+use Rattle.run_words.specs.declared.spoken.Spoken.{Spoken}
 
 -- the option of a table
-abbrev pub option_view : ValueOption → NamedOption
-option_view option = record { name = option.name.now; is_required = option.is_required }
+abbrev pub option_view : FormOption → NamedOption
+option_view (options.Needed name) = record { name = name.now; kind = Needed }
+option_view (options.Allowed name) = record { name = name.now; kind = Allowed }
+option_view (options.Flag name) = record { name = name.now; kind = Flag }
 
 -- the form of a table
 abbrev pub form_view : WordForm → WordFormValue
 form_view form = record {
   plain = map (λ name. name.now) form.plain.now;
   options = map option_view form.options.now;
-  flags = map (λ name. name.now) form.flags.now;
 }
+
+-- what words give as they stand
+abbrev pub spoken_given : Spoken → Given
+spoken_given spoken = given_by (form_view spoken.form) (map string_bytes spoken.words.now)
 
 -- the choice of the words
 abbrev pub choice_view : ChoiceWords → ChoiceTexts

@@ -1,41 +1,14 @@
 // The words of a session over a cable.
 ghost use Rattle.std.specs.Prelude.{◌≡◌, map, string_bytes, option_map};
-ghost use Rattle.run_words.specs.Cables.{begins_sync, cable_in as cable_of_words, cable_of, sync_of};
+ghost use Rattle.run_words.specs.Cables.{begins_sync, cable_in as cable_of_words, sync_of};
 ghost use Rattle.run_words.specs.Views.{cable_view};
 
-use crate::choice::is_only_right;
-use crate::form::{ValueOption, WordForm, has_flag, is_of_form, plain_at, value_of};
-use crate::run::{are_actions_right, date_in};
-use crate::user::is_user_right;
+use crate::form::has_flag;
+use crate::reading::Reading;
+use crate::run::date_in;
+use crate::spoken::{begins, behind_first, right_words};
+use crate::tables::CABLE;
 use pdb_values::PalmDate;
-
-/// The form of the words behind `sync`.
-pub const CABLE: WordForm<'static> = WordForm {
-    plain: &["port", "desktop"],
-    options: &[
-        ValueOption {
-            name: "date",
-            is_required: true,
-        },
-        ValueOption {
-            name: "only",
-            is_required: false,
-        },
-        ValueOption {
-            name: "trace",
-            is_required: false,
-        },
-        ValueOption {
-            name: "actions",
-            is_required: false,
-        },
-        ValueOption {
-            name: "user",
-            is_required: false,
-        },
-    ],
-    flags: &["slow", "add-user"],
-};
 
 /// A session over a cable, as the words ask for it.
 #[derive(Drop)]
@@ -60,51 +33,32 @@ pub struct CableWords<'a> {
     pub add_user: bool,
 }
 
-// The session that words of the form give, at the date now.
-fn cable_in<'a>(now: Option<u32>, words: &'a [String]) -> Option<CableWords<'a>>
-    ensures { option_map cable_view result
-        ≡ cable_of_words now (map string_bytes words.entry.now) }
+/// The session that words of its form give, at the date now.
+#[tactic(auto, unfolding(crate::specs::Cables::cable_in))]
+pub fn cable_in<'a, R: Reading<'a>>(now: Option<u32>, words: &R) -> Option<CableWords<'a>>
+    ensures { option_map cable_view result ≡ cable_of_words now (R.given words.now) }
 {
-    let port = plain_at(words, 0)?;
-    let desktop = plain_at(words, 1)?;
-    let date = date_in(now, value_of(words, "date")?)?;
+    let port = words.plain(0)?;
+    let desktop = words.plain(1)?;
+    let date = date_in(now, words.said("date")?)?;
     Some(CableWords {
         port,
         desktop,
         date,
-        only: value_of(words, "only"),
-        trace: value_of(words, "trace"),
-        actions: value_of(words, "actions"),
-        slow: has_flag(words, "slow"),
-        user: value_of(words, "user"),
-        add_user: has_flag(words, "add-user"),
+        only: words.said("only"),
+        trace: words.said("trace"),
+        actions: words.said("actions"),
+        slow: words.said("slow").is_some(),
+        user: words.said("user"),
+        add_user: words.said("add-user").is_some(),
     })
-}
-
-// The session that the words behind `sync` ask for, in any order, at the date now.
-#[tactic(auto, unfolding(crate::specs::Cables::cable_of))]
-fn cable_words<'a>(now: Option<u32>, words: &'a [String]) -> Option<CableWords<'a>>
-    ensures { option_map cable_view result ≡ cable_of now (map string_bytes words.entry.now) }
-{
-    if is_of_form(&CABLE, words)
-        && are_actions_right(words)
-        && is_only_right(words)
-        && is_user_right(words)
-    {
-        cable_in(now, words)
-    } else {
-        None
-    }
 }
 
 /// Whether the first word asks for a session over a cable, and none behind it for help.
 pub fn is_sync(words: &[String]) -> bool
     ensures { result ≡ begins_sync (map string_bytes words.now) }
 {
-    match words {
-        [command, words @ ..] => command.as_str() == "sync" && !has_flag(words, "help"),
-        [] => false,
-    }
+    begins(words, "sync") && !has_flag(behind_first(words), "help")
 }
 
 /// The session over a cable that these words ask for, by the first of them, or `None` exactly where they are not in its form.
@@ -113,11 +67,9 @@ pub fn is_sync(words: &[String]) -> bool
 pub fn sync_words<'a>(now: Option<u32>, words: &'a [String]) -> Option<CableWords<'a>>
     ensures { option_map cable_view result ≡ sync_of now (map string_bytes words.entry.now) }
 {
-    let [command, words @ ..] = words else {
+    if !begins(words, "sync") {
         return None;
-    };
-    match command.as_str() {
-        "sync" => cable_words(now, words),
-        _ => None,
     }
+    let spoken = right_words(now, CABLE, words)?;
+    cable_in(now, &spoken)
 }

@@ -1,25 +1,9 @@
 // The words of a handheld over captured bytes.
-ghost use Rattle.std.specs.Prelude.{◌≡◌, map, string_bytes, option_map};
-ghost use Rattle.run_words.specs.Captures.{capture_in as capture_of_words, capture_of};
+ghost use Rattle.std.specs.Prelude.{◌≡◌, option_map};
+ghost use Rattle.run_words.specs.Captures.{capture_in as capture_of_words};
 ghost use Rattle.run_words.specs.Views.{capture_view};
 
-use crate::form::{ValueOption, WordForm, is_of_form, plain_at, value_of};
-
-/// The form of the words behind `device`.
-pub const CAPTURE: WordForm<'static> = WordForm {
-    plain: &["handheld"],
-    options: &[
-        ValueOption {
-            name: "in",
-            is_required: true,
-        },
-        ValueOption {
-            name: "out",
-            is_required: true,
-        },
-    ],
-    flags: &[],
-};
+use crate::reading::Reading;
 
 /// A handheld's folder, and what it hears and says.
 #[derive(Clone, Copy)]
@@ -32,29 +16,16 @@ pub struct CaptureWords<'a> {
     pub output: &'a str,
 }
 
-// What words of the form give.
-fn capture_in<'a>(words: &'a [String]) -> Option<CaptureWords<'a>>
-    ensures { option_map capture_view result
-        ≡ capture_of_words (map string_bytes words.entry.now) }
+// What the words give.
+pub(crate) fn capture_in<'a, R: Reading<'a>>(words: &R) -> Option<CaptureWords<'a>>
+    ensures { option_map capture_view result ≡ capture_of_words (R.given words.now) }
 {
-    let handheld = plain_at(words, 0)?;
-    let input = value_of(words, "in")?;
-    let output = value_of(words, "out")?;
+    let handheld = words.plain(0)?;
+    let input = words.said("in")?;
+    let output = words.said("out")?;
     Some(CaptureWords {
         handheld,
         input,
         output,
     })
-}
-
-/// What the words behind `device` give, in any order.
-#[tactic(auto, unfolding(crate::specs::Captures::capture_of))]
-pub fn capture_words<'a>(words: &'a [String]) -> Option<CaptureWords<'a>>
-    ensures { option_map capture_view result ≡ capture_of (map string_bytes words.entry.now) }
-{
-    if is_of_form(&CAPTURE, words) {
-        capture_in(words)
-    } else {
-        None
-    }
 }

@@ -1,10 +1,9 @@
 // Which databases words choose, and what is done with them.
-ghost use Rattle.std.specs.Prelude.{◌≡◌, map, string_bytes};
-ghost use Rattle.run_words.specs.Choices.{choice_in as choice_of_words, is_only_right as is_right};
+ghost use Rattle.std.specs.Prelude.{◌≡◌};
+ghost use Rattle.run_words.specs.Choices.{choice_in as choice_of_words};
 ghost use Rattle.run_words.specs.Views.{choice_view};
 
-use crate::form::value_of;
-use crate::only::are_stems;
+use crate::reading::Reading;
 
 /// A choice of databases, as words make it.
 #[derive(Clone, Copy)]
@@ -15,22 +14,12 @@ pub struct ChoiceWords<'a> {
     pub actions: Option<&'a str>,
 }
 
-/// The choice that these words make.
-pub(crate) fn choice_in<'a>(words: &'a [String]) -> ChoiceWords<'a>
-    ensures { choice_view result ≡ choice_of_words (map string_bytes words.entry.now) }
+/// The choice that the words make.
+pub(crate) fn choice_in<'a, R: Reading<'a>>(words: &R) -> ChoiceWords<'a>
+    ensures { choice_view result ≡ choice_of_words (R.given words.now) }
 {
     ChoiceWords {
-        only: value_of(words, "only"),
-        actions: value_of(words, "actions"),
-    }
-}
-
-/// Whether what `--only` gives, where it stands, are stems.
-pub(crate) fn is_only_right(words: &[String]) -> bool
-    ensures { result ≡ is_right (map string_bytes words.now) }
-{
-    match value_of(words, "only") {
-        Some(only) => are_stems(only),
-        None => true,
+        only: words.said("only"),
+        actions: words.said("actions"),
     }
 }

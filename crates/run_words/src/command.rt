@@ -1,74 +1,22 @@
 // Commands.
 ghost use Rattle.std.specs.Prelude.{◌≡◌, map, string_bytes, option_map};
-ghost use Rattle.run_words.specs.Betweens.{between_of};
-ghost use Rattle.run_words.specs.Captures.{capture_of};
-ghost use Rattle.run_words.specs.Commands.{Backup, Categories, Emulate, Help, LookAt, Restore, Scan, deed_of as deed_of_words, export_of, file_of, import_of, install_of, make_of, packet_of, show_look, show_of, sync_of, task_of};
-ghost use Rattle.run_words.specs.Exports.{export_in as export_of_words, import_in as import_of_words};
+ghost use Rattle.run_words.specs.Commands.{Help, Make, deed_of as deed_of_words, lone_import_in as lone_import_of, look_in as look_of_words, make_in as make_of_words, meaning, packet_in as packet_of_words, show_look, sync_in as sync_of_words, task_of};
+ghost use Rattle.run_words.specs.Exports.{export_in as export_of_words};
 ghost use Rattle.run_words.specs.Helps.{help_of as help_of_words};
 ghost use Rattle.run_words.specs.Views.{task_view};
+ghost use Rattle.run_words.specs.Words.{bytes_of};
 
-use crate::between::{BetweenWords, between_words};
-use crate::capture::{CaptureWords, capture_words};
-use crate::form::{ValueOption, WordForm, has_flag, is_of_form, plain_at, value_of};
+use crate::between::{BetweenWords, between_in};
+use crate::capture::{CaptureWords, capture_in};
 use crate::hexadecimal::is_hex;
-use crate::look::{Export, ImportForm, Look, LookWords, export_form_in, import_form_in};
+use crate::like::import_in;
+use crate::look::{Export, ImportForm, Look, LookWords, export_form_in};
 use crate::number::{count_in, number_in};
-use crate::run::{RunWords, run_words};
-use crate::topic::{Topic, help_of};
-
-/// The form of the words behind `check`, `verify` and `picture`.
-pub const FILE: WordForm<'static> = WordForm {
-    plain: &["file"],
-    options: &[],
-    flags: &[],
-};
-
-/// The form of the words behind `show`.
-pub const SHOW: WordForm<'static> = WordForm {
-    plain: &["file"],
-    options: &[],
-    flags: &["records"],
-};
-
-/// The form of the words behind `export`.
-pub const EXPORT: WordForm<'static> = WordForm {
-    plain: &["file"],
-    options: &[
-        ValueOption {
-            name: "as",
-            is_required: true,
-        },
-        ValueOption {
-            name: "date",
-            is_required: false,
-        },
-    ],
-    flags: &["without-private", "keep-broken"],
-};
-
-/// The form of the words behind `import`.
-pub const IMPORT: WordForm<'static> = WordForm {
-    plain: &["file"],
-    options: &[ValueOption {
-        name: "as",
-        is_required: true,
-    }],
-    flags: &[],
-};
-
-/// The form of the words behind `packet`.
-pub const PACKET: WordForm<'static> = WordForm {
-    plain: &["hex"],
-    options: &[],
-    flags: &[],
-};
-
-/// The form of the words behind `make`.
-pub const MAKE: WordForm<'static> = WordForm {
-    plain: &["seed", "count"],
-    options: &[],
-    flags: &[],
-};
+use crate::reading::Reading;
+use crate::run::{RunWords, run_in};
+use crate::spoken::right_words;
+use crate::tables::form_behind;
+use crate::topic::{CommandWord, Topic, command_named, help_of};
 
 /// A search for packets.
 #[derive(Clone, Copy)]
@@ -141,204 +89,108 @@ fn help_command<'a>(words: &'a [String]) -> Option<Command<'a>>
 pub fn deed_of<'a>(now: Option<u32>, words: &'a [String]) -> Option<Command<'a>>
     ensures { option_map task_view result ≡ deed_of_words now (map string_bytes words.entry.now) }
 {
-    let [command, words @ ..] = words else {
-        return None;
-    };
-    match command.as_str() {
-        "run" => run_command(now, words),
-        "check" => look_command(Look::Check, words),
-        "show" => show_command(words),
-        "export" => export_command(now, words),
-        "import" => import_command(words),
-        "verify" => look_command(Look::Verify, words),
-        "picture" => look_command(Look::Picture, words),
-        "packet" => packet_command(words),
-        "make" => make_command(words),
-        "install" => install_command(words),
-        "backup" => backup_command(words),
-        "restore" => restore_command(words),
-        "device" => device_command(words),
-        "categories" => categories_command(words),
-        _ => None,
+    let command = command_named(words)?;
+    let spoken = right_words(now, form_behind(command), words)?;
+    command_in(now, command, &spoken)
+}
+
+/// What words of its form ask for behind a command.
+pub fn command_in<'a, R: Reading<'a>>(
+    now: Option<u32>,
+    command: CommandWord,
+    words: &R,
+) -> Option<Command<'a>>
+    ensures { option_map task_view result ≡ meaning now command (R.given words.now) }
+{
+    match command {
+        CommandWord::Run => run_command(now, words),
+        CommandWord::Check => look_in(Look::Check, words),
+        CommandWord::Show => look_in(show_in(words), words),
+        CommandWord::Export => look_in(Look::Export(export_in(now, words)?), words),
+        CommandWord::Import => look_in(Look::Import(lone_import_in(words)?), words),
+        CommandWord::Verify => look_in(Look::Verify, words),
+        CommandWord::Picture => look_in(Look::Picture, words),
+        CommandWord::Packet => Some(Command::Packet(packet_in(words)?)),
+        CommandWord::Install => Some(Command::Install(between_in(words)?)),
+        CommandWord::Backup => Some(Command::Backup(between_in(words)?)),
+        CommandWord::Restore => Some(Command::Restore(between_in(words)?)),
+        CommandWord::Device => Some(Command::Device(capture_in(words)?)),
+        CommandWord::Categories => Some(Command::Categories(between_in(words)?)),
+        CommandWord::Sync => None,
+        CommandWord::Make => Some(Command::Make(make_in(words)?)),
     }
 }
 
-// The run that the words behind `run` ask for, a dry one where they say so.
-fn run_command<'a>(now: Option<u32>, words: &'a [String]) -> Option<Command<'a>>
-    ensures { option_map task_view result ≡ sync_of now (map string_bytes words.entry.now) }
+// The run that the words ask for, a dry one where they say so.
+fn run_command<'a, R: Reading<'a>>(now: Option<u32>, words: &R) -> Option<Command<'a>>
+    ensures { option_map task_view result ≡ sync_of_words now (R.given words.now) }
 {
-    match run_words(now, words) {
-        Some(run) if has_flag(words, "dry-run") => Some(Command::DryRun(run)),
+    match run_in(now, words) {
+        Some(run) if words.said("dry-run").is_some() => Some(Command::DryRun(run)),
         Some(run) => Some(Command::Run(run)),
         None => None,
     }
 }
 
-// The look at the file that stands behind `check`, `verify` or `picture`.
-#[tactic(auto, unfolding(crate::specs::Commands::file_of))]
-fn look_command<'a>(look: Look, words: &'a [String]) -> Option<Command<'a>>
-    ensures { option_map task_view result
-        ≡ option_map (LookAt look) (file_of (map string_bytes words.entry.now)) }
+// The look at the file that the words give.
+fn look_in<'a, R: Reading<'a>>(look: Look, words: &R) -> Option<Command<'a>>
+    ensures { option_map task_view result ≡ look_of_words look (R.given words.now) }
 {
-    if !is_of_form(&FILE, words) {
-        return None;
-    }
-    let file = plain_at(words, 0)?;
+    let file = words.plain(0)?;
     Some(Command::Look(LookWords { look, file }))
 }
 
-// What is shown of a file, as words of that form say.
-fn show_in(words: &[String]) -> Look
-    ensures { result ≡ show_look (map string_bytes words.now) }
+// What is shown of a file, as the words say.
+fn show_in<'a, R: Reading<'a>>(words: &R) -> Look
+    ensures { result ≡ show_look (R.given words.now) }
 {
-    if has_flag(words, "records") {
+    if words.said("records").is_some() {
         Look::Records
     } else {
         Look::Show
     }
 }
 
-// The look at the file that stands behind `show`.
-#[tactic(auto, unfolding(crate::specs::Commands::show_of))]
-fn show_command<'a>(words: &'a [String]) -> Option<Command<'a>>
-    ensures { option_map task_view result ≡ show_of (map string_bytes words.entry.now) }
+// How the words want a database exported.
+fn export_in<'a, R: Reading<'a>>(now: Option<u32>, words: &R) -> Option<Export>
+    ensures { result ≡ export_of_words now (R.given words.now) }
 {
-    if !is_of_form(&SHOW, words) {
-        return None;
-    }
-    let file = plain_at(words, 0)?;
-    let look = show_in(words);
-    Some(Command::Look(LookWords { look, file }))
-}
-
-// How words of that form want a database exported.
-fn export_in(now: Option<u32>, words: &[String]) -> Option<Export>
-    ensures { result ≡ export_of_words now (map string_bytes words.now) }
-{
-    let form = export_form_in(now, value_of(words, "as")?, value_of(words, "date"))?;
+    let form = export_form_in(now, words.said("as")?, words.said("date"))?;
     Some(Export {
         form,
-        without_private: has_flag(words, "without-private"),
-        keep_broken: has_flag(words, "keep-broken"),
+        without_private: words.said("without-private").is_some(),
+        keep_broken: words.said("keep-broken").is_some(),
     })
 }
 
-// The look at the file that stands behind `export`.
-#[tactic(auto, unfolding(crate::specs::Commands::export_of))]
-fn export_command<'a>(now: Option<u32>, words: &'a [String]) -> Option<Command<'a>>
-    ensures { option_map task_view result ≡ export_of now (map string_bytes words.entry.now) }
+// The form of the text of which the words want a database, where they name no other file.
+fn lone_import_in<'a, R: Reading<'a>>(words: &R) -> Option<ImportForm>
+    ensures { result ≡ lone_import_of (R.given words.now) }
 {
-    if !is_of_form(&EXPORT, words) {
+    if words.said("like").is_some() {
         return None;
     }
-    let file = plain_at(words, 0)?;
-    let export = export_in(now, words)?;
-    let look = Look::Export(export);
-    Some(Command::Look(LookWords { look, file }))
+    import_in(words)
 }
 
-/// The form of the text of which words want a database.
-pub(crate) fn import_in(words: &[String]) -> Option<ImportForm>
-    ensures { result ≡ import_of_words (map string_bytes words.now) }
+// The hexadecimal that the words give.
+fn packet_in<'a, R: Reading<'a>>(words: &R) -> Option<PacketWords<'a>>
+    ensures { option_map (λ packet. bytes_of packet.hex.now) result
+        ≡ packet_of_words (R.given words.now) }
 {
-    import_form_in(value_of(words, "as")?)
-}
-
-// The look at the file that stands behind `import`.
-#[tactic(auto, unfolding(crate::specs::Commands::import_of))]
-fn import_command<'a>(words: &'a [String]) -> Option<Command<'a>>
-    ensures { option_map task_view result ≡ import_of (map string_bytes words.entry.now) }
-{
-    if !is_of_form(&IMPORT, words) {
-        return None;
-    }
-    let file = plain_at(words, 0)?;
-    let form = import_in(words)?;
-    let look = Look::Import(form);
-    Some(Command::Look(LookWords { look, file }))
-}
-
-// The hexadecimal behind `packet`.
-#[tactic(auto, unfolding(crate::specs::Commands::packet_of))]
-fn packet_command<'a>(words: &'a [String]) -> Option<Command<'a>>
-    ensures { option_map task_view result
-        ≡ option_map Scan (packet_of (map string_bytes words.entry.now)) }
-{
-    if !is_of_form(&PACKET, words) {
-        return None;
-    }
-    let hex = plain_at(words, 0)?;
+    let hex = words.plain(0)?;
     if !is_hex(hex.as_bytes()) {
         return None;
     }
-    Some(Command::Packet(PacketWords { hex }))
+    Some(PacketWords { hex })
 }
 
-// The seed and the count behind `make`.
-#[tactic(auto, unfolding(crate::specs::Commands::make_of))]
-fn make_command<'a>(words: &'a [String]) -> Option<Command<'a>>
-    ensures { option_map task_view result ≡ make_of (map string_bytes words.entry.now) }
+// The seed and the count that the words give.
+fn make_in<'a, R: Reading<'a>>(words: &R) -> Option<MakeWords>
+    ensures { option_map (λ make. Make make.seed make.count) result
+        ≡ make_of_words (R.given words.now) }
 {
-    if !is_of_form(&MAKE, words) {
-        return None;
-    }
-    let seed = number_in(plain_at(words, 0)?)?;
-    let count = count_in(plain_at(words, 1)?)?;
-    Some(Command::Make(MakeWords { seed, count }))
-}
-
-// The handheld and the file behind `install`. Its line loses nothing, so there is no script.
-#[tactic(auto, unfolding(crate::specs::Commands::install_of))]
-fn install_command<'a>(words: &'a [String]) -> Option<Command<'a>>
-    ensures { option_map task_view result ≡ install_of (map string_bytes words.entry.now) }
-{
-    let between = between_words(words)?;
-    if between.script.is_some() {
-        return None;
-    }
-    Some(Command::Install(between))
-}
-
-// The handheld and the folder behind `backup`.
-fn backup_command<'a>(words: &'a [String]) -> Option<Command<'a>>
-    ensures { option_map task_view result
-        ≡ option_map Backup (between_of (map string_bytes words.entry.now)) }
-{
-    match between_words(words) {
-        Some(between) => Some(Command::Backup(between)),
-        None => None,
-    }
-}
-
-// The handheld and the folder behind `restore`.
-fn restore_command<'a>(words: &'a [String]) -> Option<Command<'a>>
-    ensures { option_map task_view result
-        ≡ option_map Restore (between_of (map string_bytes words.entry.now)) }
-{
-    match between_words(words) {
-        Some(between) => Some(Command::Restore(between)),
-        None => None,
-    }
-}
-
-// The handheld and both files behind `device`.
-fn device_command<'a>(words: &'a [String]) -> Option<Command<'a>>
-    ensures { option_map task_view result
-        ≡ option_map Emulate (capture_of (map string_bytes words.entry.now)) }
-{
-    match capture_words(words) {
-        Some(capture) => Some(Command::Device(capture)),
-        None => None,
-    }
-}
-
-// The handheld and the desktop behind `categories`.
-fn categories_command<'a>(words: &'a [String]) -> Option<Command<'a>>
-    ensures { option_map task_view result
-        ≡ option_map Categories (between_of (map string_bytes words.entry.now)) }
-{
-    match between_words(words) {
-        Some(between) => Some(Command::Categories(between)),
-        None => None,
-    }
+    let seed = number_in(words.plain(0)?)?;
+    let count = count_in(words.plain(1)?)?;
+    Some(MakeWords { seed, count })
 }

@@ -5,22 +5,19 @@ ghost use Rattle.run_words.specs.Faults as spec;
 ghost use Rattle.run_words.specs.Views.{fault_view, form_view, option_view};
 
 use crate::action_list::is_actions;
-use crate::between::BETWEEN;
-use crate::cable::CABLE;
-use crate::capture::CAPTURE;
-use crate::command::{EXPORT, FILE, MAKE, PACKET, SHOW};
 use crate::form::{
-    ValueOption, WordForm, flag_count, is_word, option_count, plain_at, plain_count, value_of,
+    FormOption, WordForm, is_needed, is_word, name_of, option_named, plain_at, plain_count,
+    said_of, use_count,
 };
 use crate::hexadecimal::is_hex;
-use crate::like::LIKE;
 use crate::look::is_form_word;
 use crate::number::{count_in, number_in};
 use crate::only::are_stems;
-use crate::run::{RUN, date_in};
+use crate::run::date_in;
+use crate::tables::form_behind;
 use crate::topic::{CommandWord, command_word};
 use crate::user::user_in;
-use crate::word::{is_flag, is_option, is_plain};
+use crate::word::{behind, is_plain};
 
 /// What is wrong with a word.
 #[derive(Clone, Copy, PartialEq, Eq)]
@@ -56,72 +53,38 @@ pub struct WordFault<'a> {
     pub word: &'a str,
 }
 
-/// The form of the words behind `install`, whose line loses nothing.
-pub const INSTALL: WordForm<'static> = WordForm {
-    plain: &["handheld", "file"],
-    options: &[ValueOption {
-        name: "trace",
-        is_required: false,
-    }],
-    flags: &[],
-};
-
-// The form of the words behind a command.
-fn form_behind(command: CommandWord) -> WordForm<'static>
-    ensures { form_view result ≡ spec.form_behind command }
-{
-    match command {
-        CommandWord::Run => RUN,
-        CommandWord::Check => FILE,
-        CommandWord::Show => SHOW,
-        CommandWord::Export => EXPORT,
-        CommandWord::Import => LIKE,
-        CommandWord::Verify => FILE,
-        CommandWord::Picture => FILE,
-        CommandWord::Packet => PACKET,
-        CommandWord::Install => INSTALL,
-        CommandWord::Backup => BETWEEN,
-        CommandWord::Restore => BETWEEN,
-        CommandWord::Device => CAPTURE,
-        CommandWord::Categories => BETWEEN,
-        CommandWord::Sync => CABLE,
-        CommandWord::Make => MAKE,
-    }
-}
-
 // ---- words that are none of the form
 
-// Whether a word is this option without a value.
-fn lacks_this(option: &ValueOption<'_>, word: &str) -> bool
-    ensures { result ≡ spec.lacks_this word.now (option_view option.now) }
+// The name that a word gives to an option or a flag, with a value or without.
+fn name_in(word: &str) -> &str
+    ensures { result.now ≡ spec.name_in word.entry.now }
 {
-    is_flag(word, option.name) || is_option(word, option.name)
-}
-
-// Whether a word is an option of the form without a value.
-fn lacks_value(form: &WordForm<'_>, word: &str) -> bool
-    ensures { result ≡ spec.lacks_value (form_view form.now) word.now }
-{
-    form.options.iter().any(|option| lacks_this(option, word))
-}
-
-// Whether a word is a flag of the form with a value.
-fn gives_value(form: &WordForm<'_>, word: &str) -> bool
-    ensures { result ≡ spec.gives_value (form_view form.now) word.now }
-{
-    form.flags.iter().any(|flag| is_option(word, *flag))
+    let Some(rest) = behind(word, "--") else {
+        return "";
+    };
+    match rest.split_once('=') {
+        Some((name, _)) => name,
+        None => rest,
+    }
 }
 
 // What is wrong with a word that is none of the form.
 fn kind_of(form: &WordForm<'_>, word: &str) -> FaultKind
     ensures { result ≡ spec.strange_kind (form_view form.now) word.now }
 {
-    if lacks_value(form, word) {
-        FaultKind::NoValue
-    } else if gives_value(form, word) {
-        FaultKind::ExtraValue
-    } else {
-        FaultKind::UnknownOption
+    match option_named(form, name_in(word)) {
+        Some(option) => misspelt(&option),
+        None => FaultKind::UnknownOption,
+    }
+}
+
+// What is wrong with an option that stands so.
+fn misspelt(option: &FormOption<'_>) -> FaultKind
+    ensures { result ≡ spec.misspelt (option_view option.now).kind }
+{
+    match option {
+        FormOption::Flag(_) => FaultKind::ExtraValue,
+        _ => FaultKind::NoValue,
     }
 }
 
@@ -152,75 +115,67 @@ fn strange_word<'a>(form: &WordForm<'_>, words: &'a [String]) -> Option<WordFaul
     })
 }
 
-// ---- options and flags that don't stand as they have to
+// ---- options
 
-// Whether an option stands more than once.
-fn is_twice(option: &ValueOption<'_>, words: &[String]) -> bool
-    ensures { result ≡ spec.is_twice (map string_bytes words.now) (option_view option.now) }
+// Whether the value of an option means nothing.
+fn is_bad_value(now: Option<u32>, name: &str, value: &str) -> bool
+    ensures { result ≡ spec.is_bad_value now name.now value.now }
 {
-    option_count(words, option.name) > 1
-}
-
-// Whether an option has to stand and doesn't.
-fn is_missing(option: &ValueOption<'_>, words: &[String]) -> bool
-    ensures { result ≡ spec.is_missing (map string_bytes words.now) (option_view option.now) }
-{
-    option.is_required && option_count(words, option.name) == 0
-}
-
-// The first option that stands more than once.
-fn option_twice<'a>(form: &WordForm<'a>, words: &[String]) -> Option<&'a ValueOption<'a>>
-    ensures { option_map option_view (option_copied result)
-        ≡ find (spec.is_twice (map string_bytes words.now)) (form_view form.now).options }
-{
-    form.options.iter().find(|option| is_twice(option, words))
-}
-
-// The first option that has to stand and doesn't.
-fn option_missing<'a>(form: &WordForm<'a>, words: &[String]) -> Option<&'a ValueOption<'a>>
-    ensures { option_map option_view (option_copied result)
-        ≡ find (spec.is_missing (map string_bytes words.now)) (form_view form.now).options }
-{
-    form.options.iter().find(|option| is_missing(option, words))
-}
-
-// The first flag that stands more than once.
-fn flag_twice<'a>(form: &WordForm<'a>, words: &[String]) -> Option<&'a &'a str>
-    ensures { option_map (λ flag. flag.now) (option_copied result)
-        ≡ find (spec.is_flag_twice (map string_bytes words.now)) (form_view form.now).flags }
-{
-    form.flags.iter().find(|flag| flag_count(words, **flag) > 1)
-}
-
-// What stands more than once.
-fn twice_fault<'a>(form: &WordForm<'a>, words: &[String]) -> Option<WordFault<'a>>
-    ensures { option_map fault_view result
-        ≡ spec.twice_fault (form_view form.now) (map string_bytes words.now) }
-{
-    match option_twice(form, words) {
-        Some(option) => Some(WordFault {
-            kind: FaultKind::Twice,
-            word: option.name,
-        }),
-        None => {
-            let word = *flag_twice(form, words)?;
-            Some(WordFault {
-                kind: FaultKind::Twice,
-                word,
-            })
-        }
+    match name {
+        "date" => date_in(now, value).is_none(),
+        "actions" => !is_actions(value),
+        "only" => !are_stems(value),
+        "as" => !is_form_word(value),
+        "user" => user_in(value).is_none(),
+        _ => false,
     }
 }
 
-// The option that has to stand and doesn't.
-fn missing_fault<'a>(form: &WordForm<'a>, words: &[String]) -> Option<WordFault<'a>>
-    ensures { option_map fault_view result
-        ≡ spec.missing_fault (form_view form.now) (map string_bytes words.now) }
+// Whether an option has this fault: it stands more than once, or it has to stand and doesn't, or its value means nothing.
+fn is_faulty(kind: FaultKind, now: Option<u32>, words: &[String], option: &FormOption<'_>) -> bool
+    ensures { result ≡ spec.is_faulty kind now (map string_bytes words.now)
+        (option_view option.now) }
 {
-    let option = option_missing(form, words)?;
+    match kind {
+        FaultKind::Twice => use_count(words, option) > 1,
+        FaultKind::Missing => is_needed(option) && use_count(words, option) == 0,
+        FaultKind::BadOption => match said_of(words, option) {
+            Some(value) => is_bad_value(now, name_of(option), value),
+            None => false,
+        },
+        _ => false,
+    }
+}
+
+// The first option of the form with this fault.
+fn faulty_option<'a>(
+    kind: FaultKind,
+    now: Option<u32>,
+    form: &WordForm<'a>,
+    words: &[String],
+) -> Option<&'a FormOption<'a>>
+    ensures { option_map option_view (option_copied result)
+        ≡ find (spec.is_faulty kind now (map string_bytes words.now)) (form_view form.now).options }
+{
+    form.options
+        .iter()
+        .find(|option| is_faulty(kind, now, words, option))
+}
+
+/// The first option of the form with this fault.
+pub(crate) fn option_fault<'a>(
+    kind: FaultKind,
+    now: Option<u32>,
+    form: &WordForm<'a>,
+    words: &[String],
+) -> Option<WordFault<'a>>
+    ensures { option_map fault_view result
+        ≡ spec.option_fault kind now (form_view form.now) (map string_bytes words.now) }
+{
+    let option = faulty_option(kind, now, form, words)?;
     Some(WordFault {
-        kind: FaultKind::Missing,
-        word: option.name,
+        kind,
+        word: name_of(option),
     })
 }
 
@@ -249,58 +204,6 @@ fn few_words<'a>(form: &WordForm<'_>, command: &'a str, words: &[String]) -> Opt
     Some(WordFault {
         kind: FaultKind::TooFew,
         word: command,
-    })
-}
-
-// ---- values
-
-// Whether the value of an option means nothing.
-fn is_bad_value(now: Option<u32>, name: &str, value: &str) -> bool
-    ensures { result ≡ spec.is_bad_value now name.now value.now }
-{
-    match name {
-        "date" => date_in(now, value).is_none(),
-        "actions" => !is_actions(value),
-        "only" => !are_stems(value),
-        "as" => !is_form_word(value),
-        "user" => user_in(value).is_none(),
-        _ => false,
-    }
-}
-
-// Whether the value that the words give an option means nothing.
-fn is_wrong(now: Option<u32>, words: &[String], option: &ValueOption<'_>) -> bool
-    ensures { result ≡ spec.is_wrong now (map string_bytes words.now) (option_view option.now) }
-{
-    match value_of(words, option.name) {
-        Some(value) => is_bad_value(now, option.name, value),
-        None => false,
-    }
-}
-
-// The first option whose value means nothing.
-fn option_wrong<'a>(
-    now: Option<u32>,
-    form: &WordForm<'a>,
-    words: &[String],
-) -> Option<&'a ValueOption<'a>>
-    ensures { option_map option_view (option_copied result)
-        ≡ find (spec.is_wrong now (map string_bytes words.now)) (form_view form.now).options }
-{
-    form.options
-        .iter()
-        .find(|option| is_wrong(now, words, option))
-}
-
-// The option whose value means nothing.
-fn value_fault<'a>(now: Option<u32>, form: &WordForm<'a>, words: &[String]) -> Option<WordFault<'a>>
-    ensures { option_map fault_view result
-        ≡ spec.value_fault now (form_view form.now) (map string_bytes words.now) }
-{
-    let option = option_wrong(now, form, words)?;
-    Some(WordFault {
-        kind: FaultKind::BadOption,
-        word: option.name,
     })
 }
 
@@ -356,13 +259,13 @@ fn form_fault<'a>(
     if let Some(fault) = strange_word(form, words) {
         return Some(fault);
     }
-    if let Some(fault) = twice_fault(form, words) {
+    if let Some(fault) = option_fault(FaultKind::Twice, None, form, words) {
         return Some(fault);
     }
     if let Some(fault) = extra_word(form, words) {
         return Some(fault);
     }
-    match missing_fault(form, words) {
+    match option_fault(FaultKind::Missing, None, form, words) {
         Some(fault) => Some(fault),
         None => few_words(form, command, words),
     }
@@ -382,7 +285,7 @@ fn command_fault<'a>(
     if let Some(fault) = form_fault(&form, command, words) {
         return Some(fault);
     }
-    match value_fault(now, &form, words) {
+    match option_fault(FaultKind::BadOption, now, &form, words) {
         Some(fault) => Some(fault),
         None => bad_word(known, words),
     }

@@ -1,18 +1,20 @@
 // The form of the words behind a command, as a table, and what words hold by it.
-ghost use Rattle.std.specs.Prelude.{◌≡◌, length, map, option_copied, string_bytes};
+ghost use Rattle.std.specs.Prelude.{◌≡◌, length, map, option_copied, option_map, string_bytes};
 ghost use Rattle.std.specs.List.{list_all, list_any};
 ghost use Rattle.run_words.specs.Forms as spec;
 ghost use Rattle.run_words.specs.Views.{form_view, option_view};
 
-use crate::word::{has_value, is_flag, is_option, is_plain, value_in};
+use crate::word::{is_flag, is_plain, value_in};
 
-/// An option `--NAME=VALUE`.
+/// An option, by its name.
 #[derive(Clone, Copy)]
-pub struct ValueOption<'a> {
-    /// Its name.
-    pub name: &'a str,
-    /// Whether it has to stand.
-    pub is_required: bool,
+pub enum FormOption<'a> {
+    /// `--NAME=VALUE`, which has to stand.
+    Needed(&'a str),
+    /// `--NAME=VALUE`, which may stand.
+    Allowed(&'a str),
+    /// The flag `--NAME`, which may stand.
+    Flag(&'a str),
 }
 
 /// The form of the words behind a command.
@@ -20,33 +22,61 @@ pub struct ValueOption<'a> {
 pub struct WordForm<'a> {
     /// The names of its plain words, in their order.
     pub plain: &'a [&'a str],
-    /// Its options with a value.
-    pub options: &'a [ValueOption<'a>],
-    /// The names of its flags, each a word `--NAME`.
-    pub flags: &'a [&'a str],
+    /// Its options.
+    pub options: &'a [FormOption<'a>],
 }
 
-// Whether a word is one of these options, with a value that isn't empty.
-fn is_option_of(options: &[ValueOption<'_>], word: &str) -> bool
-    ensures { result ≡ list_any (λ option. spec.has_value option.name word.now)
-        (map option_view options.now) }
+/// The name of an option.
+pub fn name_of<'a>(option: &FormOption<'a>) -> &'a str
+    ensures { result.now ≡ (option_view option.now).name }
 {
-    options.iter().any(|option| has_value(word, option.name))
+    match *option {
+        FormOption::Needed(name) => name,
+        FormOption::Allowed(name) => name,
+        FormOption::Flag(name) => name,
+    }
 }
 
-// Whether a word is one of these flags.
-fn is_flag_of(flags: &[&str], word: &str) -> bool
-    ensures { result ≡ list_any (λ flag. spec.is_flag flag word.now)
-        (map (λ flag. flag.now) flags.now) }
+// That a flag stands, or not.
+fn flag_said<'a>(stands: bool) -> Option<&'a str>
+    ensures { option_copied result ≡ spec.flag_said stands }
 {
-    flags.iter().any(|flag| is_flag(word, *flag))
+    if stands { Some("true") } else { None }
 }
 
-// A plain word, or an option of the form with a value that isn't empty, or a flag of it.
+// What a word says of an option: its value, or that it stands.
+fn said_in<'a>(word: &'a str, option: &FormOption<'_>) -> Option<&'a str>
+    ensures { option_copied result ≡ spec.said_in (option_view option.now) word.entry.now }
+{
+    match *option {
+        FormOption::Needed(name) => value_in(word, name),
+        FormOption::Allowed(name) => value_in(word, name),
+        FormOption::Flag(name) => flag_said(is_flag(word, name)),
+    }
+}
+
+// Whether a word says something of an option, and no empty value.
+fn is_use(word: &str, option: &FormOption<'_>) -> bool
+    ensures { result ≡ spec.is_use word.now (option_view option.now) }
+{
+    match said_in(word, option) {
+        Some(said) => !said.is_empty(),
+        None => false,
+    }
+}
+
+// Whether a word is one of these options.
+fn is_one_of(options: &[FormOption<'_>], word: &str) -> bool
+    ensures { result ≡ list_any (spec.is_use word.now) (map option_view options.now) }
+{
+    options.iter().any(|option| is_use(word, option))
+}
+
+// A plain word, or an option of the form.
 pub(crate) fn is_word(form: &WordForm<'_>, word: &str) -> bool
     ensures { result ≡ spec.is_word (form_view form.now) word.now }
 {
-    is_plain(word.as_bytes()) || is_option_of(form.options, word) || is_flag_of(form.flags, word)
+    is_plain(word.as_bytes()) || is_one_of(form.options, word)
 }
 
 // Whether each of the words is one of the form.
@@ -67,52 +97,44 @@ pub(crate) fn plain_count(words: &[String]) -> usize
         .count()
 }
 
-// How many of the words begin with `--NAME=`.
-pub(crate) fn option_count(words: &[String], name: &str) -> usize
-    ensures { result ≡ spec.option_count name.now (map string_bytes words.now) }
+// How many of the words say something of an option.
+pub(crate) fn use_count(words: &[String], option: &FormOption<'_>) -> usize
+    ensures { result ≡ spec.use_count (option_view option.now) (map string_bytes words.now) }
 {
     words
         .iter()
-        .filter(|word| is_option(word.as_str(), name))
+        .filter(|word| said_in(word.as_str(), option).is_some())
         .count()
 }
 
-// How many of the words are `--NAME`.
-pub(crate) fn flag_count(words: &[String], name: &str) -> usize
-    ensures { result ≡ spec.flag_count name.now (map string_bytes words.now) }
+// Whether an option has to stand.
+pub(crate) fn is_needed(option: &FormOption<'_>) -> bool
+    ensures { result ≡ spec.is_needed (option_view option.now).kind }
 {
-    words
-        .iter()
-        .filter(|word| is_flag(word.as_str(), name))
-        .count()
+    match option {
+        FormOption::Needed(_) => true,
+        _ => false,
+    }
 }
 
 // Whether the option stands at most once, and not never where it has to stand.
-fn fits_option(option: &ValueOption<'_>, words: &[String]) -> bool
+fn fits_option(option: &FormOption<'_>, words: &[String]) -> bool
     ensures { result ≡ spec.fits_option (map string_bytes words.now) (option_view option.now) }
 {
-    let count = option_count(words, option.name);
-    count <= 1 && (!option.is_required || 1 <= count)
+    let count = use_count(words, option);
+    count <= 1 && (!is_needed(option) || 1 <= count)
 }
 
 // Whether each of the options stands as it has to.
-fn fit_options(options: &[ValueOption<'_>], words: &[String]) -> bool
+fn fit_options(options: &[FormOption<'_>], words: &[String]) -> bool
     ensures { result ≡ list_all (spec.fits_option (map string_bytes words.now))
         (map option_view options.now) }
 {
     options.iter().all(|option| fits_option(option, words))
 }
 
-// Whether each of the flags stands at most once.
-fn fit_flags(flags: &[&str], words: &[String]) -> bool
-    ensures { result ≡ list_all (spec.fits_flag (map string_bytes words.now))
-        (map (λ flag. flag.now) flags.now) }
-{
-    flags.iter().all(|flag| flag_count(words, *flag) <= 1)
-}
-
-/// Whether words are of a form: each is a plain word, an option of the form with a value that isn't empty or a flag of it, as
-/// many are plain as the form has, and each option and each flag stands as it has to.
+/// Whether words are of a form: each is a plain word or an option of the form, as many are plain as the form has, and each
+/// option stands as it has to.
 #[tactic(auto, unfolding(crate::specs::Forms::is_of_form))]
 pub fn is_of_form(form: &WordForm<'_>, words: &[String]) -> bool
     ensures { result ≡ spec.is_of_form (form_view form.now) (map string_bytes words.now) }
@@ -120,7 +142,22 @@ pub fn is_of_form(form: &WordForm<'_>, words: &[String]) -> bool
     are_words(form, words)
         && plain_count(words) == form.plain.len()
         && fit_options(form.options, words)
-        && fit_flags(form.flags, words)
+}
+
+// The option of a name, where it lies.
+fn find_option<'a>(form: &WordForm<'a>, name: &str) -> Option<&'a FormOption<'a>>
+    ensures { option_map option_view (option_copied result)
+        ≡ spec.option_named (form_view form.now) name.now }
+{
+    form.options.iter().find(|option| name_of(option) == name)
+}
+
+/// The option of a name.
+pub fn option_named<'a>(form: &WordForm<'a>, name: &str) -> Option<FormOption<'a>>
+    ensures { option_map option_view result ≡ spec.option_named (form_view form.now) name.now }
+{
+    let option = find_option(form, name)?;
+    Some(*option)
 }
 
 /// The plain word at a place among the plain words.
@@ -156,4 +193,16 @@ pub fn has_flag(words: &[String], name: &str) -> bool
     ensures { result ≡ spec.has_flag name.now (map string_bytes words.now) }
 {
     words.iter().any(|word| is_flag(word.as_str(), name))
+}
+
+/// What the first of the words says that says something of an option.
+pub fn said_of<'a>(words: &'a [String], option: &FormOption<'_>) -> Option<&'a str>
+    ensures { option_copied result
+        ≡ spec.said_of (map string_bytes words.entry.now) (option_view option.now) }
+{
+    match *option {
+        FormOption::Needed(name) => value_of(words, name),
+        FormOption::Allowed(name) => value_of(words, name),
+        FormOption::Flag(name) => flag_said(has_flag(words, name)),
+    }
 }

@@ -1,27 +1,14 @@
 // The words of an import in the categories of another file.
 ghost use Rattle.std.specs.Prelude.{◌≡◌, map, string_bytes, option_map};
-ghost use Rattle.run_words.specs.Likes.{begins_like, like_in as like_of_words, like_of, liking_of};
+ghost use Rattle.run_words.specs.Exports.{import_in as import_of_words};
+ghost use Rattle.run_words.specs.Likes.{begins_like, like_in as like_of_words, liking_of, names_like as names_other};
 ghost use Rattle.run_words.specs.Views.{like_view};
 
-use crate::command::import_in;
-use crate::form::{ValueOption, WordForm, has_flag, is_of_form, plain_at, value_of};
-use crate::look::ImportForm;
-
-/// The form of the words behind `import`, where another file may be named.
-pub const LIKE: WordForm<'static> = WordForm {
-    plain: &["file"],
-    options: &[
-        ValueOption {
-            name: "as",
-            is_required: true,
-        },
-        ValueOption {
-            name: "like",
-            is_required: false,
-        },
-    ],
-    flags: &[],
-};
+use crate::form::{has_flag, value_of};
+use crate::look::{ImportForm, import_form_in};
+use crate::reading::Reading;
+use crate::spoken::{begins, behind_first, right_words};
+use crate::tables::IMPORT;
 
 /// A text, and the file whose categories its database has.
 #[derive(Clone, Copy)]
@@ -34,26 +21,28 @@ pub struct LikeWords<'a> {
     pub like: &'a str,
 }
 
-// What words of the form give.
-fn like_in<'a>(words: &'a [String]) -> Option<LikeWords<'a>>
-    ensures { option_map like_view result ≡ like_of_words (map string_bytes words.entry.now) }
+// The form of the text of which the words want a database.
+pub(crate) fn import_in<'a, R: Reading<'a>>(words: &R) -> Option<ImportForm>
+    ensures { result ≡ import_of_words (R.given words.now) }
 {
-    let file = plain_at(words, 0)?;
+    import_form_in(words.said("as")?)
+}
+
+/// What words of its form give.
+pub fn like_in<'a, R: Reading<'a>>(words: &R) -> Option<LikeWords<'a>>
+    ensures { option_map like_view result ≡ like_of_words (R.given words.now) }
+{
+    let file = words.plain(0)?;
     let form = import_in(words)?;
-    let like = value_of(words, "like")?;
+    let like = words.said("like")?;
     Some(LikeWords { form, file, like })
 }
 
-// What the words behind `import` give, in any order.
-#[tactic(auto, unfolding(crate::specs::Likes::like_of))]
-fn like_words<'a>(words: &'a [String]) -> Option<LikeWords<'a>>
-    ensures { option_map like_view result ≡ like_of (map string_bytes words.entry.now) }
+// Whether one of the words names another file, and none asks for help.
+fn names_like(words: &[String]) -> bool
+    ensures { result ≡ names_other (map string_bytes words.now) }
 {
-    if is_of_form(&LIKE, words) {
-        like_in(words)
-    } else {
-        None
-    }
+    value_of(words, "like").is_some() && !has_flag(words, "help")
 }
 
 /// Whether the words ask for an import in the categories of another file: the first is `import`, and of those behind it one
@@ -61,14 +50,7 @@ fn like_words<'a>(words: &'a [String]) -> Option<LikeWords<'a>>
 pub fn is_liking(words: &[String]) -> bool
     ensures { result ≡ begins_like (map string_bytes words.now) }
 {
-    match words {
-        [command, words @ ..] => {
-            command.as_str() == "import"
-                && value_of(words, "like").is_some()
-                && !has_flag(words, "help")
-        }
-        [] => false,
-    }
+    begins(words, "import") && names_like(behind_first(words))
 }
 
 /// The import in the categories of another file that these words ask for, or `None` exactly where they are not in its form.
@@ -76,11 +58,9 @@ pub fn is_liking(words: &[String]) -> bool
 pub fn liking_words<'a>(words: &'a [String]) -> Option<LikeWords<'a>>
     ensures { option_map like_view result ≡ liking_of (map string_bytes words.entry.now) }
 {
-    let [command, words @ ..] = words else {
+    if !begins(words, "import") {
         return None;
-    };
-    match command.as_str() {
-        "import" => like_words(words),
-        _ => None,
     }
+    let spoken = right_words(None, IMPORT, words)?;
+    like_in(&spoken)
 }

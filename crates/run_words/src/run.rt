@@ -1,46 +1,12 @@
 // The words of a run.
-ghost use Rattle.std.specs.Prelude.{◌≡◌, map, string_bytes, option_map};
+ghost use Rattle.std.specs.Prelude.{◌≡◌, option_map};
 ghost use Rattle.pdb_values.specs.PalmDates.{if_later};
-ghost use Rattle.run_words.specs.Runs.{are_actions_right as are_right, date_at, date_of as date_at_now, run_in as run_of_words, run_of};
+ghost use Rattle.run_words.specs.Runs.{date_at, run_in as run_of_words};
 ghost use Rattle.run_words.specs.Views.{run_view};
 
-use crate::action_list::is_actions;
-use crate::choice::{ChoiceWords, choice_in, is_only_right};
-use crate::form::{ValueOption, WordForm, has_flag, is_of_form, plain_at, value_of};
-use crate::user::is_user_right;
+use crate::choice::{ChoiceWords, choice_in};
+use crate::reading::Reading;
 use pdb_values::PalmDate;
-
-/// The form of the words behind `run`.
-pub const RUN: WordForm<'static> = WordForm {
-    plain: &["handheld", "desktop"],
-    options: &[
-        ValueOption {
-            name: "date",
-            is_required: true,
-        },
-        ValueOption {
-            name: "script",
-            is_required: false,
-        },
-        ValueOption {
-            name: "trace",
-            is_required: false,
-        },
-        ValueOption {
-            name: "only",
-            is_required: false,
-        },
-        ValueOption {
-            name: "actions",
-            is_required: false,
-        },
-        ValueOption {
-            name: "user",
-            is_required: false,
-        },
-    ],
-    flags: &["slow", "add-user", "dry-run"],
-};
 
 /// A run, as the words ask for it.
 #[derive(Drop)]
@@ -88,49 +54,22 @@ fn later_date(seconds: Option<u32>) -> Option<PalmDate>
     }
 }
 
-/// Whether the actions, where the words give any, are the text of some.
-pub(crate) fn are_actions_right(words: &[String]) -> bool
-    ensures { result ≡ are_right (map string_bytes words.now) }
+// The run that the words give, at the date now.
+pub(crate) fn run_in<'a, R: Reading<'a>>(now: Option<u32>, words: &R) -> Option<RunWords<'a>>
+    ensures { option_map run_view result ≡ run_of_words now (R.given words.now) }
 {
-    match value_of(words, "actions") {
-        Some(actions) => is_actions(actions),
-        None => true,
-    }
-}
-
-// The run that words of its form give, at the date now.
-fn run_in<'a>(now: Option<u32>, words: &'a [String]) -> Option<RunWords<'a>>
-    ensures { option_map run_view result
-        ≡ run_of_words now (map string_bytes words.entry.now) }
-{
-    let handheld = plain_at(words, 0)?;
-    let desktop = plain_at(words, 1)?;
-    let date = date_in(now, value_of(words, "date")?)?;
+    let handheld = words.plain(0)?;
+    let desktop = words.plain(1)?;
+    let date = date_in(now, words.said("date")?)?;
     Some(RunWords {
         handheld,
         desktop,
         date,
-        script: value_of(words, "script"),
-        trace: value_of(words, "trace"),
+        script: words.said("script"),
+        trace: words.said("trace"),
         choice: choice_in(words),
-        slow: has_flag(words, "slow"),
-        user: value_of(words, "user"),
-        add_user: has_flag(words, "add-user"),
+        slow: words.said("slow").is_some(),
+        user: words.said("user"),
+        add_user: words.said("add-user").is_some(),
     })
-}
-
-/// The run that the words behind `run` ask for, in any order, at the date now.
-#[tactic(auto, unfolding(crate::specs::Runs::run_of))]
-pub fn run_words<'a>(now: Option<u32>, words: &'a [String]) -> Option<RunWords<'a>>
-    ensures { option_map run_view result ≡ run_of now (map string_bytes words.entry.now) }
-{
-    if is_of_form(&RUN, words)
-        && are_actions_right(words)
-        && is_only_right(words)
-        && is_user_right(words)
-    {
-        run_in(now, words)
-    } else {
-        None
-    }
 }

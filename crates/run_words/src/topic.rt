@@ -1,6 +1,6 @@
 // Words that ask for help, and of what.
 ghost use Rattle.std.specs.Prelude.{◌≡◌, map, option_map, string_bytes};
-ghost use Rattle.run_words.specs.Helps.{alone as is_alone, command_word as word_of_command, flagged_help, help_behind as help_of_rest, help_by as help_by_first, help_of as help_of_words};
+ghost use Rattle.run_words.specs.Helps.{alone as is_alone, command_named as named_by_first, command_word as word_of_command, flagged_help, help_behind as help_of_rest, help_by as help_by_first, help_of as help_of_words};
 ghost use Rattle.run_words.specs.declared.topic.Topic.TheVariants.{Of};
 
 use crate::form::has_flag;
@@ -73,6 +73,13 @@ pub fn command_word(word: &str) -> Option<CommandWord>
         "make" => Some(CommandWord::Make),
         _ => None,
     }
+}
+
+/// The command that the first of some words names.
+pub fn command_named(words: &[String]) -> Option<CommandWord>
+    ensures { result ≡ named_by_first (map string_bytes words.now) }
+{
+    command_word(words.first()?.as_str())
 }
 
 // The help of the command that a word names.

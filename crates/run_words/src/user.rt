@@ -1,8 +1,7 @@
 // The name of a user as a word.
-ghost use Rattle.std.specs.Prelude.{◌≡◌, map, option_copied, string_bytes};
-ghost use Rattle.run_words.specs.UserNames.{is_user_right as is_right, user_of, wished_name as wished};
+ghost use Rattle.std.specs.Prelude.{◌≡◌, option_copied};
+ghost use Rattle.run_words.specs.UserNames.{user_of, wished_name as wished};
 
-use crate::form::value_of;
 use arrayvec::ArrayVec;
 use memo_texts::byte_of;
 use pdb_values::UserName;
@@ -25,16 +24,6 @@ pub fn user_in(word: &str) -> Option<UserName>
         return None;
     }
     UserName::new(bytes.as_slice())
-}
-
-/// Whether what `--user` gives, where it stands, is a name.
-pub(crate) fn is_user_right(words: &[String]) -> bool
-    ensures { result ≡ is_right (map string_bytes words.now) }
-{
-    match value_of(words, "user") {
-        Some(user) => user_in(user).is_some(),
-        None => true,
-    }
 }
 
 /// The name that is asked for, by what `--user` gives. An empty one is none.

@@ -3,8 +3,8 @@ ghost use Rattle.std.specs.Prelude.{◌≡◌, option_copied};
 ghost use Rattle.run_words.specs.Forms as spec;
 ghost use Rattle.run_words.specs.Words.{after, is_plain as is_plain_word};
 
-// What follows a first part of a word.
-fn behind<'a>(word: &'a str, part: &str) -> Option<&'a str>
+/// What follows a first part of a word.
+pub fn behind<'a>(word: &'a str, part: &str) -> Option<&'a str>
     ensures { option_copied result ≡ after part.now word.now }
 {
     word.strip_prefix(part)
@@ -15,23 +15,6 @@ pub fn value_in<'a>(word: &'a str, name: &str) -> Option<&'a str>
     ensures { option_copied result ≡ spec.value_in name.now word.entry.now }
 {
     behind(behind(behind(word, "--")?, name)?, "=")
-}
-
-/// Whether a word begins with `--NAME=`.
-pub fn is_option(word: &str, name: &str) -> bool
-    ensures { result ≡ spec.is_option name.now word.now }
-{
-    value_in(word, name).is_some()
-}
-
-/// Whether a word begins with `--NAME=`, and more follows.
-pub fn has_value(word: &str, name: &str) -> bool
-    ensures { result ≡ spec.has_value name.now word.now }
-{
-    match value_in(word, name) {
-        Some(value) => !value.is_empty(),
-        None => false,
-    }
 }
 
 /// Whether a word is `--NAME`.

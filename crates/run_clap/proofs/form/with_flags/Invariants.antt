@@ -1,9 +1,0 @@
-use Rattle.std.proofs.Common.{◌≡◌, drop, map, List, ℕ}
-use Rattle.std.specs.Borrow.{Bor}
-use Rattle.clap.specs.Words.{app_of}
-use Rattle.run_clap.specs.Apps.{flag_rule, with_rules}
-use Rattle.run_clap.proofs.form.with_flags.Given as goal
-
-abbrev pub invariant-loop-name : goal.invariant-loop-name
-invariant-loop-name l =
-    with_rules (app_of l.more) (map flag_rule (map (λ (name : Bor (List ℕ)). name.now) (drop l.name-index l.names))) ≡ with_rules (app_of l.fn.command) (map flag_rule (map (λ (name : Bor (List ℕ)). name.now) l.names))

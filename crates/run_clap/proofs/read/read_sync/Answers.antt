@@ -1,0 +1,18 @@
+use Rattle.std.proofs.Common.{◌∙◌, map, string_bytes, sym}
+use Rattle.run_words.specs.Cables.{cable_in}
+use Rattle.run_words.specs.Tables.{cable_form}
+use Rattle.run_clap.proofs.AskLaws.{sync_asks, read_means, unread}
+use Rattle.run_clap.proofs.read.read_sync.Goals as goal
+
+pub read_form-requires-clause-right : goal.read_form-requires-clause-right
+read_form-requires-clause-right c = (sync_asks c.args.now (map string_bytes c.args.words.now) (sym c.in-Some.ensures)).right
+
+pub unreachable-requires : goal.unreachable-requires
+unreachable-requires c =
+    let words = map string_bytes c.args.words.now in
+    unread c.in-None.ensures (read_means (cable_in c.args.now) cable_form words c.in_ok-matched.ensures.read (sync_asks c.args.now words (sym c.in-Some.ensures)))
+
+pub returns-clause-command : goal.returns-clause-command
+returns-clause-command c =
+    let words = map string_bytes c.args.words.now in
+    sym (c.in-Some-cable_in.ensures ∙ read_means (cable_in c.args.now) cable_form words c.in_ok-matched.ensures.read (sync_asks c.args.now words (sym c.in-Some.ensures)) ∙ c.in-Some.ensures)

@@ -1,0 +1,16 @@
+use Rattle.std.proofs.Common.{◌∙◌, List, ℕ, String, Global, string_bytes, rules, tests}
+use Rattle.std.proofs.lemmas.Iterator.{YieldsList-from_slice}
+use Rattle.std.proofs.lemmas.Iterator.Consumers.{YieldsList-from_filter, count_from_yields_List}
+use Rattle.std.specs.Prelude.{is_some}
+use Rattle.run_words.specs.Forms as spec
+use Rattle.run_words.specs.Views.{option_view}
+use Rattle.run_words.proofs.WordLaws.{length-filter-map}
+use Rattle.run_words.proofs.form.use_count.Goals as goal
+
+pub returns : goal.returns
+returns c =
+    let option = option_view c.args.option.now in
+    count_from_yields_List c.filter.result c.count.result c.count.ensures.ran
+    (YieldsList-from_filter _ (λ (word : String Global). is_some (spec.said_in option (string_bytes word))) (YieldsList-from_slice c.args.words.now cc) c.filter.ensures.closure
+    (λ x b q k. search (rules, tests)))
+    ∙ length-filter-map (λ (word : List ℕ). is_some (spec.said_in option word)) string_bytes c.args.words.now
