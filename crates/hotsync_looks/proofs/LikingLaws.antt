@@ -1,5 +1,5 @@
 -- An import in the categories of another file.
-use Rattle.std.proofs.Common.{◌≡◌, ◌∙◌, refl, subst, sym, ◌⊎◌, inl, inr, ℕ, List, Option, Some}
+use Rattle.std.proofs.Common.{◌≡◌, ◌∙◌, refl, subst, sym, ◌⊎◌, inl, inr, ℕ, List, Option, Some, None}
 use Rattle.pdb_values.specs.Databases.{DatabaseValue}
 use Rattle.pdb_files.specs.Files.{IsFileText}
 use Rattle.memo_texts.specs.declared.fault.ImportFault.{ImportFault}
@@ -10,7 +10,11 @@ use Rattle.category_tables.specs.declared.like_fault.LikeFault.TheVariants as li
 use Rattle.cmd_status.specs.declared.status.Status.{Status}
 use Rattle.cmd_status.specs.declared.status.Status.TheVariants.{Done, NoMemory, OutWrite, SourceRead}
 use Rattle.hotsync_looks.specs.LookTexts.{RefusesImport, SaysMisfit}
-use Rattle.hotsync_looks.specs.Likings.{RefusesLiking, SaysUnlike, like_status}
+use Rattle.cmd_status.specs.Printed.{IsPrinted}
+use Rattle.cmd_status.specs.Told.{SinkTold, SourceTold}
+use Rattle.cmd_status.proofs.PrintedLaws.{printed_weaken}
+use Rattle.run_words.specs.Likes.{Like}
+use Rattle.hotsync_looks.specs.Likings.{IsLikedIn, IsLikingCall, RefusesLiking, SaysUnlike, like_status}
 
 -- ---- the other file
 
@@ -72,3 +76,23 @@ pub printed_not_failed : {A : Type 0} (status : Status) → (status ≡ Done) �
 printed_not_failed status (inl done) read = let no = sym done ∙ read in absurd cc
 printed_not_failed status (inr (inl failed)) read = let no = sym failed ∙ read in absurd cc
 printed_not_failed status (inr (inr none)) read = let no = sym none ∙ read in absurd cc
+
+-- words that were not read for want of memory
+unread : (words : Option Like) (source like : SourceTold) {out out_after : SinkTold} → IsPrinted (λ text. ⊥) out out_after NoMemory
+    → IsLikingCall words source source like like out out_after NoMemory
+unread None source like printed = (inr refl, printed)
+unread (Some words) source like printed = record {
+  ended = inl (inl refl);
+  failed = λ e. cc;
+  source_path = inl refl;
+  like_path = inl refl;
+  source_opened = λ e. cc;
+  like_opened = λ e. cc;
+  printed = printed_weaken (IsLikedIn source.left like.left) (λ text no. absurd no) printed;
+}
+
+pub unread_liking : (words : Option Like) (source like : SourceTold) {out out_after : SinkTold} {status : Status} → (status ≡ NoMemory) ⊎ (status ≡ NoMemory)
+    → IsPrinted (λ text. ⊥) out out_after status → IsLikingCall words source source like like out out_after status
+unread_liking words source like {out} {out_after} {status} refused printed =
+    let is : status ≡ NoMemory = elim refused [ inl e ↦ e | inr e ↦ e ] in
+    subst (IsLikingCall words source source like like out out_after) (sym is) (unread words source like (subst (IsPrinted (λ text. ⊥) out out_after) is printed))

@@ -19,7 +19,8 @@ use cmd_status::{FileSide, Status, Surplus, print_refusal, print_text, read_sour
 use hs_folders::{Sink, Source};
 use pdb_files::{read_database, write_database};
 use pdb_values::{Database, DbName};
-use run_words::{LikeWords, fault_of, liking_words};
+use run_clap::{WordsFault, read_liking};
+use run_words::{LikeWords, fault_of};
 use std::alloc::Global;
 
 /// Reads a text and another file, as the words ask for, and prints the file of the database that the memos of the text make, in
@@ -44,9 +45,10 @@ pub fn import_like<S: Source, L: Source, O: Sink>(
     ensures fault { liking_of (map string_bytes words.now) ≡ None
         → TellsFault (fault_of_words None (map string_bytes words.now)) result }
 {
-    match liking_words(words) {
-        Some(words) => import_file(alloc, words, source, like, out),
-        None => print_misuse(alloc, fault_of(None, words), out),
+    match read_liking(alloc, words) {
+        Ok(words) => import_file(alloc, words, source, like, out),
+        Err(WordsFault::Usage) => print_misuse(alloc, fault_of(None, words), out),
+        Err(WordsFault::NoMemory) => print_refusal(alloc, Status::NoMemory, out),
     }
 }
 
