@@ -1,2 +1,10 @@
+pub mod BadLaws
+pub mod ByteLaws
+pub mod ExportLaws
+pub mod GroupLaws
+pub mod GrowthLaws
 pub mod LineLaws
+pub mod PropertyLaws
+pub mod RecordLaws
 pub mod TextLaws
+pub mod ValueLaws

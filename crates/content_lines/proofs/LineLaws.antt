@@ -2,11 +2,11 @@
 use Rattle.std.proofs.lemmas.Bool.Decides.{nat_tests}
 use Rattle.std.proofs.Common.{arith, ◌≡◌, ◌∙◌, ap, refl, sym, ℕ, ◌+◌, ◌≤◌, ◌<◌, ◌==◌, true, false, cond, List, [], ◌∷◌, ◌++◌}
 use Rattle.std.proofs.lemmas.Str.{chars-nil, encode_ascii, length-encode}
-use Rattle.std.proofs.Common.{append_assoc, length}
+use Rattle.std.proofs.Common.{append-nil, append_assoc, length}
 use Rattle.std.proofs.lemmas.List.{nil_from_length}
 use Rattle.std.specs.Prelude.{chars, encode_utf8, encode_utf8_all}
 use Rattle.std.specs.Char.{len_utf8}
-use Rattle.content_lines.specs.Lines.{escaped, unescaped, folded, unfolded, has_no_break, fits, width}
+use Rattle.content_lines.specs.Lines.{begins_with_space, escaped, unescaped, folded, unfolded, has_no_break, fits, width}
 
 -- ---- values
 
@@ -36,19 +36,24 @@ break_gone : (rest : List ℕ) → unfolded (13 ∷ 10 ∷ 32 ∷ rest) ≡ unfo
 unfolding unfolded
 break_gone rest = refl
 
-pub unfolded-folded : (used : ℕ) (line : List ℕ) → has_no_break line ≡ true → unfolded (folded used line) ≡ line
+-- in front of what doesn't begin with a space
+pub unfolded-on : (used : ℕ) (line s : List ℕ) → has_no_break line ≡ true → begins_with_space s ≡ false → unfolded (folded used line ++ s) ≡ line
 unfolding folded unfolded has_no_break
-unfolded-folded used [] e = refl
-unfolded-folded used (c ∷ cs) e =
+unfolded-on used [] [] e start = refl
+unfolded-on used [] (x ∷ s) e start = rw start refl
+unfolded-on used (c ∷ cs) s e start =
     grind (
       arith,
       nat_tests,
-      unfolded-folded (1 + width c) cs,
-      unfolded-folded (used + width c) cs,
-      first_kept c (folded (1 + width c) cs),
-      first_kept c (folded (used + width c) cs),
-      break_gone (c ∷ folded (1 + width c) cs),
+      unfolded-on (1 + width c) cs s,
+      unfolded-on (used + width c) cs s,
+      first_kept c (folded (1 + width c) cs ++ s),
+      first_kept c (folded (used + width c) cs ++ s),
+      break_gone (c ∷ (folded (1 + width c) cs ++ s)),
     )
+
+pub unfolded-folded : (used : ℕ) (line : List ℕ) → has_no_break line ≡ true → unfolded (folded used line) ≡ line
+unfolded-folded used line e = ap unfolded (sym (append-nil (folded used line))) ∙ unfolded-on used line [] e refl
 
 -- ---- short lines
 

@@ -1,71 +1,23 @@
 -- One text is that of one list of lines.
 use Rattle.std.proofs.lemmas.Bool.Decides.{nat_tests}
+use Rattle.std.proofs.lemmas.List.{append_cancel_left}
 use Rattle.std.proofs.lemmas.List.Elements.{All-head, All-tail}
 use Rattle.std.proofs.lemmas.Grind.{flat_map-append}
 use Rattle.std.proofs.lemmas.Str.{encodes-append, encodes_same}
 use Rattle.std.proofs.Common.{append_assoc}
 use Rattle.std.specs.Prelude.{encode_utf8_all}
-use Rattle.std.proofs.Common.{arith, ◌≡◌, ◌∙◌, ap, refl, sym, ℕ, ◌+◌, ◌==◌, Bool, true, false, cond, List, [], ◌∷◌, ◌++◌}
+use Rattle.std.proofs.Common.{arith, ◌≡◌, ◌∙◌, ap, refl, sym, ℕ, ◌+◌, true, false, List, [], ◌∷◌, ◌++◌}
 use Rattle.std.specs.Prelude.{All, nat_lt}
 use Rattle.std.specs.List.{flat_map}
-use Rattle.content_lines.specs.Lines.{IsLine, begins_with_space, folded, has_no_break, lines_text, width}
-use Rattle.content_lines.proofs.LineLaws.{width-few}
-
--- ---- a line in front of a text that doesn't begin with a space
-
--- the rest of a line, where its next character breaks a physical line or not
-folded_by : Bool → ℕ → ℕ → List ℕ → List ℕ
-folded_by true used c cs = 13 ∷ 10 ∷ 32 ∷ c ∷ folded (1 + width c) cs
-folded_by false used c cs = c ∷ folded (used + width c) cs
-
-folded-cons : (used c : ℕ) (cs : List ℕ) → folded used (c ∷ cs) ≡ folded_by (nat_lt 75 (used + width c)) used c cs
-unfolding folded folded_by
-folded-cons used c cs = by_case (nat_lt 75 (used + width c))
-  where
-    by_case : (b : Bool) → cond b (13 ∷ 10 ∷ 32 ∷ c ∷ folded (1 + width c) cs) (c ∷ folded (used + width c) cs) ≡ folded_by b used c cs
-    by_case true = refl
-    by_case false = refl
-
-unbroken-head : (c : ℕ) (cs : List ℕ) → has_no_break (c ∷ cs) ≡ true → (c == 13) ≡ false
-unfolding has_no_break
-unbroken-head c cs e = grind (arith, nat_tests)
-
-unbroken-tail : (c : ℕ) (cs : List ℕ) → has_no_break (c ∷ cs) ≡ true → has_no_break cs ≡ true
-unfolding has_no_break
-unbroken-tail c cs e = grind (arith, nat_tests)
-
--- a line's end is no break inside a line
-no_end : (b : Bool) (used c : ℕ) (cs s t : List ℕ) → (c == 13) ≡ false → begins_with_space s ≡ false → 13 ∷ 10 ∷ s ≡ folded_by b used c cs ++ t → ⊥
-unfolding folded_by
-no_end true used c cs s t other start e =
-    let rest : s ≡ 32 ∷ c ∷ (folded (1 + width c) cs ++ t) = cc in
-    let space : true ≡ false = sym (ap begins_with_space rest) ∙ start in
-    cc
-no_end false used c cs s t other start e = grind (arith, nat_tests)
-
--- the characters in front are the same, and so is what is behind them
-both_by : (p q : Bool) (u v c d : ℕ) (cs ds s t : List ℕ) → (c == 13) ≡ false → (d == 13) ≡ false → folded_by p u c cs ++ s ≡ folded_by q v d ds ++ t
-    → (c ≡ d) × (m : ℕ) × (n : ℕ) × (folded m cs ++ s ≡ folded n ds ++ t)
-unfolding folded_by
-both_by true true u v c d cs ds s t h k e = (cc, 1 + width c, 1 + width d, cc)
-both_by false false u v c d cs ds s t h k e = (cc, u + width c, v + width d, cc)
-both_by true false u v c d cs ds s t h k e = absurd (grind (arith, nat_tests))
-both_by false true u v c d cs ds s t h k e = absurd (grind (arith, nat_tests))
+use Rattle.content_lines.specs.Lines.{IsLine, begins_with_space, folded, has_no_break, lines_text, unfolded, width}
+use Rattle.content_lines.proofs.LineLaws.{unfolded-on, width-few}
 
 -- two lines in front of texts that don't begin with a space
-pub folded_front : (u v : ℕ) (a b s t : List ℕ) → has_no_break a ≡ true → has_no_break b ≡ true → begins_with_space s ≡ false → begins_with_space t ≡ false
-    → folded u a ++ s ≡ folded v b ++ t → (a ≡ b) × (s ≡ t)
-unfolding folded
-folded_front u v [] [] s t h k start_s start_t e = (refl, cc)
-folded_front u v [] (d ∷ ds) s t h k start_s start_t e =
-    absurd (no_end (nat_lt 75 (v + width d)) v d ds s t (unbroken-head d ds k) start_s (e ∙ ap (λ l. l ++ t) (folded-cons v d ds)))
-folded_front u v (c ∷ cs) [] s t h k start_s start_t e =
-    absurd (no_end (nat_lt 75 (u + width c)) u c cs t s (unbroken-head c cs h) start_t (sym e ∙ ap (λ l. l ++ s) (folded-cons u c cs)))
-folded_front u v (c ∷ cs) (d ∷ ds) s t h k start_s start_t e =
-    let moved = sym (ap (λ l. l ++ s) (folded-cons u c cs)) ∙ (e ∙ ap (λ l. l ++ t) (folded-cons v d ds)) in
-    let first = both_by (nat_lt 75 (u + width c)) (nat_lt 75 (v + width d)) u v c d cs ds s t (unbroken-head c cs h) (unbroken-head d ds k) moved in
-    let rest = folded_front first.1 first.2 cs ds s t (unbroken-tail c cs h) (unbroken-tail d ds k) start_s start_t first.3 in
-    (λ i. first.0 i ∷ rest.0 i, rest.1)
+folded_front : (a b s t : List ℕ) → has_no_break a ≡ true → has_no_break b ≡ true → begins_with_space s ≡ false → begins_with_space t ≡ false
+    → folded 0 a ++ s ≡ folded 0 b ++ t → (a ≡ b) × (s ≡ t)
+folded_front a b s t h k start_s start_t e =
+    let same : a ≡ b = sym (unfolded-on 0 a s h start_s) ∙ (ap unfolded e ∙ unfolded-on 0 b t k start_t) in
+    (same, append_cancel_left (folded 0 a) s t (e ∙ ap (λ l. folded 0 l ++ t) (sym same)))
 
 -- ---- a text of lines
 
@@ -97,7 +49,8 @@ lines_injective (x ∷ xs) (y ∷ ys) h k e =
     let of_y = All-head IsLine y ys k in
     let tail_x = All-tail IsLine x xs h in
     let tail_y = All-tail IsLine y ys k in
-    let front = folded_front 0 0 x y (flat_map (folded 0) xs) (flat_map (folded 0) ys) of_x.unbroken of_y.unbroken (lines_start xs tail_x) (lines_start ys tail_y) e in
+    let front = folded_front x y (flat_map (folded 0) xs) (flat_map (folded 0) ys) of_x.unbroken of_y.unbroken (lines_start xs tail_x)
+    (lines_start ys tail_y) e in
     let rest = lines_injective xs ys tail_x tail_y front.1 in
     λ i. front.0 i ∷ rest i
 

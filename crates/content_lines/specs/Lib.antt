@@ -1,1 +1,4 @@
 pub mod Lines
+pub mod Properties
+pub mod Records
+pub mod Refusals
