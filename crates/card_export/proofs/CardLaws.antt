@@ -1,330 +1,183 @@
--- Cards are told apart by their front.
-use Rattle.std.proofs.lemmas.List.{append_cancel_left, append_cancel_right}
-use Rattle.std.proofs.lemmas.List.Elements.{All-cons, All-head, All-nil, All-tail}
-use Rattle.std.proofs.Math.Nat.{mod-lt}
-use Rattle.std.proofs.Common.{arith, ◌≡◌, ◌∙◌, ◌<◌, ◌≤◌, ◌/◌, ◌%◌, ap, refl, sym, ℕ, zero, suc, Bool, true, false, List, [], ◌∷◌, ◌++◌, append_assoc, get_or, length, map}
+-- One text is that of one list of cards.
+use Rattle.std.proofs.lemmas.Bool.Decides.{nat_tests}
+use Rattle.std.proofs.Common.{arith, ◌≡◌, ◌∙◌, ◌<◌, ap, refl, sym, ℕ, Bool, true, List, [], ◌∷◌, ◌++◌, append_assoc, append-nil, drop, get_or, length, map}
 use Rattle.std.specs.Prelude.{All, codes}
-use Rattle.std.specs.Int.{bytes_high_first}
 use Rattle.std.specs.List.{flat_map}
-use Rattle.hex.specs.Hex.{decode_of, encode_lower, lower_digits}
-use Rattle.hex.proofs.HexLemmas.{decode_of-encode_lower, length-encode_with}
-use Rattle.palm_records.proofs.CharacterLaws.{append_parts}
-use Rattle.card_export.specs.Cards.{CardValue, FormValue, IsBytes, IsCard, IsForm, IsPerson, PersonValue}
+use Rattle.content_lines.specs.Lines.{has_no_break}
+use Rattle.content_lines.specs.Properties.{IsBytes, PropertyValue, are_properties, given_property}
+use Rattle.content_lines.specs.Records.{class_properties, mark_properties, uid, unread_bytes}
+use Rattle.content_lines.proofs.GroupLaws.{AreGroups, also, are_properties-append, given_injective, given_stands, groups_are_properties, groups_front, joined, later, lists_are_properties, lists_injective, stand-cons, stand-nil}
+use Rattle.content_lines.proofs.PropertyLaws.{properties_text_injective}
+use Rattle.content_lines.proofs.RecordLaws.{class_injective, uid_injective, unbroken-hex, unread_bytes_injective}
+use Rattle.card_export.specs.Cards.{CardValue, FormValue, IsCard, IsForm, IsPerson, PersonValue}
 use Rattle.card_export.specs.Cards.FormValue.{Person, Unread}
-use Rattle.card_export.specs.Properties.{card_lines, class_lines, custom_lines, field_lines, form_lines, value_lines, head_lines, id_digits, name_line, parts, person_lines, phone_line, place_lines, property, tail_lines, uid_line, unread_lines}
-use Rattle.card_export.proofs.FrontLaws.{IsBytes-nil, customs_front, customs_rank, first_rank, given_front, given_rank, parts_injective, phones_front, phones_rank, place_front, place_lines_rank, rank}
+use Rattle.card_export.specs.Properties.{card_end, card_properties, cards_text, custom_properties, form_properties, head_properties, name_properties, phone_property, place_properties, shown_name, unread_names}
+use Rattle.card_export.proofs.PartLaws.{class_stands, customs_injective, customs_stand, head_stands, names_injective, names_stand, phones_injective, phones_stand, place_injective, place_stands, rank, unread_stand}
 
--- ---- the ranks of names
+-- ---- the groups of a card
 
-org_rank : (x : List ℕ) → rank (property (codes "ORG:") x) ≡ 1
+groups_of : ℕ → List ℕ → FormValue → List ℕ → Bool → List (List PropertyValue)
+groups_of id stem (Person p) label secret =
+    (head_properties id stem ++ name_properties (shown_name p.first p.last p.company p.phones) p.last p.first) ∷ [] ∷ given_property (codes "ORG") p.company
+    ∷ given_property (codes "TITLE") p.title ∷ map phone_property p.phones ∷ place_properties p.place ∷ flat_map custom_properties p.customs
+    ∷ given_property (codes "NOTE") p.note ∷ given_property (codes "CATEGORIES") label ∷ class_properties secret ∷ []
+groups_of id stem (Unread bytes) label secret =
+    (head_properties id stem ++ unread_names id) ∷ (unread_bytes bytes ∷ []) ∷ [] ∷ [] ∷ [] ∷ [] ∷ [] ∷ [] ∷ given_property (codes "CATEGORIES") label
+    ∷ class_properties secret ∷ []
+
+abbrev group : ℕ → List (List PropertyValue) → List PropertyValue
+group k groups = get_or groups k []
+
+abbrev at : ℕ → List (List PropertyValue) → PropertyValue
+at i groups = get_or (group 0 groups) i card_end
+
+person_joined : (a b c d e f g h : List PropertyValue) (last : PropertyValue) (s : List PropertyValue)
+    → ((a ++ (b ++ (c ++ (d ++ (e ++ f))))) ++ ((g ++ h) ++ last ∷ [])) ++ s ≡ (a ++ (b ++ (c ++ (d ++ (e ++ (f ++ (g ++ (h ++ [])))))))) ++ last ∷ s
+person_joined a b c d e f g h last s = simp (append_assoc, append-nil)
+
+unread_joined : (g h : List PropertyValue) (last : PropertyValue) (s : List PropertyValue) → ((g ++ h) ++ last ∷ []) ++ s ≡ (g ++ (h ++ [])) ++ last ∷ s
+unread_joined g h last s = simp (append_assoc, append-nil)
+
+card_joined : (id : ℕ) (stem : List ℕ) (form : FormValue) (label : List ℕ) (secret : Bool) (s : List PropertyValue)
+    → (head_properties id stem ++ (form_properties id form ++ (mark_properties label secret ++ card_end ∷ []))) ++ s
+    ≡ joined (groups_of id stem form label secret) ++ card_end ∷ s
+unfolding groups_of
+card_joined id stem (Person p) label secret s =
+    ap (λ l. head_properties id stem ++ (name_properties (shown_name p.first p.last p.company p.phones) p.last p.first ++ l))
+    (person_joined (given_property (codes "ORG") p.company) (given_property (codes "TITLE") p.title) (map phone_property p.phones) (place_properties p.place)
+    (flat_map custom_properties p.customs) (given_property (codes "NOTE") p.note) (given_property (codes "CATEGORIES") label)
+    (class_properties secret) card_end s)
+card_joined id stem (Unread bytes) label secret s =
+    ap (λ l. head_properties id stem ++ (unread_names id ++ unread_bytes bytes ∷ l))
+    (unread_joined (given_property (codes "CATEGORIES") label) (class_properties secret) card_end s)
+
+ten : (id : ℕ) (stem : List ℕ) (form : FormValue) (label : List ℕ) (secret : Bool) → length (groups_of id stem form label secret) ≡ 10
+unfolding groups_of
+ten id stem (Person p) label secret = refl
+ten id stem (Unread bytes) label secret = refl
+
+are_groups : (id : ℕ) (stem : List ℕ) (form : FormValue) (label : List ℕ) (secret : Bool) → has_no_break stem ≡ true → IsForm form → IsBytes label
+    → AreGroups rank 0 (groups_of id stem form label secret)
+unfolding groups_of rank
+are_groups id stem (Person p) label secret unbroken is h =
+    let marks = also (given_stands rank 8 (codes "CATEGORIES") label refl refl h) (also (class_stands secret) tt) in
+    let note = also (customs_stand p.customs is.customs) (also (given_stands rank 7 (codes "NOTE") p.note refl refl is.note) marks) in
+    let phones = also (phones_stand p.phones is.phones) (also (place_stands p.place is.place) note) in
+    let title = also (given_stands rank 3 (codes "TITLE") p.title refl refl is.title) phones in
+    let names = name_properties (shown_name p.first p.last p.company p.phones) p.last p.first in
+    also (head_stands id stem names unbroken (names_stand p is))
+    (also (stand-nil rank 1) (also (given_stands rank 2 (codes "ORG") p.company refl refl is.company) title))
+are_groups id stem (Unread bytes) label secret unbroken is h =
+    let nil = stand-nil rank in
+    let marks = also (given_stands rank 8 (codes "CATEGORIES") label refl refl h) (also (class_stands secret) tt) in
+    let record_bytes = stand-cons rank 1 (unread_bytes bytes) [] refl refl (unbroken-hex bytes is) (nil 1) in
+    also (head_stands id stem (unread_names id) unbroken (unread_stand id))
+    (also record_bytes (also (nil 2) (also (nil 3) (also (nil 4) (also (nil 5) (also (nil 6) (also (nil 7) marks)))))))
+
+-- ---- they tell the card
+
+person_told : (i j : ℕ) (a b : List ℕ) (p q : PersonValue) (m n : List ℕ) (u v : Bool) → IsPerson p → IsPerson q
+    → groups_of i a (Person p) m u ≡ groups_of j b (Person q) n v → p ≡ q
+unfolding groups_of
+person_told i j a b p q m n u v is_p is_q e =
+    let names = names_injective p q is_p is_q (ap (λ l. (at 5 l).value) e) in
+    let company = given_injective (codes "ORG") p.company q.company is_p.company is_q.company (ap (group 2) e) in
+    let title = given_injective (codes "TITLE") p.title q.title is_p.title is_q.title (ap (group 3) e) in
+    let phones = phones_injective p.phones q.phones is_p.phones is_q.phones (ap (group 4) e) in
+    let place = place_injective p.place q.place is_p.place is_q.place (ap (group 5) e) in
+    let customs = customs_injective p.customs q.customs is_p.customs is_q.customs (ap (group 6) e) in
+    let note = given_injective (codes "NOTE") p.note q.note is_p.note is_q.note (ap (group 7) e) in
+    λ i. record {
+      last = names.0 i;
+      first = names.1 i;
+      company = company i;
+      title = title i;
+      phones = phones i;
+      place = place i;
+      customs = customs i;
+      note = note i;
+    }
+
+form_told : (i j : ℕ) (a b : List ℕ) (f g : FormValue) (m n : List ℕ) (u v : Bool) → IsForm f → IsForm g → groups_of i a f m u ≡ groups_of j b g n v → f ≡ g
+unfolding groups_of
+form_told i j a b (Person p) (Person q) m n u v is_f is_g e = ap Person (person_told i j a b p q m n u v is_f is_g e)
+form_told i j a b (Person p) (Unread y) m n u v is_f is_g e = let none : [] ≡ unread_bytes y ∷ [] = ap (group 1) e in absurd cc
+form_told i j a b (Unread x) (Person q) m n u v is_f is_g e = let none : unread_bytes x ∷ [] ≡ [] = ap (group 1) e in absurd cc
+form_told i j a b (Unread x) (Unread y) m n u v is_f is_g e =
+    ap Unread (unread_bytes_injective x y is_f is_g (ap (λ l. get_or (group 1 l) 0 card_end) e))
+
+uid_at : (id : ℕ) (stem : List ℕ) (form : FormValue) (label : List ℕ) (secret : Bool) → at 3 (groups_of id stem form label secret) ≡ uid id stem
+unfolding groups_of
+uid_at id stem (Person p) label secret = refl
+uid_at id stem (Unread bytes) label secret = refl
+
+label_at : (id : ℕ) (stem : List ℕ) (form : FormValue) (label : List ℕ) (secret : Bool)
+    → group 8 (groups_of id stem form label secret) ≡ given_property (codes "CATEGORIES") label
+unfolding groups_of
+label_at id stem (Person p) label secret = refl
+label_at id stem (Unread bytes) label secret = refl
+
+class_at : (id : ℕ) (stem : List ℕ) (form : FormValue) (label : List ℕ) (secret : Bool)
+    → group 9 (groups_of id stem form label secret) ≡ class_properties secret
+unfolding groups_of
+class_at id stem (Person p) label secret = refl
+class_at id stem (Unread bytes) label secret = refl
+
+abbrev card_groups : CardValue → List (List PropertyValue)
+card_groups card = groups_of card.id card.stem card.form card.label card.secret
+
+card_told : (c d : CardValue) → IsCard c → IsCard d → card_groups c ≡ card_groups d → c ≡ d
+card_told c d is_c is_d e =
+    let uids : uid c.id c.stem ≡ uid d.id d.stem =
+    sym (uid_at c.id c.stem c.form c.label c.secret) ∙ (ap (at 3) e ∙ uid_at d.id d.stem d.form d.label d.secret) in
+    let head = uid_injective c.id d.id c.stem d.stem is_c.id is_d.id uids in
+    let form = form_told c.id d.id c.stem d.stem c.form d.form c.label d.label c.secret d.secret is_c.form is_d.form e in
+    let label =
+    given_injective (codes "CATEGORIES") c.label d.label is_c.label is_d.label
+    (sym (label_at c.id c.stem c.form c.label c.secret) ∙ (ap (group 8) e ∙ label_at d.id d.stem d.form d.label d.secret)) in
+    let secret =
+    class_injective c.secret d.secret
+    (sym (class_at c.id c.stem c.form c.label c.secret) ∙ (ap (group 9) e ∙ class_at d.id d.stem d.form d.label d.secret)) in
+    λ i. record { id = head.0 i; stem = head.1 i; form = form i; label = label i; secret = secret i }
+
+-- ---- cards in front of others
+
+end_later : (j : ℕ) (s : List PropertyValue) → j < 10 → later rank j (card_end ∷ s) ≡ true
 unfolding rank
-org_rank x = refl
+end_later j s less = grind (arith, nat_tests, less)
 
-title_rank : (x : List ℕ) → rank (property (codes "TITLE:") x) ≡ 2
-unfolding rank
-title_rank x = refl
-
-note_rank : (x : List ℕ) → rank (property (codes "NOTE:") x) ≡ 6
-unfolding rank
-note_rank x = refl
-
-categories_rank : (x : List ℕ) → rank (property (codes "CATEGORIES:") x) ≡ 7
-unfolding rank
-categories_rank x = refl
-
-class_rank : rank (codes "CLASS:PRIVATE") ≡ 8
-unfolding rank
-class_rank = refl
-
-end_rank : rank (codes "END:VCARD") ≡ 9
-unfolding rank
-end_rank = refl
-
-record_rank : (x : List ℕ) → rank (codes "X-PALM-RECORD:" ++ x) ≡ 0
-unfolding rank
-record_rank x = refl
-
--- ---- the lines behind the names
-
--- those of a person in front of others, one after the other
-note_on : PersonValue → List (List ℕ) → List (List ℕ)
-note_on p s = value_lines (codes "NOTE:") p.note ++ s
-
-customs_on : PersonValue → List (List ℕ) → List (List ℕ)
-customs_on p s = flat_map custom_lines p.customs ++ note_on p s
-
-place_on : PersonValue → List (List ℕ) → List (List ℕ)
-place_on p s = place_lines p.place ++ customs_on p s
-
-phones_on : PersonValue → List (List ℕ) → List (List ℕ)
-phones_on p s = map phone_line p.phones ++ place_on p s
-
-title_on : PersonValue → List (List ℕ) → List (List ℕ)
-title_on p s = value_lines (codes "TITLE:") p.title ++ phones_on p s
-
-org_on : PersonValue → List (List ℕ) → List (List ℕ)
-org_on p s = value_lines (codes "ORG:") p.company ++ title_on p s
-
-fields_on : (p : PersonValue) (s : List (List ℕ)) → field_lines p ++ s ≡ org_on p s
-unfolding note_on customs_on place_on phones_on title_on org_on
-fields_on p s = simp append_assoc
-
-note_least : (p : PersonValue) (s : List (List ℕ)) → 6 < first_rank s → 6 ≤ first_rank (note_on p s)
-unfolding note_on
-note_least p s late = given_rank 6 (codes "NOTE:") p.note s note_rank (omega arith)
-
-customs_least : (p : PersonValue) (s : List (List ℕ)) → 6 < first_rank s → 5 ≤ first_rank (customs_on p s)
-unfolding customs_on
-customs_least p s late = customs_rank p.customs (note_on p s) (omega (arith, note_least p s late))
-
-place_least : (p : PersonValue) (s : List (List ℕ)) → 6 < first_rank s → 4 ≤ first_rank (place_on p s)
-unfolding place_on
-place_least p s late = place_lines_rank p.place (customs_on p s) (omega (arith, customs_least p s late))
-
-phones_least : (p : PersonValue) (s : List (List ℕ)) → 6 < first_rank s → 3 ≤ first_rank (phones_on p s)
-unfolding phones_on
-phones_least p s late = phones_rank p.phones (place_on p s) (omega (arith, place_least p s late))
-
-title_least : (p : PersonValue) (s : List (List ℕ)) → 6 < first_rank s → 2 ≤ first_rank (title_on p s)
-unfolding title_on
-title_least p s late = given_rank 2 (codes "TITLE:") p.title (phones_on p s) title_rank (omega (arith, phones_least p s late))
-
-org_least : (p : PersonValue) (s : List (List ℕ)) → 6 < first_rank s → 1 ≤ first_rank (org_on p s)
-unfolding org_on
-org_least p s late = given_rank 1 (codes "ORG:") p.company (title_on p s) org_rank (omega (arith, title_least p s late))
-
-fields_front : (p q : PersonValue) (s t : List (List ℕ)) → IsPerson p → IsPerson q → p.last ≡ q.last → p.first ≡ q.first → 6 < first_rank s → 6 < first_rank t
-    → org_on p s ≡ org_on q t → (p ≡ q) × (s ≡ t)
-unfolding note_on customs_on place_on phones_on title_on org_on
-fields_front p q s t is_p is_q last first late_s late_t e =
-    let org =
-    given_front 1 (codes "ORG:") p.company q.company (title_on p s) (title_on q t) org_rank is_p.company is_q.company (omega (arith, title_least p s late_s))
-    (omega (arith, title_least q t late_t)) e in
-    let title =
-    given_front 2 (codes "TITLE:") p.title q.title (phones_on p s) (phones_on q t) title_rank is_p.title is_q.title (omega (arith, phones_least p s late_s))
-    (omega (arith, phones_least q t late_t)) org.1 in
-    let phones =
-    phones_front p.phones q.phones (place_on p s) (place_on q t) is_p.phones is_q.phones (omega (arith, place_least p s late_s))
-    (omega (arith, place_least q t late_t)) title.1 in
-    let place =
-    place_front p.place q.place (customs_on p s) (customs_on q t) is_p.place is_q.place (omega (arith, customs_least p s late_s))
-    (omega (arith, customs_least q t late_t)) phones.1 in
-    let customs =
-    customs_front p.customs q.customs (note_on p s) (note_on q t) is_p.customs is_q.customs (omega (arith, note_least p s late_s))
-    (omega (arith, note_least q t late_t)) place.1 in
-    let note = given_front 6 (codes "NOTE:") p.note q.note s t note_rank is_p.note is_q.note late_s late_t customs.1 in (
-      λ i. record {
-        last = last i;
-        first = first i;
-        company = org.0 i;
-        title = title.0 i;
-        phones = phones.0 i;
-        place = place.0 i;
-        customs = customs.0 i;
-        note = note.0 i;
-      },
-      note.1,
-    )
-
--- ---- names
-
-name_list : List ℕ → List ℕ → List (List ℕ)
-name_list last first = last ∷ first ∷ [] ∷ [] ∷ [] ∷ []
-
-name_bytes : (last first : List ℕ) → IsBytes last → IsBytes first → All IsBytes (name_list last first)
-unfolding name_list
-name_bytes last first h k =
-    let one = All-cons IsBytes [] [] IsBytes-nil (All-nil IsBytes) in
-    let two = All-cons IsBytes [] ([] ∷ []) IsBytes-nil one in
-    let three = All-cons IsBytes [] ([] ∷ [] ∷ []) IsBytes-nil two in
-    let four = All-cons IsBytes first ([] ∷ [] ∷ [] ∷ []) k three in
-    All-cons IsBytes last (first ∷ [] ∷ [] ∷ [] ∷ []) h four
-
-name_injective : (p q : PersonValue) → IsPerson p → IsPerson q → name_line p.last p.first ≡ name_line q.last q.first → (p.last ≡ q.last) × (p.first ≡ q.first)
-unfolding name_list
-name_injective p q is_p is_q e =
-    let values : parts (name_list p.last p.first) ≡ parts (name_list q.last q.first)
-    = append_cancel_left (codes "N:") (parts (name_list p.last p.first)) (parts (name_list q.last q.first)) e in
-    let same : name_list p.last p.first ≡ name_list q.last q.first =
-    parts_injective (name_list p.last p.first) (name_list q.last q.first) refl (name_bytes p.last p.first is_p.last is_p.first)
-    (name_bytes q.last q.first is_q.last is_q.first) values in
-    (ap (λ (l : List (List ℕ)). get_or l 0 []) same, ap (λ (l : List (List ℕ)). get_or l 1 []) same)
-
--- ---- forms
-
--- the second line, and what is behind it
-abbrev second : List (List ℕ) → List ℕ
-second l = get_or l 1 []
-
-abbrev third : List (List ℕ) → List ℕ
-third l = get_or l 2 []
-
-behind_two : List (List ℕ) → List (List ℕ)
-behind_two [] = []
-behind_two (x ∷ []) = []
-behind_two (x ∷ y ∷ l) = l
-
-person_front : (p q : PersonValue) (s t : List (List ℕ)) → IsPerson p → IsPerson q → 6 < first_rank s → 6 < first_rank t → person_lines p ++ s ≡ person_lines q ++ t
-    → (p ≡ q) × (s ≡ t)
-unfolding person_lines behind_two
-person_front p q s t is_p is_q late_s late_t e =
-    let names = name_injective p q is_p is_q (ap second e) in
-    let rest : field_lines p ++ s ≡ field_lines q ++ t = ap behind_two e in
-    fields_front p q s t is_p is_q names.0 names.1 late_s late_t (sym (fields_on p s) ∙ (rest ∙ fields_on q t))
-
-behind_three : List (List ℕ) → List (List ℕ)
-behind_three [] = []
-behind_three (x ∷ []) = []
-behind_three (x ∷ y ∷ []) = []
-behind_three (x ∷ y ∷ z ∷ l) = l
-
-hex_injective : (a b : List ℕ) → IsBytes a → IsBytes b → encode_lower a ≡ encode_lower b → a ≡ b
-hex_injective a b h k e =
-    let read = sym (decode_of-encode_lower a h) ∙ (ap decode_of e ∙ decode_of-encode_lower b k) in
-    cc read
-
-unread_front : (i j : ℕ) (a b : List ℕ) (s t : List (List ℕ)) → IsBytes a → IsBytes b → unread_lines i a ++ s ≡ unread_lines j b ++ t → (a ≡ b) × (s ≡ t)
-unfolding unread_lines behind_three
-unread_front i j a b s t h k e =
-    let line : codes "X-PALM-RECORD:" ++ encode_lower a ≡ codes "X-PALM-RECORD:" ++ encode_lower b = ap third e in
-    (hex_injective a b h k (append_cancel_left (codes "X-PALM-RECORD:") (encode_lower a) (encode_lower b) line), ap behind_three e)
-
-not_unread : (p : PersonValue) (j : ℕ) (b : List ℕ) (s t : List (List ℕ)) → 6 < first_rank s → person_lines p ++ s ≡ unread_lines j b ++ t → ⊥
-unfolding person_lines unread_lines behind_two
-not_unread p j b s t late e =
-    let rest : field_lines p ++ s ≡ (codes "X-PALM-RECORD:" ++ encode_lower b) ∷ t = ap behind_two e in
-    let none : first_rank (org_on p s) ≡ 0 = ap first_rank (sym (fields_on p s) ∙ rest) ∙ record_rank (encode_lower b) in
-    omega (arith, none, org_least p s late)
-
-form_front : (i : ℕ) (f g : FormValue) (s t : List (List ℕ)) → IsForm f → IsForm g → 6 < first_rank s → 6 < first_rank t → form_lines i f ++ s ≡ form_lines i g ++ t
-    → (f ≡ g) × (s ≡ t)
-form_front i (Person p) (Person q) s t is_f is_g late_s late_t e =
-    let front = person_front p q s t is_f is_g late_s late_t e in
-    (ap Person front.0, front.1)
-form_front i (Person p) (Unread b) s t is_f is_g late_s late_t e = absurd (not_unread p i b s t late_s e)
-form_front i (Unread a) (Person q) s t is_f is_g late_s late_t e = absurd (not_unread q i a t s late_t (sym e))
-form_front i (Unread a) (Unread b) s t is_f is_g late_s late_t e =
-    let front = unread_front i i a b s t is_f is_g e in
-    (ap Unread front.0, front.1)
-
--- ---- heads
-
-small_bytes : (n : ℕ) → IsBytes (bytes_high_first 3 n)
-small_bytes n zero = mod-lt (n / 65536) (omega arith)
-small_bytes n (suc zero) = mod-lt (n / 256) (omega arith)
-small_bytes n (suc (suc zero)) = mod-lt n (omega arith)
-small_bytes n (suc (suc (suc i))) = omega arith
-
-same_number : (i j : ℕ) → i < 0x1000000 → j < 0x1000000 → bytes_high_first 3 i ≡ bytes_high_first 3 j → i ≡ j
-same_number i j small_i small_j e =
-    let high : i / 65536 % 256 ≡ j / 65536 % 256 = ap (λ l. get_or l 0 0) e in
-    let middle : i / 256 % 256 ≡ j / 256 % 256 = ap (λ l. get_or l 1 0) e in
-    let low : i % 256 ≡ j % 256 = ap (λ l. get_or l 2 0) e in
-    omega arith
-
-uid_injective : (i j : ℕ) (a b : List ℕ) → i < 0x1000000 → j < 0x1000000 → uid_line i a ≡ uid_line j b → (i ≡ j) × (a ≡ b)
-uid_injective i j a b small_i small_j e =
-    let tail_a = codes "." ++ (a ++ codes "@palm") in
-    let tail_b = codes "." ++ (b ++ codes "@palm") in
-    let size_i = length-encode_with lower_digits (bytes_high_first 3 i) in
-    let size_j = length-encode_with lower_digits (bytes_high_first 3 j) in
-    let ids = append_cancel_left (codes "UID:") (id_digits i ++ tail_a) (id_digits j ++ tail_b) e in
-    let both = append_parts (id_digits i) (id_digits j) tail_a tail_b (omega (arith, size_i, size_j)) ids in
-    let bytes = hex_injective (bytes_high_first 3 i) (bytes_high_first 3 j) (small_bytes i) (small_bytes j) both.0 in
-    let stems = append_cancel_left (codes ".") (a ++ codes "@palm") (b ++ codes "@palm") both.1 in
-    (same_number i j small_i small_j bytes, append_cancel_right a b (codes "@palm") stems)
-
-abbrev fourth : List (List ℕ) → List ℕ
-fourth l = get_or l 3 []
-
-behind_four : List (List ℕ) → List (List ℕ)
-behind_four [] = []
-behind_four (x ∷ []) = []
-behind_four (x ∷ y ∷ []) = []
-behind_four (x ∷ y ∷ z ∷ []) = []
-behind_four (x ∷ y ∷ z ∷ u ∷ l) = l
-
-head_front : (i j : ℕ) (a b : List ℕ) (s t : List (List ℕ)) → i < 0x1000000 → j < 0x1000000 → head_lines i a ++ s ≡ head_lines j b ++ t → (i ≡ j) × (a ≡ b) × (s ≡ t)
-unfolding head_lines behind_four
-head_front i j a b s t small_i small_j e =
-    let line : uid_line i a ≡ uid_line j b = ap fourth e in
-    let both = uid_injective i j a b small_i small_j line in
-    (both.0, both.1, ap behind_four e)
-
--- ---- tails
-
-class_on : Bool → List (List ℕ) → List (List ℕ)
-class_on secret s = class_lines secret ++ (codes "END:VCARD" ∷ s)
-
-tail_on : (label : List ℕ) (secret : Bool) (s : List (List ℕ)) → tail_lines label secret ++ s ≡ value_lines (codes "CATEGORIES:") label ++ class_on secret s
-unfolding class_on
-tail_on label secret s =
-    append_assoc (value_lines (codes "CATEGORIES:") label) (class_lines secret ++ codes "END:VCARD" ∷ []) s
-    ∙ ap (λ l. value_lines (codes "CATEGORIES:") label ++ l) (append_assoc (class_lines secret) (codes "END:VCARD" ∷ []) s)
-
-class_least : (secret : Bool) (s : List (List ℕ)) → 8 ≤ first_rank (class_on secret s)
-unfolding class_on
-class_least true s = omega (arith, class_rank)
-class_least false s = omega (arith, end_rank)
-
-class_front : (p q : Bool) (s t : List (List ℕ)) → class_on p s ≡ class_on q t → (p ≡ q) × (s ≡ t)
-unfolding class_on behind_two
-class_front true true s t e = (refl, ap behind_two e)
-class_front true false s t e =
-    let first : 8 ≡ 9 = sym class_rank ∙ (ap first_rank e ∙ end_rank) in
-    absurd (omega (arith, first))
-class_front false true s t e =
-    let first : 9 ≡ 8 = sym end_rank ∙ (ap first_rank e ∙ class_rank) in
-    absurd (omega (arith, first))
-class_front false false s t e = (refl, ap (λ l. behind_two ([] ∷ l)) e)
-
-tail_front : (a b : List ℕ) (p q : Bool) (s t : List (List ℕ)) → IsBytes a → IsBytes b → tail_lines a p ++ s ≡ tail_lines b q ++ t → (a ≡ b) × (p ≡ q) × (s ≡ t)
-tail_front a b p q s t h k e =
-    let labels =
-    given_front 7 (codes "CATEGORIES:") a b (class_on p s) (class_on q t) categories_rank h k (omega (arith, class_least p s)) (omega (arith, class_least q t))
-    (sym (tail_on a p s) ∙ (e ∙ tail_on b q t)) in
-    let classes = class_front p q s t labels.1 in
-    (labels.0, classes.0, classes.1)
-
-tail_least : (label : List ℕ) (secret : Bool) (s : List (List ℕ)) → 7 ≤ first_rank (tail_lines label secret ++ s)
-tail_least label secret s =
-    rw (tail_on label secret s) (given_rank 7 (codes "CATEGORIES:") label (class_on secret s) categories_rank (omega (arith, class_least secret s)))
-
--- ---- cards
-
-card_on : (card : CardValue) (s : List (List ℕ))
-    → card_lines card ++ s ≡ head_lines card.id card.stem ++ (form_lines card.id card.form ++ (tail_lines card.label card.secret ++ s))
-unfolding card_lines
-card_on card s =
-    append_assoc (head_lines card.id card.stem) (form_lines card.id card.form ++ tail_lines card.label card.secret) s
-    ∙ ap (λ l. head_lines card.id card.stem ++ l) (append_assoc (form_lines card.id card.form) (tail_lines card.label card.secret) s)
-
-card_front : (c d : CardValue) (s t : List (List ℕ)) → IsCard c → IsCard d → card_lines c ++ s ≡ card_lines d ++ t → (c ≡ d) × (s ≡ t)
+card_front : (c d : CardValue) (s t : List PropertyValue) → IsCard c → IsCard d → card_properties c ++ s ≡ card_properties d ++ t → (c ≡ d) × (s ≡ t)
 card_front c d s t is_c is_d e =
-    let tail_c = tail_lines c.label c.secret ++ s in
-    let tail_d = tail_lines d.label d.secret ++ t in
-    let head =
-    head_front c.id d.id c.stem d.stem (form_lines c.id c.form ++ tail_c) (form_lines d.id d.form ++ tail_d) is_c.id is_d.id
-    (sym (card_on c s) ∙ (e ∙ card_on d t)) in
-    let forms : form_lines c.id c.form ++ tail_c ≡ form_lines c.id d.form ++ tail_d = head.2 ∙ ap (λ n. form_lines n d.form ++ tail_d) (sym head.0) in
-    let form =
-    form_front c.id c.form d.form tail_c tail_d is_c.form is_d.form (omega (arith, tail_least c.label c.secret s)) (omega (arith, tail_least d.label d.secret t)) forms in
-    let tail = tail_front c.label d.label c.secret d.secret s t is_c.label is_d.label form.1 in
-    (λ i. record { id = head.0 i; stem = head.1 i; form = form.0 i; label = tail.0 i; secret = tail.1 i }, tail.2)
+    let of_c = ten c.id c.stem c.form c.label c.secret in
+    let of_d = ten d.id d.stem d.form d.label d.secret in
+    let moved = sym (card_joined c.id c.stem c.form c.label c.secret s) ∙ (e ∙ card_joined d.id d.stem d.form d.label d.secret t) in
+    let front =
+    groups_front rank 0 (card_groups c) (card_groups d) (card_end ∷ s) (card_end ∷ t) (of_c ∙ sym of_d)
+    (are_groups c.id c.stem c.form c.label c.secret is_c.stem is_c.form is_c.label)
+    (are_groups d.id d.stem d.form d.label d.secret is_d.stem is_d.form is_d.label)
+    (λ j less. end_later j s (omega (arith, less, of_c))) (λ j less. end_later j t (omega (arith, less, of_c))) moved in
+    (card_told c d is_c is_d front.0, ap (drop 1) front.1)
 
-no_card : (card : CardValue) (s : List (List ℕ)) → [] ≡ card_lines card ++ s → ⊥
-unfolding card_lines head_lines
-no_card card s e = let none : 0 ≡ suc (length (uid_line card.id card.stem ∷ [])) = ap some e in omega (arith, none)
+card_is : (card : CardValue) → IsCard card → are_properties (card_properties card) ≡ true
+unfolding has_no_break
+card_is card is =
+    let groups = card_groups card in
+    let whole : card_properties card ≡ joined groups ++ card_end ∷ [] =
+    sym (append-nil (card_properties card)) ∙ card_joined card.id card.stem card.form card.label card.secret [] in
+    ap are_properties whole
+    ∙ are_properties-append (joined groups) (card_end ∷ [])
+    (groups_are_properties rank 0 groups (are_groups card.id card.stem card.form card.label card.secret is.stem is.form is.label)) refl
+
+no_card : (card : CardValue) (s : List PropertyValue) → [] ≡ card_properties card ++ s → ⊥
+no_card card s e = let none : 0 ≡ 1 = ap some e in omega (arith, none)
   where
-    some : List (List ℕ) → ℕ
+    some : List PropertyValue → ℕ
     some [] = 0
-    some (x ∷ l) = suc (length (uid_line card.id card.stem ∷ []))
+    some (p ∷ ps) = 1
 
-pub cards_injective : (a b : List CardValue) → All IsCard a → All IsCard b → flat_map card_lines a ≡ flat_map card_lines b → a ≡ b
-cards_injective [] [] h k e = refl
-cards_injective [] (d ∷ ds) h k e = absurd (no_card d (flat_map card_lines ds) e)
-cards_injective (c ∷ cs) [] h k e = absurd (no_card c (flat_map card_lines cs) (sym e))
-cards_injective (c ∷ cs) (d ∷ ds) h k e =
-    let front = card_front c d (flat_map card_lines cs) (flat_map card_lines ds) (All-head IsCard c cs h) (All-head IsCard d ds k) e in
-    let rest = cards_injective cs ds (All-tail IsCard c cs h) (All-tail IsCard d ds k) front.1 in
-    λ i. front.0 i ∷ rest i
+pub cards_text_injective : (a b : List CardValue) → All IsCard a → All IsCard b → cards_text a ≡ cards_text b → a ≡ b
+cards_text_injective a b h k e =
+    let of_a = lists_are_properties IsCard card_properties card_is a h in
+    let of_b = lists_are_properties IsCard card_properties card_is b k in
+    let same = properties_text_injective (flat_map card_properties a) (flat_map card_properties b) of_a of_b e in
+    lists_injective IsCard card_properties [] card_front no_card a b h k (ap (λ l. l ++ []) same)

@@ -1,10 +1,4 @@
-pub mod BadLaws
 pub mod CardLaws
-pub mod ExportLaws
-pub mod FieldLaws
-pub mod FrontLaws
-pub mod LineLaws
-pub mod PhoneLaws
-pub mod PropertyLaws
+pub mod PartLaws
+pub mod GrowthLaws
 pub mod StoredLaws
-pub mod ValueLaws

@@ -1,40 +1,25 @@
 -- What is exported of stored records are cards.
-use Rattle.std.proofs.lemmas.Bool.{and_parts, cases_eq}
+use Rattle.std.proofs.lemmas.Bool.{and_parts}
 use Rattle.std.proofs.lemmas.Bool.Decides.{nat_tests}
-use Rattle.std.proofs.lemmas.List.Elements.{All-cons, All-head, All-nil, All-tail}
-use Rattle.std.proofs.lemmas.Str.{encode_ascii, encodes-chars}
-use Rattle.std.proofs.Common.{arith, ◌≡◌, ◌∙◌, ◌<◌, ◌/◌, ◌%◌, ◌==◌, not, ◌&&◌, inl, inr, ap, refl, sym, subst, ℕ, zero, suc, ◌+◌, Bool, true, false, cond, List, [], ◌∷◌, ◌++◌, append_assoc, append-nil, drop, length, map, take, Option, None, Some, Result, Ok, Err}
-use Rattle.std.specs.Prelude.{All, option_map, encode_utf8, encode_utf8_all, filter, nat_le, nat_lt, slice_index, slice_index_or, if◌then◌else◌}
+use Rattle.std.proofs.lemmas.List.Elements.{All-cons, All-nil, All-weaker}
+use Rattle.std.proofs.Common.{arith, ◌≡◌, ◌∙◌, ◌<◌, ◌/◌, ◌%◌, ◌==◌, ap, refl, sym, subst, ℕ, zero, suc, ◌+◌, Bool, true, false, cond, List, [], ◌∷◌, ◌++◌, append_assoc, append-nil, drop, length, map, take, Option, None, Some, Result, Ok, Err}
+use Rattle.std.specs.Prelude.{All, option_map, filter, nat_le, nat_lt, slice_index, slice_index_or, if◌then◌else◌}
 use Rattle.std.specs.List.{range_with_len}
-use Rattle.std.specs.Str.{IsUtf8, chars}
 use Rattle.pdb_values.specs.declared.record.Record.{Record}
-use Rattle.pdb_values.specs.Stems.{hex_digit, is_plain, stem_byte, stem_of}
+use Rattle.pdb_values.specs.Stems.{stem_of}
 use Rattle.palm_records.specs.Addresses.{AddressValue, address_in, are_kinds, field_bits, fields_at, is_kind, kinds_of, or_left, phone_word, string_in, with_fields}
-use Rattle.palm_records.specs.Strings.{first_zero, front, until_zero}
+use Rattle.palm_records.specs.Strings.{first_zero, until_zero}
 use Rattle.palm_records.specs.declared.choice.Privacy.{Privacy}
 use Rattle.palm_records.specs.Choices.{is_exported}
-use Rattle.content_lines.specs.Lines.{has_no_break}
-use Rattle.card_export.specs.Cards.{IsBytes, IsCard, IsCustom, IsForm, IsPerson, IsPhone}
+use Rattle.content_lines.specs.Properties.{IsBytes, is_plain}
+use Rattle.content_lines.proofs.ByteLaws.{IsBytes-drop, IsBytes-front, IsBytes-nil, IsBytes-take}
+use Rattle.content_lines.proofs.ExportLaws.{exported-all}
+use Rattle.content_lines.proofs.ValueLaws.{unbroken-plain}
+use Rattle.card_export.specs.Cards.{IsCard, IsCustom, IsForm, IsPerson, IsPhone}
 use Rattle.card_export.specs.Exports.{IsItem, IsStored, card_of, custom_of, customs_before, field_text, form_of, has_number, has_text, person_of, phone_of, phones_before, text_of}
 use Rattle.card_export.specs.Labels.{custom_label, label_place}
-use Rattle.card_export.proofs.FrontLaws.{IsBytes-nil, IsBytes-rest}
-use Rattle.card_export.proofs.LineLaws.{unbroken-append, IsBytes-cons}
 
--- ---- bytes of bytes
-
-IsBytes-take : (n : ℕ) (bytes : List ℕ) → IsBytes bytes → IsBytes (take n bytes)
-IsBytes-take zero bytes h = IsBytes-nil
-IsBytes-take (suc n) [] h = IsBytes-nil
-IsBytes-take (suc n) (x ∷ xs) h = IsBytes-cons x (take n xs) (h 0) (IsBytes-take n xs (IsBytes-rest x xs h))
-
-IsBytes-drop : (n : ℕ) (bytes : List ℕ) → IsBytes bytes → IsBytes (drop n bytes)
-IsBytes-drop zero bytes h = h
-IsBytes-drop (suc n) [] h = IsBytes-nil
-IsBytes-drop (suc n) (x ∷ xs) h = IsBytes-drop n xs (IsBytes-rest x xs h)
-
-IsBytes-front : (place : Option ℕ) (bytes : List ℕ) → IsBytes bytes → IsBytes (front place bytes)
-IsBytes-front None bytes h = h
-IsBytes-front (Some place) bytes h = IsBytes-take place bytes h
+-- ---- labels
 
 IsBytes-either : (b : Bool) (bytes : List ℕ) → IsBytes bytes → IsBytes (if b then [] else bytes)
 IsBytes-either true bytes h = IsBytes-nil
@@ -179,7 +164,8 @@ by_fields (Err left) bytes address is e = cc
 by_fields (Ok fields) bytes address is e = by_kinds (are_kinds (field_bits bytes) (phone_word bytes)) bytes fields address refl is e
 
 by_tests : (p q : Bool) (bytes : List ℕ) (address : AddressValue)
-    → (if p then Err (length bytes) else (if q then Err 4 else with_fields bytes (fields_at 19 (field_bits bytes) [] (drop 9 bytes)))) ≡ Ok address → IsRead bytes address
+    → (if p then Err (length bytes) else (if q then Err 4 else with_fields bytes (fields_at 19 (field_bits bytes) [] (drop 9 bytes)))) ≡ Ok address
+    → IsRead bytes address
 by_tests true q bytes address e = cc
 by_tests false true bytes address e = cc
 by_tests false false bytes address e = by_fields (fields_at 19 (field_bits bytes) [] (drop 9 bytes)) bytes address refl e
@@ -198,7 +184,8 @@ filtered_all P test f a (suc n) each =
     kept (test (f a)) P (f a) (filter test (map f (range_with_len (a + 1) n))) (λ there. each a (omega arith) there)
     (filtered_all P test f (a + 1) n (λ i less there. each i (omega (arith, less)) there))
 
-person_proper : (block bytes : List ℕ) (address : AddressValue) → IsBytes block → IsBytes bytes → address_in bytes ≡ Ok address → IsPerson (person_of block address)
+person_proper : (block bytes : List ℕ) (address : AddressValue) → IsBytes block → IsBytes bytes → address_in bytes ≡ Ok address
+    → IsPerson (person_of block address)
 unfolding phones_before customs_before
 person_proper block bytes address is_block is_bytes e =
     let read = is_read bytes address e in
@@ -238,91 +225,21 @@ form_proper : (r : Result AddressValue ℕ) (block bytes : List ℕ) → address
 form_proper (Ok address) block bytes is is_block is_bytes = person_proper block bytes address is_block is_bytes is
 form_proper (Err place) block bytes is is_block is_bytes = is_bytes
 
--- ---- stems
-
-unbroken-parts : (a b : List ℕ) → has_no_break (a ++ b) ≡ true → (has_no_break a ≡ true) × (has_no_break b ≡ true)
-unfolding has_no_break
-unbroken-parts [] b h = (refl, h)
-unbroken-parts (c ∷ cs) b h =
-    let first = and_parts (not (c == 13)) (not (c == 10) && has_no_break (cs ++ b)) h in
-    let second = and_parts (not (c == 10)) (has_no_break (cs ++ b)) first.1 in
-    let rest = unbroken-parts cs b second.1 in
-    (rw (first.0, second.0, rest.0) refl, rest.1)
-
-return_broken : has_no_break (13 ∷ []) ≡ false
-unfolding has_no_break
-return_broken = refl
-
-feed_broken : has_no_break (10 ∷ []) ≡ false
-unfolding has_no_break
-feed_broken = refl
-
-no_break_char : (c d : ℕ) → d < 128 → has_no_break (d ∷ []) ≡ false → has_no_break (encode_utf8 c) ≡ true → (c == d) ≡ false
-no_break_char c d small broken h =
-    elim (cases_eq c d) [
-      | inl same ↦
-          let own : has_no_break (d ∷ []) ≡ true = ap has_no_break (sym (encode_ascii d small)) ∙ (ap (λ n. has_no_break (encode_utf8 n)) (sym same) ∙ h) in
-          absurd (grind (arith, own, broken))
-      | inr other ↦ grind (arith, nat_tests)
-    ]
-
-decoded_unbroken : (cs : List ℕ) → has_no_break (encode_utf8_all cs) ≡ true → has_no_break cs ≡ true
-unfolding has_no_break
-decoded_unbroken [] h = refl
-decoded_unbroken (c ∷ cs) h =
-    let parts = unbroken-parts (encode_utf8 c) (encode_utf8_all cs) h in
-    let not_return = no_break_char c 13 (omega arith) return_broken parts.0 in
-    let not_feed = no_break_char c 10 (omega arith) feed_broken parts.0 in
-    let rest = decoded_unbroken cs parts.1 in
-    rw (not_return, not_feed, rest) refl
-
-stem_byte_unbroken : (byte : ℕ) → has_no_break (stem_byte byte) ≡ true
-unfolding stem_byte has_no_break
-stem_byte_unbroken byte = by_plain (is_plain byte) refl
-  where
-    digit : (n : ℕ) → ((hex_digit n == 13) ≡ false) × ((hex_digit n == 10) ≡ false)
-    digit n = (grind (arith, nat_tests), grind (arith, nat_tests))
-
-    by_plain : (b : Bool) → is_plain byte ≡ b → has_no_break (if b then byte ∷ [] else 37 ∷ hex_digit (byte / 16) ∷ hex_digit (byte % 16) ∷ []) ≡ true
-    by_plain true is =
-        let a : (byte == 13) ≡ false = grind (arith, nat_tests, is) in
-        let b : (byte == 10) ≡ false = grind (arith, nat_tests, is) in
-        rw (a, b) refl
-    by_plain false is =
-        let high = digit (byte / 16) in
-        let low = digit (byte % 16) in
-        rw (high.0, high.1, low.0, low.1) refl
-
-stem_unbroken : (name : List ℕ) → has_no_break (stem_of name) ≡ true
-unfolding has_no_break
-stem_unbroken [] = refl
-stem_unbroken (byte ∷ rest) = unbroken-append (stem_byte byte) (stem_of rest) (stem_byte_unbroken byte) (stem_unbroken rest)
-
-chars_unbroken : (stem : List ℕ) → IsUtf8 stem → has_no_break stem ≡ true → has_no_break (chars stem) ≡ true
-chars_unbroken stem text h = decoded_unbroken (chars stem) (ap has_no_break (encodes-chars stem text) ∙ h)
-
 -- ---- cards
 
-card_proper : (name : List ℕ) (app : Option (List ℕ)) (item : Record) → IsUtf8 (stem_of name) → IsStored app item → IsCard (card_of (chars (stem_of name)) app item)
-card_proper name app item text is = record {
+card_proper : (name : List ℕ) (app : Option (List ℕ)) (item : Record) → is_plain (stem_of name) ≡ true → IsStored app item
+    → IsCard (card_of (stem_of name) app item)
+card_proper name app item plain is = record {
   id = is.id;
-  stem = chars_unbroken (stem_of name) text (stem_unbroken name);
+  stem = unbroken-plain (stem_of name) plain;
   form = form_proper (address_in item.content.bytes) (text_of app) item.content.bytes refl is.block is.bytes;
   label = is.label;
 }
 
-by_item : (b : Bool) (name : List ℕ) (app : Option (List ℕ)) (wanted : Privacy) (item : Record) (items : List Record) → IsUtf8 (stem_of name) → is_exported wanted item ≡ b
-    → IsItem app wanted item → All IsCard (map (card_of (chars (stem_of name)) app) (filter (is_exported wanted) items))
-    → All IsCard (map (card_of (chars (stem_of name)) app) (filter (is_exported wanted) (item ∷ items)))
-by_item true name app wanted item items text is one rest =
-    rw is
-    (All-cons IsCard (card_of (chars (stem_of name)) app item) (map (card_of (chars (stem_of name)) app) (filter (is_exported wanted) items))
-    (card_proper name app item text (one is)) rest)
-by_item false name app wanted item items text is one rest = rw is rest
-
-pub exported-proper : (name : List ℕ) (app : Option (List ℕ)) (wanted : Privacy) (items : List Record) → IsUtf8 (stem_of name) → All (IsItem app wanted) items
-    → All IsCard (map (card_of (chars (stem_of name)) app) (filter (is_exported wanted) items))
-exported-proper name app wanted [] text all = All-nil IsCard
-exported-proper name app wanted (item ∷ items) text all =
-    by_item (is_exported wanted item) name app wanted item items text refl (All-head (IsItem app wanted) item items all)
-    (exported-proper name app wanted items text (All-tail (IsItem app wanted) item items all))
+pub exported-proper : (name : List ℕ) (app : Option (List ℕ)) (wanted : Privacy) (items : List Record) → is_plain (stem_of name) ≡ true
+    → All (IsItem app wanted) items
+    → All IsCard (map (card_of (stem_of name) app) (filter (is_exported wanted) items))
+exported-proper name app wanted items plain all =
+    exported-all IsCard (card_of (stem_of name) app) (is_exported wanted) items
+    (All-weaker (IsItem app wanted) (λ item. is_exported wanted item ≡ true → IsCard (card_of (stem_of name) app item))
+    (λ item said there. card_proper name app item plain (said there)) items all)

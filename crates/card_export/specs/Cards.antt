@@ -1,6 +1,8 @@
 -- Cards: what an exported address says. Texts are a Palm's bytes; an empty one is no field.
-use Rattle.std.specs.Prelude.{◌≡◌, ◌<◌, ℕ, Bool, true, List, All, slice_index}
+use Rattle.std.specs.Prelude.{◌≡◌, ◌<◌, ℕ, Bool, true, List, All}
 use Rattle.content_lines.specs.Lines.{has_no_break}
+use Rattle.content_lines.specs.Properties.{IsBytes}
+use Rattle.content_lines.specs.Records.{id_limit}
 
 -- a phone: what it is (0 work, 1 home, 2 fax, 3 other, 4 e-mail, 5 main, 6 pager, 7 mobile), and
 -- whether a list shows it
@@ -48,10 +50,6 @@ pub record CardValue : Type 0 where
   pub label : List ℕ
   pub secret : Bool
 
--- each is a byte
-abbrev pub IsBytes : List ℕ → Type 0
-IsBytes bytes = (i : ℕ) → slice_index bytes i < 256
-
 -- a phone has one of the eight kinds
 pub record IsPhone (phone : PhoneValue) : Type 0 where
   pub kind : phone.kind < 8
@@ -86,10 +84,6 @@ pub record IsPerson (person : PersonValue) : Type 0 where
 abbrev pub IsForm : FormValue → Type 0
 IsForm (Person person) = IsPerson person
 IsForm (Unread bytes) = IsBytes bytes
-
--- an id has 24 bits
-abbrev pub id_limit : ℕ
-id_limit = 0x1000000
 
 -- ids of 24 bits, stems without line breaks, texts of bytes
 pub record IsCard (card : CardValue) : Type 0 where

@@ -1,40 +1,23 @@
--- The lines of a card, in characters (RFC 2426; `X-ABLABEL`, the label of a group of lines, is what
--- address books of Apple and Google read).
+-- The properties of a card, in characters (RFC 2426; `X-ABLABEL`, the label of a group of lines, is
+-- what address books of Apple and Google read).
 use Rattle.std.specs.Prelude.{ℕ, ◌+◌, ◌==◌, ◌&&◌, Bool, List, [], ◌∷◌, ◌++◌, codes, length, map, if◌then◌else◌}
-use Rattle.std.specs.Int.{bytes_high_first}
 use Rattle.std.specs.List.{flat_map}
-use Rattle.hex.specs.Hex.{encode_lower}
-use Rattle.palm_records.specs.Characters.{characters}
-use Rattle.content_lines.specs.Lines.{escaped, lines_text}
+use Rattle.content_lines.specs.Properties.{PropertyValue, given_property, parts_value, plain_property, properties_text, text_property}
+use Rattle.content_lines.specs.Records.{mark_properties, uid, unread_bytes, unread_name}
 use Rattle.card_export.specs.Cards.{CardValue, CustomValue, FormValue, PersonValue, PhoneValue, PlaceValue}
 use Rattle.card_export.specs.Cards.FormValue.{Person, Unread}
 
--- the characters of a Palm's bytes, with their escapes
-abbrev pub value_chars : List ℕ → List ℕ
-value_chars value = escaped (characters value)
-
--- a line with one value
-abbrev pub property : List ℕ → List ℕ → List ℕ
-property name value = name ++ value_chars value
-
--- that line, where there is a value
-abbrev pub value_lines : List ℕ → List ℕ → List (List ℕ)
-value_lines name [] = []
-value_lines name (byte ∷ rest) = property name (byte ∷ rest) ∷ []
-
--- the parts of a value, with semicolons between them
-abbrev pub parts : List (List ℕ) → List ℕ
-parts [] = []
-parts (value ∷ []) = value_chars value
-parts (value ∷ next ∷ rest) = value_chars value ++ (codes ";" ++ parts (next ∷ rest))
-
 -- ---- names
+
+-- a text, or another one where it is empty
+abbrev pub text_or : List ℕ → List ℕ → List ℕ
+text_or [] other = other
+text_or (byte ∷ rest) other = byte ∷ rest
 
 -- the first that is there
 abbrev pub first_text : List (List ℕ) → List ℕ
 first_text [] = []
-first_text ([] ∷ others) = first_text others
-first_text ((byte ∷ rest) ∷ others) = byte ∷ rest
+first_text (text ∷ others) = text_or text (first_text others)
 
 -- the first and the last name, with a space between them where both are there
 abbrev pub full_name : List ℕ → List ℕ → List ℕ
@@ -53,8 +36,8 @@ shown_name first last company phones =
     first_text (full_name first last ∷ company ∷ first_phone phones ∷ codes "(no name)" ∷ [])
 
 -- last name, first name, and no further names
-abbrev pub name_line : List ℕ → List ℕ → List ℕ
-name_line last first = codes "N:" ++ parts (last ∷ first ∷ [] ∷ [] ∷ [] ∷ [])
+abbrev pub name_parts : List ℕ → List ℕ → List (List ℕ)
+name_parts last first = last ∷ first ∷ [] ∷ [] ∷ [] ∷ []
 
 -- ---- phones
 
@@ -70,13 +53,13 @@ kind_words kind =
     else if kind == 6 then codes "TEL;TYPE=PAGER"
     else codes "TEL;TYPE=CELL"
 
--- the type of the phone that a list shows, and the colon
+-- the type of the phone that a list shows
 abbrev pub preference : Bool → List ℕ
-preference shown = if shown then codes ",PREF:" else codes ":"
+preference shown = if shown then codes ",PREF" else []
 
--- the line of a phone
-abbrev pub phone_line : PhoneValue → List ℕ
-phone_line phone = property (kind_words phone.kind ++ preference phone.shown) phone.text
+-- a phone
+abbrev pub phone_property : PhoneValue → PropertyValue
+phone_property phone = text_property (kind_words phone.kind ++ preference phone.shown) phone.text
 
 -- ---- postal address
 
@@ -87,14 +70,15 @@ is_nowhere place =
     && (length place.zip == 0 && length place.country == 0)))
 
 -- no post office box, no further address, and the parts
-abbrev pub place_line : PlaceValue → List ℕ
-place_line place =
-    codes "ADR:"
-    ++ parts ([] ∷ [] ∷ place.street ∷ place.city ∷ place.state ∷ place.zip ∷ place.country ∷ [])
+abbrev pub place_parts : PlaceValue → List (List ℕ)
+place_parts place =
+    [] ∷ [] ∷ place.street ∷ place.city ∷ place.state ∷ place.zip ∷ place.country ∷ []
 
--- that line, where a part is there
-abbrev pub place_lines : PlaceValue → List (List ℕ)
-place_lines place = if is_nowhere place then [] else place_line place ∷ []
+-- the postal address, where a part is there
+abbrev pub place_properties : PlaceValue → List PropertyValue
+place_properties place =
+    if is_nowhere place then []
+    else plain_property (codes "ADR") (parts_value (place_parts place)) ∷ []
 
 -- ---- custom fields
 
@@ -105,74 +89,61 @@ digit number = (49 + number) ∷ []
 -- the name of a custom field
 abbrev pub custom_name : ℕ → List ℕ
 custom_name number =
-    codes "custom" ++ (digit number ++ (codes ".X-PALM-CUSTOM" ++ (digit number ++ codes ":")))
+    codes "custom" ++ (digit number ++ (codes ".X-PALM-CUSTOM" ++ digit number))
 
 -- the name of its label, in the same group
 abbrev pub label_name : ℕ → List ℕ
-label_name number = codes "custom" ++ (digit number ++ codes ".X-ABLABEL:")
+label_name number = codes "custom" ++ (digit number ++ codes ".X-ABLABEL")
 
 -- a custom field, and its label, where it has one
-abbrev pub custom_lines : CustomValue → List (List ℕ)
-custom_lines custom =
-    property (custom_name custom.number) custom.text
-    ∷ value_lines (label_name custom.number) custom.label
+abbrev pub custom_properties : CustomValue → List PropertyValue
+custom_properties custom =
+    text_property (custom_name custom.number) custom.text
+    ∷ given_property (label_name custom.number) custom.label
 
 -- ---- cards
 
--- the id in six hexadecimal digits
-abbrev pub id_digits : ℕ → List ℕ
-id_digits id = encode_lower (bytes_high_first 3 id)
+-- the first properties
+abbrev pub head_properties : ℕ → List ℕ → List PropertyValue
+head_properties id stem =
+    plain_property (codes "BEGIN") (codes "VCARD") ∷ plain_property (codes "VERSION") (codes "3.0")
+    ∷ plain_property (codes "PRODID") (codes "-//hotsync//Palm address book//EN") ∷ uid id stem ∷ []
 
--- the id, a dot, the stem and `@palm`
-abbrev pub uid_line : ℕ → List ℕ → List ℕ
-uid_line id stem = codes "UID:" ++ (id_digits id ++ (codes "." ++ (stem ++ codes "@palm")))
+-- the name that is shown, and the names of a person
+abbrev pub name_properties : List ℕ → List ℕ → List ℕ → List PropertyValue
+name_properties shown last first =
+    text_property (codes "FN") shown
+    ∷ plain_property (codes "N") (parts_value (name_parts last first)) ∷ []
 
--- the first lines
-unfoldable pub head_lines : ℕ → List ℕ → List (List ℕ)
-head_lines id stem =
-    codes "BEGIN:VCARD" ∷ codes "VERSION:3.0" ∷ codes "PRODID:-//hotsync//Palm address book//EN"
-    ∷ uid_line id stem ∷ []
+-- a person
+abbrev pub person_properties : PersonValue → List PropertyValue
+person_properties person =
+    name_properties (shown_name person.first person.last person.company person.phones)
+    person.last person.first
+    ++ (given_property (codes "ORG") person.company ++ (given_property (codes "TITLE") person.title
+    ++ (map phone_property person.phones ++ (place_properties person.place
+    ++ (flat_map custom_properties person.customs ++ given_property (codes "NOTE") person.note)))))
 
--- the lines between the names and the category
-abbrev pub field_lines : PersonValue → List (List ℕ)
-field_lines person =
-    value_lines (codes "ORG:") person.company
-    ++ (value_lines (codes "TITLE:") person.title ++ (map phone_line person.phones
-    ++ (place_lines person.place
-    ++ (flat_map custom_lines person.customs ++ value_lines (codes "NOTE:") person.note))))
+-- the names of a record that is out of its form
+abbrev pub unread_names : ℕ → List PropertyValue
+unread_names id = unread_name (codes "FN") id ∷ plain_property (codes "N") (codes ";;;;") ∷ []
 
--- the lines of a person
-unfoldable pub person_lines : PersonValue → List (List ℕ)
-person_lines person =
-    property (codes "FN:") (shown_name person.first person.last person.company person.phones)
-    ∷ name_line person.last person.first ∷ field_lines person
+-- what a record says
+abbrev pub form_properties : ℕ → FormValue → List PropertyValue
+form_properties id (Person person) = person_properties person
+form_properties id (Unread bytes) = unread_names id ++ unread_bytes bytes ∷ []
 
--- a record that is out of its form, with its bytes in hexadecimal
-unfoldable pub unread_lines : ℕ → List ℕ → List (List ℕ)
-unread_lines id bytes =
-    (codes "FN:(unreadable record " ++ (id_digits id ++ codes ")")) ∷ codes "N:;;;;"
-    ∷ (codes "X-PALM-RECORD:" ++ encode_lower bytes) ∷ []
+-- the last property
+abbrev pub card_end : PropertyValue
+card_end = plain_property (codes "END") (codes "VCARD")
 
--- the lines of what a record says
-abbrev pub form_lines : ℕ → FormValue → List (List ℕ)
-form_lines id (Person person) = person_lines person
-form_lines id (Unread bytes) = unread_lines id bytes
-
--- the mark of a private record
-abbrev pub class_lines : Bool → List (List ℕ)
-class_lines secret = if secret then codes "CLASS:PRIVATE" ∷ [] else []
-
--- the label of the category, the mark, and the last line
-abbrev pub tail_lines : List ℕ → Bool → List (List ℕ)
-tail_lines label secret =
-    value_lines (codes "CATEGORIES:") label ++ (class_lines secret ++ codes "END:VCARD" ∷ [])
-
--- the lines of a card
-unfoldable pub card_lines : CardValue → List (List ℕ)
-card_lines card =
-    head_lines card.id card.stem
-    ++ (form_lines card.id card.form ++ tail_lines card.label card.secret)
+-- the properties of a card
+abbrev pub card_properties : CardValue → List PropertyValue
+card_properties card =
+    head_properties card.id card.stem
+    ++ (form_properties card.id card.form
+    ++ (mark_properties card.label card.secret ++ card_end ∷ []))
 
 -- a card behind the other, in UTF-8
 abbrev pub cards_text : List CardValue → List ℕ
-cards_text cards = lines_text (flat_map card_lines cards)
+cards_text cards = properties_text (flat_map card_properties cards)

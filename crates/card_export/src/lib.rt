@@ -12,7 +12,6 @@ mod export;
 mod field;
 mod label;
 pub mod laws;
-mod line;
 mod name;
 mod person;
 mod phone;

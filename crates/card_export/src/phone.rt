@@ -1,13 +1,13 @@
 // The phones of a card.
-ghost use Rattle.std.specs.Prelude.{◌≡◌, ◌<◌, ◌+◌, ◌∷◌, [], ◌++◌, OnOk, map, slice_index, string_bytes};
+ghost use Rattle.std.specs.Prelude.{◌≡◌, ◌<◌, ◌+◌, ◌++◌, OnOk, map, true};
+ghost use Rattle.content_lines.specs.Properties.{is_name};
 ghost use Rattle.palm_records.specs.Addresses.{address_value};
-ghost use Rattle.content_lines.specs.Lines.{lines_text};
-ghost use Rattle.card_export.specs.Exports.{field_text, phone_lines_at, phone_of, phones_before};
+ghost use Rattle.card_export.specs.Exports.{field_text, phone_at, phones_before};
 ghost use Rattle.card_export.specs.Properties as properties;
-ghost use Rattle.card_export.specs.Properties.{phone_line};
+ghost use Rattle.card_export.specs.Properties.{phone_property};
 
 use crate::field::{PHONES, field};
-use crate::line::{push_plain, push_value};
+use content_lines::Properties;
 use palm_records::Address;
 use std::alloc::{AllocError, Global};
 
@@ -19,62 +19,48 @@ pub fn phone_text<'a>(address: &Address<'a>, place: usize) -> &'a [u8]
     field(address, PHONES + place)
 }
 
-/// Appends the lines of the phones that are there.
+/// Appends the phones that are there.
 pub fn push_phones(
     alloc: Global,
-    text: &mut String,
+    card: &mut Properties,
     address: &Address<'_>,
 ) -> Result<(), AllocError>
-    ensures { OnOk result (string_bytes text.new ≡ string_bytes text.old
-        ++ lines_text (map phone_line (phones_before 5 (address_value address.now)))) }
+    ensures { OnOk result (card.new
+        ≡ card.old ++ map phone_property (phones_before 5 (address_value address.now))) }
 {
-    for place in 0..5 {
-        push_phone(alloc, text, address, place)?;
-    }
+    push_phone(alloc, card, address, 0)?;
+    push_phone(alloc, card, address, 1)?;
+    push_phone(alloc, card, address, 2)?;
+    push_phone(alloc, card, address, 3)?;
+    push_phone(alloc, card, address, 4)?;
     Ok(())
 }
 
-// Appends the line of a phone, where it is there.
+// Appends a phone, where it is there.
 fn push_phone(
     alloc: Global,
-    text: &mut String,
+    card: &mut Properties,
     address: &Address<'_>,
     place: usize,
 ) -> Result<(), AllocError>
     requires { place < 5 }
-    ensures { OnOk result (string_bytes text.new
-        ≡ string_bytes text.old ++ lines_text (phone_lines_at (address_value address.now) place)) }
+    ensures { OnOk result (card.new ≡ card.old ++ phone_at (address_value address.now) place) }
 {
     let number = phone_text(address, place);
     if number.is_empty() {
         return Ok(());
     }
     let shown = place == usize::from(address.shown);
-    push_phone_line(alloc, text, address.kinds[place], shown, number)?;
-    Ok(())
-}
-
-// Appends the line of a phone of a kind.
-fn push_phone_line(
-    alloc: Global,
-    text: &mut String,
-    kind: u8,
-    shown: bool,
-    number: &[u8],
-) -> Result<(), AllocError>
-    ensures { OnOk result (string_bytes text.new ≡ string_bytes text.old
-        ++ lines_text (phone_line (record { kind = kind; shown = shown; text = number.now }) ∷ [])) }
-{
-    let mut line = String::from_str(alloc, kind_words(kind))?;
-    line.push_str(preference(shown))?;
-    push_value(&mut line, number)?;
-    push_plain(text, line.as_str())?;
+    let mut name = String::from_str(alloc, kind_words(address.kinds[place]))?;
+    name.push_str(preference(shown))?;
+    card.push_text(alloc, name.as_str(), number)?;
     Ok(())
 }
 
 // The property and the types of a kind of phone.
 fn kind_words(kind: u8) -> &'static str
-    ensures { result.now ≡ properties.kind_words kind }
+    ensures words { result.now ≡ properties.kind_words kind }
+    ensures proper { is_name result.now ≡ true }
 {
     match kind {
         0 => "TEL;TYPE=WORK,VOICE",
@@ -88,9 +74,10 @@ fn kind_words(kind: u8) -> &'static str
     }
 }
 
-// The type of the phone that a list shows, and the colon.
+// The type of the phone that a list shows.
 fn preference(shown: bool) -> &'static str
-    ensures { result.now ≡ properties.preference shown }
+    ensures preference { result.now ≡ properties.preference shown }
+    ensures proper { is_name result.now ≡ true }
 {
-    if shown { ",PREF:" } else { ":" }
+    if shown { ",PREF" } else { "" }
 }

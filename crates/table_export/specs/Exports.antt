@@ -1,21 +1,18 @@
 -- The tables of databases: a head row with the names of the columns, and a row for each record that
 -- is exported.
-use Rattle.std.specs.Prelude.{◌≡◌, ℕ, ◌&&◌, Bool, true, not, List, [], ◌∷◌, ◌++◌, codes, filter, map, replicate, Option, Some, Result, Ok, Err, if◌then◌else◌}
+use Rattle.std.specs.Prelude.{◌≡◌, ℕ, Bool, true, List, [], ◌∷◌, ◌++◌, codes, filter, map, replicate, Option, Some, Result, Ok, Err, if◌then◌else◌}
 use Rattle.std.specs.Int.{bytes_high_first}
-use Rattle.std.specs.List.{flat_map}
-use Rattle.std.specs.Result.{result_err}
-use Rattle.std.specs.Str.{bytes_eq}
 use Rattle.hex.specs.Hex.{encode_lower}
 use Rattle.pdb_values.specs.declared.head.DbHead.{DbHead}
 use Rattle.pdb_values.specs.declared.record.Record.{Record}
 use Rattle.pdb_values.specs.Databases.{DatabaseValue}
-use Rattle.pdb_values.specs.Heads.{holds_resources}
 use Rattle.palm_records.specs.Addresses.{AddressValue, address_in}
 use Rattle.palm_records.specs.Tasks.{TaskValue, task_in}
 use Rattle.palm_records.specs.declared.choice.BrokenRecords.{BrokenRecords}
 use Rattle.palm_records.specs.declared.choice.BrokenRecords.TheVariants.{Refused}
 use Rattle.palm_records.specs.declared.choice.Privacy.{Privacy}
 use Rattle.palm_records.specs.Choices.{BadItem, first_bad, is_exported, shown_label}
+use Rattle.content_lines.specs.Refusals.{address_place, fault_by, holds, task_place}
 use Rattle.csv.specs.Writing.{row_text}
 use Rattle.card_export.specs.Exports.{text_of}
 use Rattle.table_export.specs.Addresses.{address_columns, address_names}
@@ -31,18 +28,16 @@ creator_of Tasks = codes "todo"
 
 -- a database of a kind: records of type `DATA` and of its creator
 abbrev pub is_of_kind : Kind → DbHead → Bool
-is_of_kind kind head =
-    not (holds_resources head.attributes)
-    && (bytes_eq head.kind.0 (codes "DATA") && bytes_eq head.creator.0 (creator_of kind))
+is_of_kind kind head = holds (creator_of kind) head
 
 -- the place where bytes are out of the form of their kind
 abbrev pub place_in : Kind → List ℕ → Option ℕ
-place_in Addresses bytes = result_err (address_in bytes)
-place_in Tasks bytes = result_err (task_in bytes)
+place_in Addresses = address_place
+place_in Tasks = task_place
 
 -- the place where a record is out of the form of its kind
 abbrev pub fault_of : Kind → Record → Option ℕ
-fault_of kind item = place_in kind item.content.bytes
+fault_of kind = fault_by (place_in kind)
 
 -- the first record that is exported and out of its form, if any is
 abbrev pub first_bad_item : Kind → Privacy → DatabaseValue → Option BadItem
@@ -113,7 +108,3 @@ exported_rows kind wanted database =
 abbrev pub item_text : Kind → Option (List ℕ) → Privacy → Record → List ℕ
 item_text kind app wanted item =
     if is_exported wanted item then row_text table_writer (item_row kind app item) else []
-
--- what records add to it
-abbrev pub items_text : Kind → Option (List ℕ) → Privacy → List Record → List ℕ
-items_text kind app wanted items = flat_map (item_text kind app wanted) items

@@ -2,8 +2,7 @@ use Rattle.std.proofs.lemmas.Bool.Decides.{nat_tests}
 use Rattle.std.proofs.Common.{◌≡◌, arith, true, false}
 use Rattle.palm_records.specs.Addresses.{address_value}
 use Rattle.card_export.specs.Exports.{custom_of, has_text}
-use Rattle.card_export.proofs.PhoneLaws.{custom_absent, custom_there}
-use Rattle.card_export.proofs.PropertyLaws.{custom_text}
+use Rattle.card_export.proofs.GrowthLaws.{custom_absent, custom_there}
 use Rattle.card_export.proofs.custom.push_custom.Goals as goal
 
 pub returns-then-is_empty : goal.returns-then-is_empty
@@ -14,6 +13,5 @@ returns-then-is_empty c =
 pub returns : goal.returns
 returns c =
     let there : has_text (custom_of c.args.block.now (address_value c.args.address.now) c.args.number) ≡ true = grind (arith, nat_tests) in
-    custom_there _ _ c.args.block.now (address_value c.args.address.now) c.args.number there
-    (custom_text _ _ _ _ _ _ _ (custom_of c.args.block.now (address_value c.args.address.now) c.args.number) c.requires c.custom_name.ensures
-    c.label_name.ensures c.field-custom.ensures c.custom_label.ensures c.in_ok-push_property.ensures c.in_ok-push_given.ensures)
+    custom_there _ _ _ _ _ _ _ c.args.block.now (address_value c.args.address.now) c.args.number there c.custom_name.ensures.name c.label_name.ensures.name
+    c.field-custom.ensures c.custom_label.ensures c.in_ok-push_text.ensures.property c.in_ok-push_given.ensures.property
