@@ -19,7 +19,7 @@ use Rattle.palm_events.specs.RecordRules.{frequency_of, repeat_rule, rule_if_sho
 use Rattle.palm_events.specs.Shown.{first_from, first_shown, shows}
 use Rattle.palm_events.proofs.CalendarLaws.{date_facts, high-month_days, is_date-day_at, year-day_at}
 use Rattle.palm_events.proofs.FormLaws.{few-day_number}
-use Rattle.calendar_export.specs.Components.{IsBytes}
+use Rattle.content_lines.specs.Properties.{IsBytes}
 use Rattle.calendar_export.specs.Dates.{IsAlarm, IsDate, IsDay, IsFrequency, IsRule, IsRuled, IsTimes, date_of, exceptions_of, is_same, start_of}
 use Rattle.calendar_export.specs.Moments.{IsShort}
 

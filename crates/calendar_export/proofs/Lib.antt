@@ -1,11 +1,7 @@
 pub mod CalendarLaws
-pub mod ComponentLaws
 pub mod DateForms
 pub mod DateGrowth
-pub mod EventLaws
-pub mod EventLines
-pub mod ExportLaws
-pub mod LineLaws
+pub mod PartLaws
 pub mod RuleLaws
 pub mod TaskForms
-pub mod TodoLaws
+pub mod ValueLaws

@@ -1,8 +1,8 @@
--- Rules are told by their lines.
+-- Rules are told by their values.
 use Rattle.std.proofs.lemmas.Bool.{and_parts}
 use Rattle.std.proofs.lemmas.Bool.Decides.{nat_tests}
 use Rattle.std.proofs.lemmas.List.{append_cancel_left}
-use Rattle.std.proofs.Common.{arith, ◌≡◌, ◌<◌, ◌++◌, ◌∷◌, [], ◌∙◌, ◌==◌, ◌&&◌, ap, not, refl, sym, ℕ, ◌+◌, ◌-◌, ◌*◌, Bool, true, List, Option, None, Some, append_assoc, get_or, length}
+use Rattle.std.proofs.Common.{arith, ◌≡◌, ◌<◌, ◌++◌, ◌∷◌, [], ◌∙◌, ◌==◌, ◌&&◌, ap, not, refl, sym, ℕ, ◌+◌, ◌-◌, ◌*◌, Bool, true, false, List, Option, None, Some, append_assoc, get_or, length}
 use Rattle.std.specs.Prelude.{codes, if◌then◌else◌}
 use Rattle.palm_records.proofs.CharacterLaws.{append_parts, every, every_at}
 use Rattle.palm_records.specs.declared.day.Day.{Day}
@@ -13,10 +13,12 @@ use Rattle.palm_events.specs.declared.rule.Frequency.{Frequency}
 use Rattle.palm_events.specs.declared.rule.Frequency.TheVariants.{Daily, Weekly, Monthly, MonthlyByDay, Yearly}
 use Rattle.palm_events.specs.declared.rule.Rule.{Rule}
 use Rattle.calendar_export.specs.Moments.{day_chars}
-use Rattle.calendar_export.specs.RuleLines.{day_end, days_chars, frequency_chars, number_chars, rule_line, until_chars, week_chars, weekday_chars, weekdays_chars, weekdays_from}
+use Rattle.calendar_export.specs.RuleValues.{day_end, days_chars, frequency_chars, number_chars, rule_value, until_chars, week_chars, weekday_chars, weekdays_chars, weekdays_from}
 use Rattle.calendar_export.specs.Dates.{IsDay, IsFrequency, IsRule}
-use Rattle.calendar_export.proofs.ComponentLaws.{no_same}
-use Rattle.calendar_export.proofs.TodoLaws.{day_chars_injective}
+use Rattle.calendar_export.proofs.ValueLaws.{day_chars_injective}
+
+pub no_same : (m n : ℕ) → (m == n) ≡ false → m ≡ n → ⊥
+no_same m n other same = grind (arith, nat_tests)
 
 -- ---- parts of a rule, which end at a semicolon or with the line
 
@@ -240,7 +242,8 @@ frequency_front timed Monthly (MonthlyByDay x z) u v is_f is_g n e = absurd (not
 frequency_front timed Monthly Yearly u v is_f is_g n e = absurd (no_same 77 89 refl (ap (λ l. get_or l 0 0) n))
 frequency_front timed (MonthlyByDay w y) Daily u v is_f is_g n e = absurd (no_same 77 68 refl (ap (λ l. get_or l 0 0) n))
 frequency_front timed (MonthlyByDay w y) (Weekly g h) u v is_f is_g n e = absurd (no_same 77 87 refl (ap (λ l. get_or l 0 0) n))
-frequency_front timed (MonthlyByDay w y) Monthly u v is_f is_g n e = absurd (not_by_day timed v ((week_chars w ++ weekday_chars y) ++ until_chars timed u) (sym e))
+frequency_front timed (MonthlyByDay w y) Monthly u v is_f is_g n e = absurd
+    (not_by_day timed v ((week_chars w ++ weekday_chars y) ++ until_chars timed u) (sym e))
 frequency_front timed (MonthlyByDay w y) (MonthlyByDay x z) u v is_f is_g n e =
     let parts = monthly_front timed w x y z u v is_f is_g e in
     (λ i. MonthlyByDay (parts.0 i) (parts.1 i), parts.2)
@@ -251,13 +254,13 @@ frequency_front timed Yearly Monthly u v is_f is_g n e = absurd (no_same 89 77 r
 frequency_front timed Yearly (MonthlyByDay x z) u v is_f is_g n e = absurd (no_same 89 77 refl (ap (λ l. get_or l 0 0) n))
 frequency_front timed Yearly Yearly u v is_f is_g n e = (refl, e)
 
-pub rule_injective : (timed : Bool) (a b : Rule) → IsRule a → IsRule b → rule_line timed a ≡ rule_line timed b → a ≡ b
+pub rule_injective : (timed : Bool) (a b : Rule) → IsRule a → IsRule b → rule_value timed a ≡ rule_value timed b → a ≡ b
 unfolding is_end
 rule_injective timed a b is_a is_b e =
     let behind_a = number_chars a.interval ++ after timed a.frequency a.until in
     let behind_b = number_chars b.interval ++ after timed b.frequency b.until in
     let value =
-    append_cancel_left (codes "RRULE:FREQ=") (frequency_chars a.frequency ++ (codes ";INTERVAL=" ++ behind_a))
+    append_cancel_left (codes "FREQ=") (frequency_chars a.frequency ++ (codes ";INTERVAL=" ++ behind_a))
     (frequency_chars b.frequency ++ (codes ";INTERVAL=" ++ behind_b)) e in
     let unit =
     part_front (frequency_chars a.frequency) (frequency_chars b.frequency) (codes ";INTERVAL=" ++ behind_a) (codes ";INTERVAL=" ++ behind_b)

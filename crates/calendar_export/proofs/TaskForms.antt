@@ -1,39 +1,17 @@
 -- A task that is read is in its bounds.
 use Rattle.std.proofs.lemmas.Bool.Decides.{nat_tests}
-use Rattle.std.proofs.lemmas.List.{get_or-drop}
-use Rattle.std.proofs.Common.{arith, ◌≡◌, ◌<◌, ◌∷◌, [], ◌==◌, cond, refl, ℕ, zero, suc, ◌+◌, Bool, true, false, List, Option, None, Some, drop, length, take}
+use Rattle.std.proofs.Common.{arith, ◌≡◌, ◌<◌, ◌==◌, cond, refl, ℕ, Bool, true, false, List, Option, None, Some, drop, length}
 use Rattle.std.specs.Prelude.{nat_lt, slice_index}
 use Rattle.palm_records.specs.Days.{day_of, is_day}
-use Rattle.palm_records.specs.Strings.{back, behind_string, first_zero, front}
+use Rattle.palm_records.specs.Strings.{behind_string, first_zero}
 use Rattle.palm_records.specs.Tasks.{due_of, due_word, is_due, is_priority, no_day, or_task, priority_of, strings_fault, task_fault, task_of}
-use Rattle.calendar_export.specs.Components.{IsBytes}
-use Rattle.calendar_export.specs.TaskLines.{IsDue, IsTask}
+use Rattle.content_lines.specs.Properties.{IsBytes}
+use Rattle.content_lines.proofs.ByteLaws.{IsBytes-back, IsBytes-drop, IsBytes-front}
+use Rattle.calendar_export.specs.TaskProperties.{IsDue, IsTask}
 use Rattle.calendar_export.specs.Items.{IsContent}
 use Rattle.calendar_export.specs.Moments.{IsShort}
 use Rattle.calendar_export.specs.declared.kind.Kind.TheVariants.{Tasks}
 use Rattle.calendar_export.specs.Exports.{content_in, task_or}
-
--- ---- bytes of bytes
-
-pub IsBytes-nil : IsBytes []
-IsBytes-nil i = omega arith
-
-pub IsBytes-drop : (n : ℕ) (bytes : List ℕ) → IsBytes bytes → IsBytes (drop n bytes)
-IsBytes-drop n bytes h i = let k = h (n + i) in omega (arith, get_or-drop n bytes i 0, k)
-
-pub IsBytes-take : (n : ℕ) (bytes : List ℕ) → IsBytes bytes → IsBytes (take n bytes)
-IsBytes-take zero bytes h i = omega arith
-IsBytes-take (suc n) [] h i = omega arith
-IsBytes-take (suc n) (b ∷ bs) h zero = h 0
-IsBytes-take (suc n) (b ∷ bs) h (suc i) = IsBytes-take n bs (λ j. h (suc j)) i
-
-pub IsBytes-front : (place : Option ℕ) (bytes : List ℕ) → IsBytes bytes → IsBytes (front place bytes)
-IsBytes-front None bytes h = h
-IsBytes-front (Some place) bytes h = IsBytes-take place bytes h
-
-IsBytes-back : (place : Option ℕ) (bytes : List ℕ) → IsBytes bytes → IsBytes (back place bytes)
-IsBytes-back None bytes h = IsBytes-nil
-IsBytes-back (Some place) bytes h = IsBytes-drop (suc place) bytes h
 
 -- ---- the day
 

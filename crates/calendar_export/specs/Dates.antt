@@ -12,7 +12,7 @@ use Rattle.palm_events.specs.Events.{EventValue}
 use Rattle.palm_events.specs.Forms.{are_times}
 use Rattle.palm_events.specs.RecordRules.{rule_of}
 use Rattle.palm_events.specs.Shown.{first_shown}
-use Rattle.calendar_export.specs.Components.{IsBytes}
+use Rattle.content_lines.specs.Properties.{IsBytes}
 use Rattle.calendar_export.specs.Moments.{IsShort}
 
 -- a date: the day on which it begins, its times, its rule and the days on which that does not hold,

@@ -2,11 +2,11 @@
 use Rattle.std.specs.Prelude.{ℕ, List}
 use Rattle.std.specs.List.{flat_map}
 use Rattle.palm_records.specs.Tasks.{TaskValue}
-use Rattle.content_lines.specs.Lines.{lines_text}
-use Rattle.calendar_export.specs.Components.{IsBytes, IsOrigin, OriginValue, SourceValue, calendar_lines, journal_lines}
+use Rattle.content_lines.specs.Properties.{IsBytes, PropertyValue, properties_text}
+use Rattle.calendar_export.specs.Components.{IsOrigin, OriginValue, SourceValue, calendar_properties, journal_properties}
 use Rattle.calendar_export.specs.Dates.{DateValue, IsDate}
-use Rattle.calendar_export.specs.DateLines.{event_lines}
-use Rattle.calendar_export.specs.TaskLines.{IsTask, todo_lines}
+use Rattle.calendar_export.specs.DateProperties.{event_properties}
+use Rattle.calendar_export.specs.TaskProperties.{IsTask, todo_properties}
 use Rattle.calendar_export.specs.declared.kind.Kind.{Kind}
 use Rattle.calendar_export.specs.declared.kind.Kind.TheVariants.{Dates, Tasks}
 
@@ -36,19 +36,19 @@ pub record IsItem (kind : Kind) (item : Item) : Type 0 where
   pub content : IsContent kind item.content
 
 -- what a record says as a component
-abbrev pub content_lines : SourceValue → OriginValue → Content → List (List ℕ)
-content_lines source origin (todo task) = todo_lines source origin task
-content_lines source origin (date value) = event_lines source origin value
-content_lines source origin (unread bytes) = journal_lines source origin bytes
+abbrev pub content_properties : SourceValue → OriginValue → Content → List PropertyValue
+content_properties source origin (todo task) = todo_properties source origin task
+content_properties source origin (date value) = event_properties source origin value
+content_properties source origin (unread bytes) = journal_properties source origin bytes
 
 -- a record as a component
-abbrev pub item_lines : SourceValue → Item → List (List ℕ)
-item_lines source item = content_lines source item.origin item.content
+abbrev pub item_properties : SourceValue → Item → List PropertyValue
+item_properties source item = content_properties source item.origin item.content
 
--- the lines of the object with these records
-abbrev pub calendar_of : SourceValue → List Item → List (List ℕ)
-calendar_of source items = calendar_lines (flat_map (item_lines source) items)
+-- the properties of the object with these records
+abbrev pub calendar_of : SourceValue → List Item → List PropertyValue
+calendar_of source items = calendar_properties (flat_map (item_properties source) items)
 
 -- its text
 abbrev pub calendar_text : SourceValue → List Item → List ℕ
-calendar_text source items = lines_text (calendar_of source items)
+calendar_text source items = properties_text (calendar_of source items)

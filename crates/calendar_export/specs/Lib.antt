@@ -1,9 +1,8 @@
 pub mod Components
-pub mod ContentLines
-pub mod DateLines
+pub mod DateProperties
 pub mod Dates
 pub mod Exports
 pub mod Items
 pub mod Moments
-pub mod RuleLines
-pub mod TaskLines
+pub mod RuleValues
+pub mod TaskProperties

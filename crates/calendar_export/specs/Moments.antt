@@ -1,5 +1,6 @@
 -- Days and times in iCalendar objects (RFC 5545, sections 3.3.4 and 3.3.5), in characters.
-use Rattle.std.specs.Prelude.{ℕ, ◌+◌, ◌/◌, ◌%◌, ◌<◌, List, [], ◌∷◌, ◌++◌, codes}
+use Rattle.std.specs.Prelude.{ℕ, ◌/◌, ◌<◌, List, [], ◌∷◌, ◌++◌, codes}
+use Rattle.content_lines.specs.Properties.{PropertyValue, digit, plain_property}
 use Rattle.pdb_values.specs.declared.civil.CivilTime.{CivilTime}
 use Rattle.pdb_values.specs.CivilTimes.{civil_of}
 use Rattle.calendar_export.specs.declared.moment.Moment.{Moment}
@@ -10,10 +11,6 @@ pub record IsShort (date : Day) : Type 0 where
   pub year : date.year < 10000
   pub month : date.month < 100
   pub day : date.day < 100
-
--- the last decimal digit of a number
-abbrev pub digit : ℕ → ℕ
-digit number = 48 + number % 10
 
 -- its last two digits
 abbrev pub two_digits : ℕ → List ℕ
@@ -48,5 +45,5 @@ stamp_chars time =
     ++ (codes "T" ++ (clock_chars time.hour time.minute time.second ++ codes "Z"))
 
 -- the time at which the text was made, from the seconds since 1904-01-01T00:00:00
-abbrev pub stamp_line : ℕ → List ℕ
-stamp_line made = codes "DTSTAMP:" ++ stamp_chars (moment_of (civil_of made))
+abbrev pub stamp_property : ℕ → PropertyValue
+stamp_property made = plain_property (codes "DTSTAMP") (stamp_chars (moment_of (civil_of made)))

@@ -1,21 +1,19 @@
 // One date.
-ghost use Rattle.std.specs.Prelude.{◌≡◌, ◌<◌, ◌++◌, ◌∷◌, [], IsTrue, OnOk, codes, map, string_bytes, true};
+ghost use Rattle.std.specs.Prelude.{◌≡◌, ◌<◌, ◌++◌, IfOk, IsTrue, OnOk, codes, map, true};
 ghost use Rattle.palm_events.specs.Calendar.{is_date};
 ghost use Rattle.palm_events.specs.Events.{event_value};
 ghost use Rattle.palm_events.specs.Exceptions.{days_in};
 ghost use Rattle.palm_events.specs.Forms.{IsEvent};
-ghost use Rattle.content_lines.specs.Lines.{lines_text};
-ghost use Rattle.calendar_export.specs.ContentLines.{is_plain};
-ghost use Rattle.calendar_export.specs.Components.{IsBytes, origin_value, source_value};
+ghost use Rattle.content_lines.specs.Properties.{IsBytes, is_name, is_plain};
+ghost use Rattle.calendar_export.specs.Components.{origin_value, source_value};
 ghost use Rattle.calendar_export.specs.Dates.{IsDate, date_of, exceptions_of, own_of, start_of};
-ghost use Rattle.calendar_export.specs.DateLines as lines;
-ghost use Rattle.calendar_export.specs.DateLines.{alarm_lines, day_line, day_value, end_day, end_lines, event_lines, exception_lines, own_lines, time_chars, trigger_line, unit_letter, unit_mark, what_lines, when_lines};
+ghost use Rattle.calendar_export.specs.DateProperties as spec;
+ghost use Rattle.calendar_export.specs.DateProperties.{alarm_properties, day_mark, day_property, day_value, end_day, end_properties, event_properties, exception_properties, own_properties, time_chars, trigger_value, unit_letter, unit_mark, what_properties, when_properties};
 
-use crate::component::{Origin, Source, push_head, push_marks};
-use crate::line::Line;
+use crate::component::{Origin, Source, push_head};
 use crate::moment::{push_clock, push_day};
-use crate::property::{push_fixed, push_given, push_text};
 use crate::rule::{push_number, push_rule};
+use content_lines::{Properties, Text};
 use palm_events::{
     Alarm, AlarmUnit, Event, Exceptions, Rule, Time, Times, first_day, next_day, rule_of,
 };
@@ -23,50 +21,52 @@ use palm_records::Day;
 use std::alloc::{AllocError, Global};
 
 // Appends a day and a time of it.
-fn push_time(line: &mut Line, day: Day, time: Time) -> Result<(), AllocError>
-    ensures { OnOk result (line.new ≡ line.old ++ time_chars day time) }
+fn push_time(value: &mut Text, day: Day, time: Time) -> Result<(), AllocError>
+    ensures { OnOk result (value.new ≡ value.old ++ time_chars day time) }
 {
-    push_day(line, day)?;
-    line.push_plain("T")?;
-    push_clock(line, time.hour, time.minute, 0)?;
+    push_day(value, day)?;
+    value.push_plain("T")?;
+    push_clock(value, time.hour, time.minute, 0)?;
     Ok(())
 }
 
-// Appends a day, with the time at which the date begins, if it has one.
-fn push_day_value(line: &mut Line, time: Option<Times>, day: Day) -> Result<(), AllocError>
-    ensures { OnOk result (line.new ≡ line.old ++ day_value time day) }
+// A day, with the time at which the date begins, if it has one.
+fn day_text(alloc: Global, time: Option<Times>, day: Day) -> Result<Text, AllocError>
+    ensures { IfOk result (λ value. value ≡ day_value time day) }
 {
-    let Some(times) = time else {
-        line.push_plain(";VALUE=DATE:")?;
-        push_day(line, day)?;
-        return Ok(());
-    };
-    line.push_plain(":")?;
-    push_time(line, day, times.start)?;
-    Ok(())
+    let mut value = Text::new(alloc, "")?;
+    match time {
+        Some(times) => push_time(&mut value, day, times.start)?,
+        None => push_day(&mut value, day)?,
+    }
+    Ok(value)
 }
 
-// Appends a property with that.
-fn push_day_line(
-    alloc: Global,
-    text: &mut String,
-    name: &str,
-    time: Option<Times>,
-    day: Day,
-) -> Result<(), AllocError>
-    requires { is_plain name.now ≡ true }
-    ensures { OnOk result (string_bytes text.new
-        ≡ string_bytes text.old ++ lines_text (day_line name.now time day ∷ [])) }
+// The name of the start. A day alone is marked.
+fn start_name(time: Option<Times>) -> &'static str
+    ensures name { result.now ≡ codes "DTSTART" ++ day_mark time }
+    ensures proper { is_name result.now ≡ true }
 {
-    let mut line = Line::new(alloc, name)?;
-    push_day_value(&mut line, time, day)?;
-    line.end(text)?;
-    Ok(())
+    match time {
+        Some(_) => "DTSTART",
+        None => "DTSTART;VALUE=DATE",
+    }
+}
+
+// That of a day on which a rule does not hold.
+fn exception_name(time: Option<Times>) -> &'static str
+    ensures name { result.now ≡ codes "EXDATE" ++ day_mark time }
+    ensures proper { is_name result.now ≡ true }
+{
+    match time {
+        Some(_) => "EXDATE",
+        None => "EXDATE;VALUE=DATE",
+    }
 }
 
 // Whether a time is before another one of its day.
 fn is_before(one: Time, other: Time) -> bool
-    ensures { result ≡ lines.is_before one other }
+    ensures { result ≡ spec.is_before one other }
 {
     60 * u16::from(one.hour) + u16::from(one.minute)
         < 60 * u16::from(other.hour) + u16::from(other.minute)
@@ -87,7 +87,7 @@ fn end_day(start: Day, times: Times) -> Day
 
 // Whether the end is the start.
 fn is_same_time(times: Times) -> bool
-    ensures { result ≡ lines.is_same_time times }
+    ensures { result ≡ spec.is_same_time times }
 {
     times.start.hour == times.end.hour && times.start.minute == times.end.minute
 }
@@ -95,14 +95,13 @@ fn is_same_time(times: Times) -> bool
 // Appends the end, where it isn't the start.
 fn push_end(
     alloc: Global,
-    text: &mut String,
+    calendar: &mut Properties,
     start: Day,
     time: Option<Times>,
 ) -> Result<(), AllocError>
     requires date { IsTrue (is_date start) }
     requires year { start.year < 10000 }
-    ensures { OnOk result (string_bytes text.new
-        ≡ string_bytes text.old ++ lines_text (end_lines start time)) }
+    ensures { OnOk result (calendar.new ≡ calendar.old ++ end_properties start time) }
 {
     let Some(times) = time else {
         return Ok(());
@@ -110,24 +109,24 @@ fn push_end(
     if is_same_time(times) {
         return Ok(());
     }
-    let mut line = Line::new(alloc, "DTEND:")?;
-    push_time(&mut line, end_day(start, times), times.end)?;
-    line.end(text)?;
+    let mut value = Text::new(alloc, "")?;
+    push_time(&mut value, end_day(start, times), times.end)?;
+    calendar.push(alloc, "DTEND", value)?;
     Ok(())
 }
 
 // Appends the days on which a rule does not hold.
 fn push_exceptions(
     alloc: Global,
-    text: &mut String,
+    calendar: &mut Properties,
     time: Option<Times>,
     exceptions: Exceptions<'_>,
 ) -> Result<(), AllocError>
-    ensures { OnOk result (string_bytes text.new ≡ string_bytes text.old
-        ++ lines_text (map (day_line (codes "EXDATE") time) (days_in exceptions.entry.bytes.now))) }
+    ensures { OnOk result (calendar.new ≡ calendar.old
+        ++ map (day_property (codes "EXDATE") time) (days_in exceptions.entry.bytes.now)) }
 {
     for index in 0..exceptions.len() {
-        push_exception(alloc, text, time, exceptions.get(index))?;
+        push_exception(alloc, calendar, time, exceptions.get(index))?;
     }
     Ok(())
 }
@@ -135,33 +134,34 @@ fn push_exceptions(
 // Appends one of them, if there is one.
 fn push_exception(
     alloc: Global,
-    text: &mut String,
+    calendar: &mut Properties,
     time: Option<Times>,
     day: Option<Day>,
 ) -> Result<(), AllocError>
-    ensures { OnOk result (string_bytes text.new ≡ string_bytes text.old
-        ++ lines_text (exception_lines (day_line (codes "EXDATE") time) day)) }
+    ensures { OnOk result (calendar.new
+        ≡ calendar.old ++ exception_properties (day_property (codes "EXDATE") time) day) }
 {
-    match day {
-        Some(day) => push_day_line(alloc, text, "EXDATE", time, day),
-        None => Ok(()),
-    }
+    let Some(day) = day else {
+        return Ok(());
+    };
+    let value = day_text(alloc, time, day)?;
+    calendar.push(alloc, exception_name(time), value)?;
+    Ok(())
 }
 
 // Appends them, where there is a rule.
 fn push_ruled(
     alloc: Global,
-    text: &mut String,
+    calendar: &mut Properties,
     time: Option<Times>,
     rule: Option<Rule>,
     exceptions: Exceptions<'_>,
 ) -> Result<(), AllocError>
-    ensures { OnOk result (string_bytes text.new ≡ string_bytes text.old ++ lines_text
-        (map (day_line (codes "EXDATE") time)
-        (exceptions_of rule (days_in exceptions.entry.bytes.now)))) }
+    ensures { OnOk result (calendar.new ≡ calendar.old ++ map (day_property (codes "EXDATE") time)
+        (exceptions_of rule (days_in exceptions.entry.bytes.now))) }
 {
     match rule {
-        Some(_) => push_exceptions(alloc, text, time, exceptions),
+        Some(_) => push_exceptions(alloc, calendar, time, exceptions),
         None => Ok(()),
     }
 }
@@ -178,16 +178,15 @@ fn own_of(start: Day, own: Day) -> Option<Day>
 }
 
 // Appends that day.
-fn push_own(alloc: Global, text: &mut String, own: Option<Day>) -> Result<(), AllocError>
-    ensures { OnOk result (string_bytes text.new
-        ≡ string_bytes text.old ++ lines_text (own_lines own)) }
+fn push_own(alloc: Global, calendar: &mut Properties, own: Option<Day>) -> Result<(), AllocError>
+    ensures { OnOk result (calendar.new ≡ calendar.old ++ own_properties own) }
 {
     let Some(day) = own else {
         return Ok(());
     };
-    let mut line = Line::new(alloc, "X-PALM-DATE:")?;
-    push_day(&mut line, day)?;
-    line.end(text)?;
+    let mut value = Text::new(alloc, "")?;
+    push_day(&mut value, day)?;
+    calendar.push(alloc, "X-PALM-DATE", value)?;
     Ok(())
 }
 
@@ -215,37 +214,35 @@ fn unit_letter(unit: AlarmUnit) -> &'static str
     }
 }
 
-// Appends how long an alarm rings before the start.
-fn push_trigger(alloc: Global, text: &mut String, alarm: Alarm) -> Result<(), AllocError>
-    ensures { OnOk result (string_bytes text.new
-        ≡ string_bytes text.old ++ lines_text (trigger_line alarm ∷ [])) }
+// How long an alarm rings before the start.
+fn trigger_text(alloc: Global, alarm: Alarm) -> Result<Text, AllocError>
+    ensures { IfOk result (λ value. value ≡ trigger_value alarm) }
 {
-    let mut line = Line::new(alloc, "TRIGGER:")?;
-    line.push_plain(unit_mark(alarm.unit))?;
-    push_number(&mut line, alarm.advance)?;
-    line.push_plain(unit_letter(alarm.unit))?;
-    line.end(text)?;
-    Ok(())
+    let mut value = Text::new(alloc, unit_mark(alarm.unit))?;
+    push_number(&mut value, alarm.advance)?;
+    value.push_plain(unit_letter(alarm.unit))?;
+    Ok(value)
 }
 
 // Appends the alarm of a date, if it has one.
+#[tactic(auto, using(std::proofs::Common::append_assoc))]
 fn push_alarm(
     alloc: Global,
-    text: &mut String,
+    calendar: &mut Properties,
     description: &[u8],
     alarm: Option<Alarm>,
 ) -> Result<(), AllocError>
-    ensures { OnOk result (string_bytes text.new
-        ≡ string_bytes text.old ++ lines_text (alarm_lines description.now alarm)) }
+    ensures { OnOk result (calendar.new ≡ calendar.old ++ alarm_properties description.now alarm) }
 {
     let Some(alarm) = alarm else {
         return Ok(());
     };
-    push_fixed(alloc, text, "BEGIN:VALARM")?;
-    push_fixed(alloc, text, "ACTION:DISPLAY")?;
-    push_text(alloc, text, "DESCRIPTION:", description)?;
-    push_trigger(alloc, text, alarm)?;
-    push_fixed(alloc, text, "END:VALARM")?;
+    calendar.push_plain(alloc, "BEGIN", "VALARM")?;
+    calendar.push_plain(alloc, "ACTION", "DISPLAY")?;
+    calendar.push_text(alloc, "DESCRIPTION", description)?;
+    let trigger = trigger_text(alloc, alarm)?;
+    calendar.push(alloc, "TRIGGER", trigger)?;
+    calendar.push_plain(alloc, "END", "VALARM")?;
     Ok(())
 }
 
@@ -263,66 +260,55 @@ fn start_of(event: &Event<'_>) -> Day
 }
 
 // Appends when a date is.
-fn push_when(alloc: Global, text: &mut String, event: &Event<'_>) -> Result<(), AllocError>
+fn push_when(alloc: Global, calendar: &mut Properties, event: &Event<'_>) -> Result<(), AllocError>
     requires { IsEvent (event_value event.now) }
-    ensures { OnOk result (string_bytes text.new ≡ string_bytes text.old
-        ++ lines_text (when_lines (date_of (event_value event.now)))) }
+    ensures { OnOk result (calendar.new
+        ≡ calendar.old ++ when_properties (date_of (event_value event.now))) }
 {
     let start = start_of(event);
     let rule = rule_of(event);
-    push_day_line(alloc, text, "DTSTART", event.time, start)?;
-    push_end(alloc, text, start, event.time)?;
-    push_rule(alloc, text, event.time.is_some(), rule)?;
-    push_ruled(alloc, text, event.time, rule, event.exceptions)?;
-    push_own(alloc, text, own_of(start, event.date))?;
+    let value = day_text(alloc, event.time, start)?;
+    calendar.push(alloc, start_name(event.time), value)?;
+    push_end(alloc, calendar, start, event.time)?;
+    push_rule(alloc, calendar, event.time.is_some(), rule)?;
+    push_ruled(alloc, calendar, event.time, rule, event.exceptions)?;
+    push_own(alloc, calendar, own_of(start, event.date))?;
     Ok(())
 }
 
 // Appends what it is.
-fn push_what(alloc: Global, text: &mut String, event: &Event<'_>) -> Result<(), AllocError>
-    ensures text { OnOk result (string_bytes text.new ≡ string_bytes text.old
-        ++ lines_text (what_lines (date_of (event_value event.now)))) }
+#[tactic(auto, using(std::proofs::Common::append_assoc))]
+fn push_what(alloc: Global, calendar: &mut Properties, event: &Event<'_>) -> Result<(), AllocError>
+    ensures text { OnOk result (calendar.new
+        ≡ calendar.old ++ what_properties (date_of (event_value event.now))) }
     ensures description { OnOk result (IsBytes event.now.description.now) }
     ensures note { OnOk result (IsBytes event.now.note.now) }
 {
-    push_text(alloc, text, "SUMMARY:", event.description)?;
-    push_given(alloc, text, "DESCRIPTION:", event.note)?;
-    Ok(())
-}
-
-// Appends both.
-fn push_body(alloc: Global, text: &mut String, event: &Event<'_>) -> Result<(), AllocError>
-    requires { IsEvent (event_value event.now) }
-    ensures text { OnOk result (string_bytes text.new ≡ string_bytes text.old
-        ++ lines_text (when_lines (date_of (event_value event.now))
-        ++ what_lines (date_of (event_value event.now)))) }
-    ensures form { OnOk result (IsDate (date_of (event_value event.now))) }
-{
-    push_when(alloc, text, event)?;
-    push_what(alloc, text, event)?;
+    calendar.push_text(alloc, "SUMMARY", event.description)?;
+    calendar.push_given(alloc, "DESCRIPTION", event.note)?;
     Ok(())
 }
 
 /// Appends a date as a component.
 pub fn push_event(
     alloc: Global,
-    text: &mut String,
+    calendar: &mut Properties,
     source: &Source<'_>,
     origin: &Origin<'_>,
     event: &Event<'_>,
 ) -> Result<(), AllocError>
     requires stem { is_plain source.now.stem.now ≡ true }
     requires form { IsEvent (event_value event.now) }
-    ensures text { OnOk result (string_bytes text.new ≡ string_bytes text.old ++ lines_text
-        (event_lines (source_value source.now) (origin_value origin.now)
-        (date_of (event_value event.now)))) }
+    ensures text { OnOk result (calendar.new ≡ calendar.old
+        ++ event_properties (source_value source.now) (origin_value origin.now) (date_of (event_value event.now))) }
     ensures form { OnOk result (IsDate (date_of (event_value event.now))) }
 {
-    push_fixed(alloc, text, "BEGIN:VEVENT")?;
-    push_head(alloc, text, source, origin.id)?;
-    push_body(alloc, text, event)?;
-    push_marks(alloc, text, origin)?;
-    push_alarm(alloc, text, event.description, event.alarm)?;
-    push_fixed(alloc, text, "END:VEVENT")?;
+    calendar.push_plain(alloc, "BEGIN", "VEVENT")?;
+    push_head(alloc, calendar, source, origin.id)?;
+    push_when(alloc, calendar, event)?;
+    push_what(alloc, calendar, event)?;
+    calendar.push_marks(alloc, origin.label, origin.secret)?;
+    push_alarm(alloc, calendar, event.description, event.alarm)?;
+    calendar.push_plain(alloc, "END", "VEVENT")?;
     Ok(())
 }

@@ -1,10 +1,10 @@
 // What holds of the texts.
 ghost use Rattle.std.specs.Prelude.{◌≡◌, All, Bool, List, true};
 ghost use Rattle.palm_events.specs.declared.rule.Rule.{Rule};
-ghost use Rattle.calendar_export.specs.ContentLines.{is_plain};
+ghost use Rattle.content_lines.specs.Properties.{is_plain};
 ghost use Rattle.calendar_export.specs.Components.{SourceValue};
 ghost use Rattle.calendar_export.specs.Dates.{IsRule};
-ghost use Rattle.calendar_export.specs.RuleLines.{rule_line};
+ghost use Rattle.calendar_export.specs.RuleValues.{rule_value};
 ghost use Rattle.calendar_export.specs.Items.{IsItem, Item, calendar_text};
 ghost use Rattle.calendar_export.specs.declared.kind.Kind.TheVariants.{Dates, Tasks};
 
@@ -24,8 +24,8 @@ pub fn a_text_is_that_of_one_list_of_dates()
         → calendar_text source a ≡ calendar_text source b → a ≡ b }
 {}
 
-/// One line is that of one rule of recurrence, of a date that has a time or not.
-pub fn a_line_is_that_of_one_rule()
+/// One value is that of one rule of recurrence, of a date that has a time or not.
+pub fn a_value_is_that_of_one_rule()
     ensures { (timed : Bool) (a b : Rule) → IsRule a → IsRule b
-        → rule_line timed a ≡ rule_line timed b → a ≡ b }
+        → rule_value timed a ≡ rule_value timed b → a ≡ b }
 {}

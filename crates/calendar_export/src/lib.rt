@@ -10,9 +10,7 @@ mod date;
 mod export;
 pub mod kind;
 pub mod laws;
-mod line;
 mod moment;
-mod property;
 mod rule;
 mod task;
 

@@ -3,7 +3,7 @@ ghost use Rattle.std.specs.Prelude.{◌≡◌, ◌++◌, OnOk};
 ghost use Rattle.pdb_values.specs.CivilTimes.{civil_of};
 ghost use Rattle.calendar_export.specs.Moments.{clock_chars, day_chars, four_digits, moment_of, stamp_chars, two_digits};
 
-use crate::line::Line;
+use content_lines::Text;
 use palm_records::Day;
 use pdb_values::PalmDate;
 use std::alloc::AllocError;
@@ -30,42 +30,42 @@ const FIRST: Moment = Moment {
 };
 
 /// Appends the last two digits of a number.
-pub fn push_two(line: &mut Line, number: u8) -> Result<(), AllocError>
-    ensures { OnOk result (line.new ≡ line.old ++ two_digits number) }
+pub fn push_two(value: &mut Text, number: u8) -> Result<(), AllocError>
+    ensures { OnOk result (value.new ≡ value.old ++ two_digits number) }
 {
-    line.push_digit(u16::from(number / 10))?;
-    line.push_digit(u16::from(number))?;
+    value.push_digit(u16::from(number / 10))?;
+    value.push_digit(u16::from(number))?;
     Ok(())
 }
 
 // Appends the last four digits of a number.
-fn push_four(line: &mut Line, number: u16) -> Result<(), AllocError>
-    ensures { OnOk result (line.new ≡ line.old ++ four_digits number) }
+fn push_four(value: &mut Text, number: u16) -> Result<(), AllocError>
+    ensures { OnOk result (value.new ≡ value.old ++ four_digits number) }
 {
-    line.push_digit(number / 1000)?;
-    line.push_digit(number / 100)?;
-    line.push_digit(number / 10)?;
-    line.push_digit(number)?;
+    value.push_digit(number / 1000)?;
+    value.push_digit(number / 100)?;
+    value.push_digit(number / 10)?;
+    value.push_digit(number)?;
     Ok(())
 }
 
 /// Appends a day.
-pub fn push_day(line: &mut Line, day: Day) -> Result<(), AllocError>
-    ensures { OnOk result (line.new ≡ line.old ++ day_chars day) }
+pub fn push_day(value: &mut Text, day: Day) -> Result<(), AllocError>
+    ensures { OnOk result (value.new ≡ value.old ++ day_chars day) }
 {
-    push_four(line, day.year)?;
-    push_two(line, day.month)?;
-    push_two(line, day.day)?;
+    push_four(value, day.year)?;
+    push_two(value, day.month)?;
+    push_two(value, day.day)?;
     Ok(())
 }
 
 /// Appends a time of a day.
-pub fn push_clock(line: &mut Line, hour: u8, minute: u8, second: u8) -> Result<(), AllocError>
-    ensures { OnOk result (line.new ≡ line.old ++ clock_chars hour minute second) }
+pub fn push_clock(value: &mut Text, hour: u8, minute: u8, second: u8) -> Result<(), AllocError>
+    ensures { OnOk result (value.new ≡ value.old ++ clock_chars hour minute second) }
 {
-    push_two(line, hour)?;
-    push_two(line, minute)?;
-    push_two(line, second)?;
+    push_two(value, hour)?;
+    push_two(value, minute)?;
+    push_two(value, second)?;
     Ok(())
 }
 
@@ -90,12 +90,12 @@ pub fn moment_of(date: PalmDate) -> Moment
 }
 
 /// Appends a day and a time of it, by the universal clock.
-pub fn push_stamp(line: &mut Line, time: Moment) -> Result<(), AllocError>
-    ensures { OnOk result (line.new ≡ line.old ++ stamp_chars time) }
+pub fn push_stamp(value: &mut Text, time: Moment) -> Result<(), AllocError>
+    ensures { OnOk result (value.new ≡ value.old ++ stamp_chars time) }
 {
-    push_day(line, time.day)?;
-    line.push_plain("T")?;
-    push_clock(line, time.hour, time.minute, time.second)?;
-    line.push_plain("Z")?;
+    push_day(value, time.day)?;
+    value.push_plain("T")?;
+    push_clock(value, time.hour, time.minute, time.second)?;
+    value.push_plain("Z")?;
     Ok(())
 }

@@ -1,29 +1,28 @@
 // Rules of recurrence.
-ghost use Rattle.std.specs.Prelude.{◌≡◌, ◌<◌, ◌+◌, ◌++◌, ◌∷◌, [], IfOk, OnOk, suc, string_bytes, true, ℕ};
-ghost use Rattle.content_lines.specs.Lines.{lines_text};
-ghost use Rattle.calendar_export.specs.ContentLines.{is_plain};
-ghost use Rattle.calendar_export.specs.RuleLines.{comma, day_end, days_chars, frequency_chars, number_chars, rule_line, rule_lines, until_chars, week_chars, weekday_chars, weekdays_chars, weekdays_from};
+ghost use Rattle.std.specs.Prelude.{◌≡◌, ◌<◌, ◌+◌, ◌++◌, IfOk, OnOk, suc, true, ℕ};
+ghost use Rattle.content_lines.specs.Properties.{is_plain};
+ghost use Rattle.calendar_export.specs.RuleValues.{comma, day_end, days_chars, frequency_chars, number_chars, rule_properties, rule_value, until_chars, week_chars, weekday_chars, weekdays_chars, weekdays_from};
 
-use crate::line::Line;
 use crate::moment::{push_day, push_two};
+use content_lines::{Properties, Text};
 use palm_events::{Frequency, Rule, Week, Weekdays};
 use palm_records::Day;
 use std::alloc::{AllocError, Global};
 
 /// Appends a number without zeros in front.
-pub fn push_number(line: &mut Line, number: u8) -> Result<(), AllocError>
-    ensures { OnOk result (line.new ≡ line.old ++ number_chars number) }
+pub fn push_number(value: &mut Text, number: u8) -> Result<(), AllocError>
+    ensures { OnOk result (value.new ≡ value.old ++ number_chars number) }
 {
     if number < 10 {
-        line.push_digit(u16::from(number))?;
+        value.push_digit(u16::from(number))?;
         return Ok(());
     }
     if number < 100 {
-        push_two(line, number)?;
+        push_two(value, number)?;
         return Ok(());
     }
-    line.push_digit(u16::from(number / 100))?;
-    push_two(line, number)?;
+    value.push_digit(u16::from(number / 100))?;
+    push_two(value, number)?;
     Ok(())
 }
 
@@ -80,63 +79,63 @@ fn comma(some: bool) -> &'static str
 
 // Appends a weekday, where it is one of these days, and answers whether there are some by now.
 fn push_weekday(
-    line: &mut Line,
+    value: &mut Text,
     days: Weekdays,
     weekday: u8,
     some: bool,
 ) -> Result<bool, AllocError>
     requires { weekday < 7 }
-    ensures { IfOk result (λ now. (more : ℕ) → line.new ++ weekdays_from days more (weekday + 1) now
-        ≡ line.old ++ weekdays_from days (suc more) weekday some) }
+    ensures { IfOk result (λ now. (more : ℕ) → value.new ++ weekdays_from days more (weekday + 1) now
+        ≡ value.old ++ weekdays_from days (suc more) weekday some) }
 {
     if !days.has(weekday) {
         return Ok(some);
     }
-    line.push_plain(comma(some))?;
-    line.push_plain(weekday_name(weekday))?;
+    value.push_plain(comma(some))?;
+    value.push_plain(weekday_name(weekday))?;
     Ok(true)
 }
 
 // Appends the days of a week.
-fn push_weekdays(line: &mut Line, days: Weekdays) -> Result<(), AllocError>
-    ensures { OnOk result (line.new ≡ line.old ++ weekdays_chars days) }
+fn push_weekdays(value: &mut Text, days: Weekdays) -> Result<(), AllocError>
+    ensures { OnOk result (value.new ≡ value.old ++ weekdays_chars days) }
 {
     let mut some = false;
     for weekday in 0..7 {
-        some = push_weekday(line, days, weekday, some)?;
+        some = push_weekday(value, days, weekday, some)?;
     }
     Ok(())
 }
 
 // Appends the days of a week, and its first one.
-fn push_weekly(line: &mut Line, days: Weekdays, first: u8) -> Result<(), AllocError>
-    ensures { OnOk result (line.new ≡ line.old ++ days_chars (Frequency.Weekly days first)) }
+fn push_weekly(value: &mut Text, days: Weekdays, first: u8) -> Result<(), AllocError>
+    ensures { OnOk result (value.new ≡ value.old ++ days_chars (Frequency.Weekly days first)) }
 {
-    line.push_plain(";BYDAY=")?;
-    push_weekdays(line, days)?;
-    line.push_plain(";WKST=")?;
-    line.push_plain(weekday_name(first))?;
+    value.push_plain(";BYDAY=")?;
+    push_weekdays(value, days)?;
+    value.push_plain(";WKST=")?;
+    value.push_plain(weekday_name(first))?;
     Ok(())
 }
 
 // Appends a weekday and which one of a month's it is.
-fn push_monthly(line: &mut Line, week: Week, weekday: u8) -> Result<(), AllocError>
-    ensures { OnOk result (line.new
-        ≡ line.old ++ days_chars (Frequency.MonthlyByDay week weekday)) }
+fn push_monthly(value: &mut Text, week: Week, weekday: u8) -> Result<(), AllocError>
+    ensures { OnOk result (value.new
+        ≡ value.old ++ days_chars (Frequency.MonthlyByDay week weekday)) }
 {
-    line.push_plain(";BYDAY=")?;
-    line.push_plain(week_name(week))?;
-    line.push_plain(weekday_name(weekday))?;
+    value.push_plain(";BYDAY=")?;
+    value.push_plain(week_name(week))?;
+    value.push_plain(weekday_name(weekday))?;
     Ok(())
 }
 
 // Appends the days in each unit of a rule.
-fn push_days(line: &mut Line, frequency: Frequency) -> Result<(), AllocError>
-    ensures { OnOk result (line.new ≡ line.old ++ days_chars frequency) }
+fn push_days(value: &mut Text, frequency: Frequency) -> Result<(), AllocError>
+    ensures { OnOk result (value.new ≡ value.old ++ days_chars frequency) }
 {
     match frequency {
-        Frequency::Weekly { days, first } => push_weekly(line, days, first),
-        Frequency::MonthlyByDay { week, weekday } => push_monthly(line, week, weekday),
+        Frequency::Weekly { days, first } => push_weekly(value, days, first),
+        Frequency::MonthlyByDay { week, weekday } => push_monthly(value, week, weekday),
         Frequency::Daily | Frequency::Monthly | Frequency::Yearly => Ok(()),
     }
 }
@@ -150,45 +149,45 @@ fn day_end(timed: bool) -> &'static str
 }
 
 // Appends the last day of a rule.
-fn push_until(line: &mut Line, timed: bool, until: Option<Day>) -> Result<(), AllocError>
-    ensures { OnOk result (line.new ≡ line.old ++ until_chars timed until) }
+fn push_until(value: &mut Text, timed: bool, until: Option<Day>) -> Result<(), AllocError>
+    ensures { OnOk result (value.new ≡ value.old ++ until_chars timed until) }
 {
     let Some(day) = until else {
         return Ok(());
     };
-    line.push_plain(";UNTIL=")?;
-    push_day(line, day)?;
-    line.push_plain(day_end(timed))?;
+    value.push_plain(";UNTIL=")?;
+    push_day(value, day)?;
+    value.push_plain(day_end(timed))?;
     Ok(())
 }
 
-// Appends a rule of a date that has a time or not.
-fn push_line(alloc: Global, text: &mut String, timed: bool, rule: Rule) -> Result<(), AllocError>
-    ensures { OnOk result (string_bytes text.new
-        ≡ string_bytes text.old ++ lines_text (rule_line timed rule ∷ [])) }
-{
-    let mut line = Line::new(alloc, "RRULE:FREQ=")?;
-    line.push_plain(frequency_name(rule.frequency))?;
-    line.push_plain(";INTERVAL=")?;
-    push_number(&mut line, rule.interval)?;
-    push_days(&mut line, rule.frequency)?;
-    push_until(&mut line, timed, rule.until)?;
-    line.end(text)?;
-    Ok(())
-}
-
-/// Appends the rule of a date, if it has one.
+/// Appends the rule of a date that has a time or not, if it has one.
 pub fn push_rule(
     alloc: Global,
-    text: &mut String,
+    calendar: &mut Properties,
     timed: bool,
     rule: Option<Rule>,
 ) -> Result<(), AllocError>
-    ensures { OnOk result (string_bytes text.new
-        ≡ string_bytes text.old ++ lines_text (rule_lines timed rule)) }
+    ensures { OnOk result (calendar.new ≡ calendar.old ++ rule_properties timed rule) }
 {
-    match rule {
-        Some(rule) => push_line(alloc, text, timed, rule),
-        None => Ok(()),
-    }
+    let Some(rule) = rule else {
+        return Ok(());
+    };
+    let value = rule_text(alloc, timed, rule)?;
+    calendar.push(alloc, "RRULE", value)?;
+    Ok(())
+}
+
+// The value of a rule.
+#[tactic(auto, using(std::proofs::Common::append_assoc))]
+fn rule_text(alloc: Global, timed: bool, rule: Rule) -> Result<Text, AllocError>
+    ensures { IfOk result (λ value. value ≡ rule_value timed rule) }
+{
+    let mut value = Text::new(alloc, "FREQ=")?;
+    value.push_plain(frequency_name(rule.frequency))?;
+    value.push_plain(";INTERVAL=")?;
+    push_number(&mut value, rule.interval)?;
+    push_days(&mut value, rule.frequency)?;
+    push_until(&mut value, timed, rule.until)?;
+    Ok(value)
 }

@@ -1,10 +1,12 @@
 use Rattle.std.proofs.Common.{[], ◌∷◌, codes}
-use Rattle.calendar_export.specs.Components.{head_lines, mark_lines, origin_value, source_value, unread_lines}
-use Rattle.calendar_export.proofs.LineLaws.{lines-5}
+use Rattle.content_lines.specs.Records.{unread_bytes, unread_name}
+use Rattle.content_lines.proofs.GrowthLaws.{grown-6}
+use Rattle.calendar_export.specs.Components.{begin_of, end_of, head_properties, origin_marks, origin_value, source_value}
 use Rattle.calendar_export.proofs.component.push_journal.Goals as goal
 
 pub returns : goal.returns
 returns c =
-    lines-5 _ _ _ _ _ _ (codes "BEGIN:VJOURNAL" ∷ []) (head_lines (source_value c.args.source.now) c.args.origin.now.id)
-    (unread_lines c.args.origin.now.id c.args.bytes.now) (mark_lines (origin_value c.args.origin.now)) (codes "END:VJOURNAL" ∷ []) c.in_ok-push_fixed.ensures
-    c.in_ok-push_head.ensures c.in_ok-push_unread.ensures c.in_ok-push_marks.ensures c.in_ok-push_fixed-2.ensures
+    grown-6 _ _ _ _ _ _ _ (begin_of (codes "VJOURNAL") ∷ []) (head_properties (source_value c.args.source.now) c.args.origin.now.id)
+    (unread_name (codes "SUMMARY") c.args.origin.now.id ∷ []) (unread_bytes c.args.bytes.now ∷ []) (origin_marks (origin_value c.args.origin.now))
+    (end_of (codes "VJOURNAL") ∷ []) c.in_ok-push_plain.ensures c.in_ok-push_head.ensures c.in_ok-push_unread_name.ensures c.in_ok-push_unread_bytes.ensures
+    c.in_ok-push_marks.ensures.marks c.in_ok-push_plain-2.ensures

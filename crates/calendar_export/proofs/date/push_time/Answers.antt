@@ -1,6 +1,6 @@
 use Rattle.std.proofs.Common.{codes}
 use Rattle.calendar_export.specs.Moments.{clock_chars, day_chars}
-use Rattle.calendar_export.proofs.LineLaws.{grown-3}
+use Rattle.content_lines.proofs.GrowthLaws.{grown-3}
 use Rattle.calendar_export.proofs.date.push_time.Goals as goal
 
 pub returns : goal.returns

@@ -1,6 +1,6 @@
 use Rattle.std.proofs.Common.{codes}
 use Rattle.calendar_export.specs.Moments.{clock_chars, day_chars}
-use Rattle.calendar_export.proofs.LineLaws.{grown-4}
+use Rattle.content_lines.proofs.GrowthLaws.{grown-4}
 use Rattle.calendar_export.proofs.moment.push_stamp.Goals as goal
 
 pub returns : goal.returns

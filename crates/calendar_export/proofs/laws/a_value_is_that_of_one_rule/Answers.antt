@@ -1,5 +1,5 @@
 use Rattle.calendar_export.proofs.RuleLaws.{rule_injective}
-use Rattle.calendar_export.proofs.laws.a_line_is_that_of_one_rule.Goals as goal
+use Rattle.calendar_export.proofs.laws.a_value_is_that_of_one_rule.Goals as goal
 
 pub returns : goal.returns
 returns c = rule_injective

@@ -8,7 +8,8 @@ use Rattle.palm_events.specs.declared.rule.Frequency.{Frequency}
 use Rattle.palm_events.specs.declared.rule.Frequency.TheVariants.{Daily, Weekly, Monthly, MonthlyByDay, Yearly}
 use Rattle.palm_events.specs.declared.rule.Rule.{Rule}
 use Rattle.palm_events.specs.Shown.{has_weekday}
-use Rattle.calendar_export.specs.Moments.{day_chars, digit, two_digits}
+use Rattle.content_lines.specs.Properties.{PropertyValue, digit, plain_property}
+use Rattle.calendar_export.specs.Moments.{day_chars, two_digits}
 
 -- a number below 1000 without zeros in front
 abbrev pub number_chars : ℕ → List ℕ
@@ -77,13 +78,13 @@ until_chars timed None = []
 until_chars timed (Some day) = codes ";UNTIL=" ++ (day_chars day ++ day_end timed)
 
 -- a rule of a date that has a time or not
-abbrev pub rule_line : Bool → Rule → List ℕ
-rule_line timed rule =
-    codes "RRULE:FREQ="
+abbrev pub rule_value : Bool → Rule → List ℕ
+rule_value timed rule =
+    codes "FREQ="
     ++ (frequency_chars rule.frequency ++ (codes ";INTERVAL=" ++ (number_chars rule.interval
     ++ (days_chars rule.frequency ++ until_chars timed rule.until))))
 
--- the line of a rule, if there is one
-abbrev pub rule_lines : Bool → Option Rule → List (List ℕ)
-rule_lines timed None = []
-rule_lines timed (Some rule) = rule_line timed rule ∷ []
+-- the property of a rule, if there is one
+abbrev pub rule_properties : Bool → Option Rule → List PropertyValue
+rule_properties timed None = []
+rule_properties timed (Some rule) = plain_property (codes "RRULE") (rule_value timed rule) ∷ []

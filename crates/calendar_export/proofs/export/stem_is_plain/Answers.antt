@@ -1,6 +1,0 @@
-use Rattle.std.proofs.Common.{arith}
-use Rattle.calendar_export.proofs.LineLaws.{plain-stem_of}
-use Rattle.calendar_export.proofs.export.stem_is_plain.Goals as goal
-
-pub returns : goal.returns
-returns c = plain-stem_of c.args.name.now (λ i. omega (arith, c.type_inv.name i))

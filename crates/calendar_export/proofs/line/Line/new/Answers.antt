@@ -1,7 +1,0 @@
-use Rattle.std.proofs.Common.{◌∙◌, ap}
-use Rattle.std.specs.Prelude.{chars}
-use Rattle.calendar_export.proofs.LineLaws.{chars-plain}
-use Rattle.calendar_export.proofs.line.Line.new.Goals as goal
-
-pub returns : goal.returns
-returns c = ap chars c.in_ok-from_str.ensures.ok ∙ chars-plain c.args.text.now c.requires
