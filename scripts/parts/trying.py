@@ -1,4 +1,4 @@
-"""Tries wrong bodies on a copy of the repository: many over one proof, and some alone."""
+"""Tries wrong bodies, each crate on a copy of the repository: many over one proof, and some alone."""
 import os
 import re
 import shutil
@@ -182,6 +182,14 @@ def copy_of_work(one, other):
     return link_or_copy(one, other) if one.endswith(".oantt") else shutil.copy2(one, other)
 
 
+def try_crate(crate):
+    """Whether all wrong bodies of a crate are refused, tried in a copy of their own: another crate
+    that is tried meanwhile may stand on this one."""
+    with tempfile.TemporaryDirectory() as scratch:
+        copy_to(scratch)
+        return Trial(crate, f"{scratch}/crates/{crate}").run()
+
+
 def list_groups(crates):
     for crate in crates:
         edits = [it for it in edits_of(crate) if not it.fault]
@@ -198,8 +206,5 @@ def main(crates, jobs, is_list):
     if is_list:
         list_groups(crates)
         return 0
-    with tempfile.TemporaryDirectory() as scratch, ThreadPoolExecutor(jobs) as pool:
-        copy_to(scratch)
-        trials = [Trial(crate, f"{scratch}/crates/{crate}") for crate in crates]
-        good = list(pool.map(Trial.run, trials))
-    return 0 if all(good) else 1
+    with ThreadPoolExecutor(jobs) as pool:
+        return 0 if all(pool.map(try_crate, crates)) else 1
