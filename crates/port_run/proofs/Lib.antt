@@ -9,3 +9,4 @@ pub mod TalkLaws
 pub mod PrintedLaws
 pub mod SyncLaws
 pub mod EqualLaws
+pub mod UnreadLaws

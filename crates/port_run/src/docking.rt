@@ -23,7 +23,8 @@ use hotsync_looks::print_served;
 use hs_folders::{Folder, Sink};
 use port_line::Port;
 use port_link::{AtPort, PortEnd, serve_at_port};
-use run_words::{DockWords, docking_words};
+use run_clap::{WordsFault, read_docking};
+use run_words::DockWords;
 use std::alloc::Global;
 use trace_text::End;
 
@@ -49,9 +50,16 @@ pub fn serve_port<H: Folder, P: Port, T: Sink, O: Sink>(
     ensures untouched { docking_of (map string_bytes words.now) ≡ None
         → (result.device ≡ device) × (result.port ≡ port) × (trace.new ≡ trace.old) }
 {
-    let Some(dock) = docking_words(words) else {
-        let status = print_refusal(alloc, Status::Usage, out);
-        return Docked::not_started(alloc, status, device, port);
+    let dock = match read_docking(alloc, words) {
+        Ok(dock) => dock,
+        Err(WordsFault::Usage) => {
+            let status = print_refusal(alloc, Status::Usage, out);
+            return Docked::not_started(alloc, status, device, port);
+        }
+        Err(WordsFault::NoMemory) => {
+            let status = print_refusal(alloc, Status::NoMemory, out);
+            return Docked::not_started(alloc, status, device, port);
+        }
     };
     let docked = judged_dock(alloc, &dock, device, port, trace);
     let Docked {

@@ -17,12 +17,13 @@ use crate::synced::Synced;
 use crate::talk::talk;
 use crate::tracing::trace_log;
 use call_parts::{open_desktop, open_trace, print_status, print_touched};
-use cmd_status::Status;
+use cmd_status::{Status, print_refusal};
 use desk_store::Desk;
 use hotsync_looks::print_misuse;
 use hs_folders::{Folder, Sink};
 use port_line::Port;
-use run_words::{CableWords, fault_of, sync_words};
+use run_clap::{WordsFault, read_sync};
+use run_words::{CableWords, fault_of};
 use session_parts::DbReport;
 use std::alloc::Global;
 
@@ -54,9 +55,16 @@ pub fn sync<P: Port, D: Folder, T: Sink, O: Sink>(
     ensures fault { sync_of now (map string_bytes words.now) ≡ None
         → TellsFault (fault_in_words now (map string_bytes words.now)) result.status }
 {
-    let Some(cable) = sync_words(now, words) else {
-        let status = print_misuse(alloc, fault_of(now, words), out);
-        return Synced::not_started(alloc, status, port, desk);
+    let cable = match read_sync(alloc, now, words) {
+        Ok(cable) => cable,
+        Err(WordsFault::Usage) => {
+            let status = print_misuse(alloc, fault_of(now, words), out);
+            return Synced::not_started(alloc, status, port, desk);
+        }
+        Err(WordsFault::NoMemory) => {
+            let status = print_refusal(alloc, Status::NoMemory, out);
+            return Synced::not_started(alloc, status, port, desk);
+        }
     };
     let synced = judged(alloc, &cable, port, desk, trace);
     let Synced {

@@ -1,11 +1,23 @@
+use Rattle.std.proofs.Common.{map, string_bytes}
+use Rattle.run_words.specs.Cables.{sync_of}
+use Rattle.port_run.specs.Told.{sync_told}
+use Rattle.port_run.proofs.UnreadLaws.{unread_sync}
 use Rattle.port_run.proofs.syncing.sync.Goals as goal
 
 pub returns-clause-call : goal.returns-clause-call
 returns-clause-call g c =
-    rw (← c.in-Some.ensures)
+    rw c.in-Ok.ensures.command
     (record {
       found = c.judged-synced.result.status;
       ran = c.judged-synced.ensures.ran;
       status_is = c.print_synced-status.ensures.status;
       printed = rw c.deref.ensures.value at c.print_synced-status.ensures.printed;
     })
+
+pub returns-in-Err-NoMemory-clause-call : goal.returns-in-Err-NoMemory-clause-call
+returns-in-Err-NoMemory-clause-call g c =
+    let said = c.print_refusal-status in
+    let end = c.not_started-in-Err-NoMemory in
+    rw (end.ensures.port, end.ensures.desk)
+    (unread_sync (sync_of c.args.now (map string_bytes c.args.words.now)) (sync_told g.P.Port g.D.Folder g.T.Sink c.args.port c.args.desk c.args.trace.now)
+    said.ensures.status end.ensures.status end.ensures.report said.ensures.printed)
