@@ -11,8 +11,9 @@
 //!
 //! Each byte of a Palm's text stands for one character (`char_of`), and no two bytes for the same one. The public source is
 //! the character set of Palm OS 3.5: Latin-1, with the letters and signs of Windows-1252 from 0x80 to 0x9F, where four
-//! places have the suits of cards. Control bytes other than tab and line feed are shown by Unicode's control pictures, so
-//! that no reader of the text takes one for the end of a line.
+//! places have the suits of cards. Control bytes other than tab and line feed are shown by Unicode's control pictures, and
+//! the four bytes above 0x7F that no letter or sign has by characters of private use: so no reader of the text takes one for
+//! the end of a line, and none steers a terminal.
 #![tactic(auto)]
 
 mod address;

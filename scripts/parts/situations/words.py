@@ -39,6 +39,46 @@ def a_trace_comes_whole():
     want_line(call("run", "h", "d", LATEST, "--trace=u.txt"), 4, "trace write failed")
     want(open("mine").read(), "mine", "what a link leads to")
 
+
+def closed(number):
+    """What closes a descriptor of a call before it begins."""
+    return lambda: os.close(number)
+
+
+def commands_of_files():
+    """Each command that opens files, with its words."""
+    put("memos.txt", "--- new\none\n")
+    put("line.txt", "")
+    put("Book.pdb", pdb("Book", memos("a")))
+    put("from/Book.pdb", pdb("Book", memos("a")))
+    os.makedirs("to", exist_ok=True)
+    yield "run", ("run", "h", "d", LATER, "--trace=t", "--script=line.txt")
+    yield "categories", ("categories", "h", "d", LATER, "--trace=t")
+    yield "install", ("install", "Book.pdb", "h", LATER, "--trace=t")
+    yield "restore", ("restore", "from", "h", LATER, "--trace=t")
+    yield "backup", ("backup", "h", "to", LATER, "--trace=t")
+    for word in ("check", "show"):
+        yield word, (word, "h/MemoDB.pdb")
+    yield "export", ("export", "h/MemoDB.pdb", "--as=txt")
+    yield "import", ("import", "memos.txt", "--as=txt")
+
+
+@situation
+def standard_descriptors_are_closed():
+    """Where standard input, output or error is closed, no file gets the lines of the program, and each command does what it does."""
+    for number in (0, 1, 2):
+        found = []
+        for before in (None, closed(number)):
+            place = f"{number}-{before is None}"
+            os.makedirs(place)
+            os.chdir(place)
+            two_sides()
+            found.append([(name, call(*words, before=before)[0], all_files(".")) for name, words in commands_of_files()])
+            os.chdir("..")
+        for usual, other in zip(*found):
+            want(other, usual, f"{usual[0]} without descriptor {number}")
+
+
 # ---- dates, names, hints
 
 
