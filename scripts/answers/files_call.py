@@ -72,15 +72,15 @@ def held_in(folder):
 
 
 class Call:
-    """A call of the program: its status, and what it printed."""
+    """A call of the program: its status, and what it printed, which is a refusal where it printed nothing else."""
 
     def __init__(self, tools, *words, folder=None):
         done = subprocess.run(
             [tools.program, *words], cwd=folder or tools.scratch, stdout=subprocess.PIPE,
-            stderr=subprocess.DEVNULL, stdin=subprocess.DEVNULL, timeout=600, check=False,
+            stderr=subprocess.PIPE, stdin=subprocess.DEVNULL, timeout=600, check=False,
         )
-        self.status, self.printed = done.returncode, done.stdout
-        self.text = done.stdout.decode("utf-8", "replace")
+        self.status, self.printed = done.returncode, done.stdout or (done.stderr if done.returncode else b"")
+        self.text = self.printed.decode("utf-8", "replace")
         self.lines = self.text.splitlines()
 
 

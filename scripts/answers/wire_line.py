@@ -6,10 +6,10 @@ import subprocess
 
 
 def program(tools, *words):
-    """What the program prints, in a folder of its own, and its status."""
+    """What the program prints in a folder of its own, a refusal where it prints nothing else, and its status."""
     done = subprocess.run([tools.program, *words], cwd=tools.scratch, capture_output=True,
                           timeout=600)
-    return done.stdout.decode(), done.returncode
+    return (done.stdout or (done.stderr if done.returncode else b"")).decode(), done.returncode
 
 
 def put(tools, name, data):

@@ -68,3 +68,24 @@ pub record IsPrinted (IsText : List ℕ → Type 0) (out out_after : SinkTold)
   pub no_memory : status ≡ NoMemory → TookSomeLines IsText out.taken out_after.taken
   pub failed : status ≡ OutWrite → Rose out.faults out_after.faults
   pub path : out_after.paths ≡ out.paths
+
+-- ---- a result beside what is said of it
+
+-- standard output took the text of what was done, and standard error nothing
+pub record IsTextShown (IsText : List ℕ → Type 0) (out out_after err err_after : SinkTold)
+    (status : Status) : Type 0 where
+  pub ended : (status ≡ Done) ⊎ (status ≡ OutWrite) ⊎ (status ≡ NoMemory)
+  pub printed : IsPrinted IsText out out_after status
+  pub apart : err_after ≡ err
+
+-- standard error took the line of a refusal, and standard output nothing
+pub record IsLineShown (out out_after err err_after : SinkTold) (status : Status) : Type 0 where
+  pub printed : IsPrinted (λ text. ⊥) err err_after status
+  pub apart : out_after ≡ out
+
+-- so a result has no line of a refusal in it
+abbrev pub IsShown : (List ℕ → Type 0) → SinkTold → SinkTold → SinkTold → SinkTold → Status
+    → Type 0
+IsShown IsText out out_after err err_after status =
+    IsTextShown IsText out out_after err err_after status
+    ⊎ IsLineShown out out_after err err_after status

@@ -12,7 +12,6 @@ use Rattle.cmd_status.specs.declared.status.Status.TheVariants.{Done, NoMemory, 
 use Rattle.hotsync_looks.specs.LookTexts.{RefusesImport, SaysMisfit}
 use Rattle.cmd_status.specs.Printed.{IsPrinted}
 use Rattle.cmd_status.specs.Told.{SinkTold, SourceTold}
-use Rattle.cmd_status.proofs.PrintedLaws.{printed_weaken}
 use Rattle.run_words.specs.Likes.{Like}
 use Rattle.hotsync_looks.specs.Likings.{IsLikedIn, IsLikingCall, RefusesLiking, SaysUnlike, like_status}
 
@@ -78,21 +77,23 @@ printed_not_failed status (inr (inl failed)) read = let no = sym failed ∙ read
 printed_not_failed status (inr (inr none)) read = let no = sym none ∙ read in absurd cc
 
 -- words that were not read for want of memory
-unread : (words : Option Like) (source like : SourceTold) {out out_after : SinkTold} → IsPrinted (λ text. ⊥) out out_after NoMemory
-    → IsLikingCall words source source like like out out_after NoMemory
-unread None source like printed = (inr refl, printed)
-unread (Some words) source like printed = record {
+unread : (words : Option Like) (source like : SourceTold) (out : SinkTold) {err err_after : SinkTold} → IsPrinted (λ text. ⊥) err err_after NoMemory
+    → IsLikingCall words source source like like out out err err_after NoMemory
+unread None source like out printed = (inr refl, printed, refl)
+unread (Some words) source like out printed = record {
   ended = inl (inl refl);
   failed = λ e. cc;
   source_path = inl refl;
   like_path = inl refl;
   source_opened = λ e. cc;
   like_opened = λ e. cc;
-  printed = printed_weaken (IsLikedIn source.left like.left) (λ text no. absurd no) printed;
+  printed = inr (record { printed = printed; apart = refl });
 }
 
-pub unread_liking : (words : Option Like) (source like : SourceTold) {out out_after : SinkTold} {status : Status} → (status ≡ NoMemory) ⊎ (status ≡ NoMemory)
-    → IsPrinted (λ text. ⊥) out out_after status → IsLikingCall words source source like like out out_after status
-unread_liking words source like {out} {out_after} {status} refused printed =
+pub unread_liking : (words : Option Like) (source like : SourceTold) (out : SinkTold) {err err_after : SinkTold} {status : Status}
+    → (status ≡ NoMemory) ⊎ (status ≡ NoMemory) → IsPrinted (λ text. ⊥) err err_after status
+    → IsLikingCall words source source like like out out err err_after status
+unread_liking words source like out {err} {err_after} {status} refused printed =
     let is : status ≡ NoMemory = elim refused [ inl e ↦ e | inr e ↦ e ] in
-    subst (IsLikingCall words source source like like out out_after) (sym is) (unread words source like (subst (IsPrinted (λ text. ⊥) out out_after) is printed))
+    subst (IsLikingCall words source source like like out out err err_after) (sym is)
+    (unread words source like out (subst (IsPrinted (λ text. ⊥) err err_after) is printed))

@@ -32,7 +32,8 @@ use Rattle.cmd_status.specs.Sources.{source_limit}
 use Rattle.hotsync_looks.specs.ExportTexts.{NoText, Absent, OutOfForm}
 use Rattle.hotsync_looks.specs.Looks.{IsLook, IsLookRefusal, IsShowable, IsTextIn, SourceShows}
 use Rattle.cmd_status.specs.Opening.{Opens, OpensAtMost}
-use Rattle.cmd_status.specs.Printed.{IsPrinted}
+use Rattle.cmd_status.specs.Printed.{IsShown}
+use Rattle.cmd_status.proofs.PrintedLaws.{shown_failed}
 use Rattle.cmd_status.specs.Told.{SinkTold, SourceTold}
 use Rattle.cmd_status.specs.declared.status.Status.{Status}
 use Rattle.cmd_status.specs.declared.status.Status.TheVariants.{Done, BadFile, BadRecord, CannotExport, NotProper, TooLong, SourceRead, OutWrite, NoMemory}
@@ -321,12 +322,12 @@ text_told look bytes text left few is same = record { bytes = bytes; told = turn
     turned (Some told) same = sym same
 
 -- a look whose status shows its cause is one that is known of
-look_is : {look : Look} (file : List ℕ) (source source_after : SourceTold) {out out_after : SinkTold} {status : Status}
+look_is : {look : Look} (file : List ℕ) (source source_after : SourceTold) {out out_after err err_after : SinkTold} {status : Status}
     → IsLookRefusal status ⊎ (status ≡ Done) ⊎ (status ≡ OutWrite) → IfSome source.left (SourceShows look file status)
     → (status ≡ SourceRead → Rose source.faults source_after.faults) → OpensAtMost file source.paths source_after.paths
-    → (status ≡ Done → Opens file source.paths source_after.paths) → IsPrinted (IsTextIn look source.left) out out_after status
-    → IsLook look file source source_after out out_after status
-look_is {look} file source source_after {out} {out_after} {status} ended shown failed path opened printed = record {
+    → (status ≡ Done → Opens file source.paths source_after.paths) → IsShown (IsTextIn look source.left) out out_after err err_after status
+    → IsLook look file source source_after out out_after err err_after status
+look_is {look} file source source_after {out} {out_after} {err} {err_after} {status} ended shown failed path opened printed = record {
   ended = ended;
   shown = shown;
   source_failed = failed;
@@ -334,7 +335,7 @@ look_is {look} file source source_after {out} {out_after} {status} ended shown f
   source_opened = opened;
   printed = printed;
   complete = λ bytes is readable. look_complete look file bytes status (Rose source.faults source_after.faults) (Rose out.faults out_after.faults)
-      (rw is at shown) failed printed.failed readable;
+      (rw is at shown) failed (shown_failed (IsTextIn look source.left) printed) readable;
   refused = λ bytes cause is few has. look_refuses look file bytes status (Rose source.faults source_after.faults) (rw is at shown) failed cause few has;
   too_long = λ bytes is long. look_too_long look file bytes status (Rose source.faults source_after.faults) (rw is at shown) failed long;
 }
@@ -359,10 +360,10 @@ done_not_failed : {status : Status} (Failed : Type 0) → (status ≡ Done) ⊎ 
 done_not_failed Failed e failed = grind (arith, common_steps)
 
 -- a look that has a text
-pub look_done : {look : Look} {text : List ℕ} (file : List ℕ) (source source_after : SourceTold) {out out_after : SinkTold} {status : Status}
+pub look_done : {look : Look} {text : List ℕ} (file : List ℕ) (source source_after : SourceTold) {out out_after err err_after : SinkTold} {status : Status}
     → (status ≡ Done) ⊎ (status ≡ OutWrite) ⊎ (status ≡ NoMemory) → IsTextIn look source.left text → OpensAtMost file source.paths source_after.paths
-    → Opens file source.paths source_after.paths → IsPrinted (IsTextIn look source.left) out out_after status
-    → IsLook look file source source_after out out_after status
+    → Opens file source.paths source_after.paths → IsShown (IsTextIn look source.left) out out_after err err_after status
+    → IsLook look file source source_after out out_after err err_after status
 look_done {look} file source source_after {status} ended text path opened printed =
     look_is file source source_after (done_ended ended)
     (some_weaken (IsShowable look) (SourceShows look file status) source.left (readable_shows file ended) (readable_by source.left text))
@@ -378,10 +379,10 @@ refused_not_done : (status : Status) (P : Type 0) → IsLookRefusal status → s
 refused_not_done status P refused done = absurd (rw done at refused)
 
 -- a look that was refused
-pub look_refused : {look : Look} (file : List ℕ) (source source_after : SourceTold) {out out_after : SinkTold} {refusal status : Status}
+pub look_refused : {look : Look} (file : List ℕ) (source source_after : SourceTold) {out out_after err err_after : SinkTold} {refusal status : Status}
     → (status ≡ refusal) ⊎ (status ≡ NoMemory) → IsLookRefusal refusal → IfSome source.left (SourceShows look file refusal)
     → (refusal ≡ SourceRead → Rose source.faults source_after.faults) → OpensAtMost file source.paths source_after.paths
-    → IsPrinted (IsTextIn look source.left) out out_after status → IsLook look file source source_after out out_after status
+    → IsShown (IsTextIn look source.left) out out_after err err_after status → IsLook look file source source_after out out_after err err_after status
 look_refused {look} file source source_after {status} ended refused shown failed path printed =
     let is = refused_is IsLookRefusal refused tt ended in
     look_is file source source_after (inl is)

@@ -1,5 +1,5 @@
--- An import in the categories of another file, over the files and the standard output of the
--- system.
+-- An import in the categories of another file, over the files, the standard output and the standard
+-- error of the system.
 use Rattle.std.specs.Prelude.{◌≡◌, ℕ, Option, None}
 use Rattle.run_words.specs.Likes.{Like}
 use Rattle.cmd_status.specs.Codes.{code_of}
@@ -21,7 +21,9 @@ pub record IsSystemLiking (words : Option Like) (code : ℕ) : Type 0 where
   pub like_after : SourceTold
   pub out : SinkTold
   pub out_after : SinkTold
+  pub err : SinkTold
+  pub err_after : SinkTold
   pub untold : AreFilesUntold source like out
   pub status : Status
-  pub called : IsLikingCall words source source_after like like_after out out_after status
+  pub called : IsLikingCall words source source_after like like_after out out_after err err_after status
   pub code_is : code ≡ code_of status

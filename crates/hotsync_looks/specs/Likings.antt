@@ -12,7 +12,7 @@ use Rattle.category_tables.specs.declared.like_fault.LikeFault.TheVariants as li
 use Rattle.run_words.specs.Likes.{Like}
 use Rattle.handheld_files.specs.BadFiles.{BreaksRule}
 use Rattle.cmd_status.specs.Opening.{Opens, OpensAtMost}
-use Rattle.cmd_status.specs.Printed.{IsPrinted}
+use Rattle.cmd_status.specs.Printed.{IsPrinted, IsShown}
 use Rattle.cmd_status.specs.Sources.{source_limit}
 use Rattle.cmd_status.specs.Told.{SinkTold, SourceTold}
 use Rattle.cmd_status.specs.declared.status.FileSide.TheVariants.{Source}
@@ -121,7 +121,7 @@ RefusesLiking path source like status =
 
 -- what is known of it
 pub record IsLiking (words : Like) (source source_after like like_after : SourceTold)
-    (out out_after : SinkTold) (status : Status) : Type 0 where
+    (out out_after err err_after : SinkTold) (status : Status) : Type 0 where
   -- Each refusal shows its cause: in the bytes, or in a count that rose.
   pub ended : RefusesLiking words.like source.left like.left status ⊎ (status ≡ Done)
       ⊎ (status ≡ OutWrite)
@@ -132,13 +132,14 @@ pub record IsLiking (words : Like) (source source_after like like_after : Source
   pub like_path : OpensAtMost words.like like.paths like_after.paths
   pub source_opened : status ≡ Done → Opens words.file source.paths source_after.paths
   pub like_opened : status ≡ Done → Opens words.like like.paths like_after.paths
-  -- Standard output took the file, or the line of a refusal.
-  pub printed : IsPrinted (IsLikedIn source.left like.left) out out_after status
+  -- Standard output took the file, or standard error the line of a refusal.
+  pub printed : IsShown (IsLikedIn source.left like.left) out out_after err err_after status
 
 -- what is known of a call whose words may be out of the form
 abbrev pub IsLikingCall : Option Like → SourceTold → SourceTold → SourceTold → SourceTold
-    → SinkTold → SinkTold → Status → Type 0
-IsLikingCall None source source_after like like_after out out_after status =
-    (IsMisuse status ⊎ (status ≡ NoMemory)) × IsPrinted (λ text. ⊥) out out_after status
-IsLikingCall (Some words) source source_after like like_after out out_after status =
-    IsLiking words source source_after like like_after out out_after status
+    → SinkTold → SinkTold → SinkTold → SinkTold → Status → Type 0
+IsLikingCall None source source_after like like_after out out_after err err_after status =
+    (IsMisuse status ⊎ (status ≡ NoMemory)) × IsPrinted (λ text. ⊥) err err_after status
+    × (out_after ≡ out)
+IsLikingCall (Some words) source source_after like like_after out out_after err err_after status =
+    IsLiking words source source_after like like_after out out_after err err_after status

@@ -1,12 +1,12 @@
--- What holds of a look at a file: the source and standard output before it, and both of them after
--- it.
+-- What holds of a look at a file: the source, standard output and standard error before it, and all
+-- of them after it.
 use Rattle.std.specs.Prelude.{◌≡◌, ◌⊎◌, ⊤, ◌<◌, ◌≤◌, ℕ, List, length, Option, Some, IfSome}
 use Rattle.hs_folders.specs.Causes.{Rose}
 use Rattle.run_words.specs.declared.look.Look.{Look}
 use Rattle.hotsync_looks.specs.LookTexts.{Cause, IsCauseOf, IsTextOf, SaysOfFile}
 use Rattle.cmd_status.specs.Sources.{source_limit}
 use Rattle.cmd_status.specs.Opening.{Opens, OpensAtMost}
-use Rattle.cmd_status.specs.Printed.{IsPrinted}
+use Rattle.cmd_status.specs.Printed.{IsShown}
 use Rattle.cmd_status.specs.Told.{SinkTold, SourceTold}
 use Rattle.cmd_status.specs.declared.status.Status.{Status}
 use Rattle.cmd_status.specs.declared.status.Status.TheVariants.{Done, BadFile, BadRecord, BadText, BadTrace, CannotExport, NotProper, Overfull, SourceRead, TooLong, OutWrite, NoMemory}
@@ -57,7 +57,7 @@ IsLookRefusal _ = ⊥
 
 -- What is known of it. A clause on the source's bytes speaks where the source tells them.
 pub record IsLook (look : Look) (file : List ℕ) (source source_after : SourceTold)
-    (out out_after : SinkTold) (status : Status) : Type 0 where
+    (out out_after err err_after : SinkTold) (status : Status) : Type 0 where
   -- Each status shows its cause: in the source's bytes, or in a count that rose.
   pub ended : IsLookRefusal status ⊎ (status ≡ Done) ⊎ (status ≡ OutWrite)
   pub shown : IfSome source.left (SourceShows look file status)
@@ -65,8 +65,8 @@ pub record IsLook (look : Look) (file : List ℕ) (source source_after : SourceT
   -- The source was opened at the file, or not at all.
   pub source_path : OpensAtMost file source.paths source_after.paths
   pub source_opened : status ≡ Done → Opens file source.paths source_after.paths
-  -- Standard output took the text, or the line of a refusal.
-  pub printed : IsPrinted (IsTextIn look source.left) out out_after status
+  -- Standard output took the text, or standard error the line of a refusal.
+  pub printed : IsShown (IsTextIn look source.left) out out_after err err_after status
   -- Where no object fails, the bytes decide: of them a look prints something, or they are refused,
   -- unless memory runs out.
   pub complete : (bytes : List ℕ) → source.left ≡ Some bytes → IsShowable look bytes

@@ -8,13 +8,18 @@ use hs_folders::Sink;
 use run_words::Topic;
 use std::alloc::{AllocError, Global};
 
-/// Prints the text of a topic.
-pub fn print_help<O: Sink>(alloc: Global, topic: Topic, out: &mut O) -> Status
-    ensures { IsHelped topic
-        (sink_told O.Sink out.old) (sink_told O.Sink out.new) result }
+/// Prints the text of a topic on `out`, or on `err` that memory ran out.
+pub fn print_help<O: Sink, E: Sink>(
+    alloc: Global,
+    topic: Topic,
+    out: &mut O,
+    err: &mut E,
+) -> Status
+    ensures { IsHelped topic (sink_told O.Sink out.old) (sink_told O.Sink out.new)
+        (sink_told E.Sink err.old) (sink_told E.Sink err.new) result }
 {
     match help_text(alloc, topic) {
         Ok(text) => print_text(text.as_bytes(), out),
-        Err(AllocError) => print_no_memory(out),
+        Err(AllocError) => print_no_memory(err),
     }
 }

@@ -24,20 +24,22 @@ use run_words::{LikeWords, fault_of};
 use std::alloc::Global;
 
 /// Reads a text and another file, as the words ask for, and prints the file of the database that the memos of the text make, in
-/// the categories of the other file.
+/// the categories of the other file, on `out`, or why there is none on `err`.
 ///
 /// `words` are those after the program's name, `import` first.
-pub fn import_like<S: Source, L: Source, O: Sink>(
+pub fn import_like<S: Source, L: Source, O: Sink, E: Sink>(
     alloc: Global,
     words: &[String],
     source: &mut S,
     like: &mut L,
     out: &mut O,
+    err: &mut E,
 ) -> Status
     ensures call { IsLikingCall (liking_of (map string_bytes words.now))
         (source_told S.Source source.old) (source_told S.Source source.new)
         (source_told L.Source like.old) (source_told L.Source like.new)
-        (sink_told O.Sink out.old) (sink_told O.Sink out.new) result }
+        (sink_told O.Sink out.old) (sink_told O.Sink out.new)
+        (sink_told E.Sink err.old) (sink_told E.Sink err.new) result }
 
     // Words out of the form touch neither file, and the status names the word at fault.
     ensures untouched { liking_of (map string_bytes words.now) ≡ None
@@ -46,28 +48,30 @@ pub fn import_like<S: Source, L: Source, O: Sink>(
         → TellsFault (fault_of_words None (map string_bytes words.now)) result }
 {
     match read_liking(alloc, words) {
-        Ok(words) => import_file(alloc, words, source, like, out),
-        Err(WordsFault::Usage) => print_misuse(alloc, fault_of(None, words), out),
-        Err(WordsFault::NoMemory) => print_refusal(alloc, Status::NoMemory, out),
+        Ok(words) => import_file(alloc, words, source, like, out, err),
+        Err(WordsFault::Usage) => print_misuse(alloc, fault_of(None, words), err),
+        Err(WordsFault::NoMemory) => print_refusal(alloc, Status::NoMemory, err),
     }
 }
 
 // The same of words in their form.
-fn import_file<S: Source, L: Source, O: Sink>(
+fn import_file<S: Source, L: Source, O: Sink, E: Sink>(
     alloc: Global,
     words: LikeWords<'_>,
     source: &mut S,
     like: &mut L,
     out: &mut O,
+    err: &mut E,
 ) -> Status
     ensures { IsLiking (like_view words.entry)
         (source_told S.Source source.old) (source_told S.Source source.new)
         (source_told L.Source like.old) (source_told L.Source like.new)
-        (sink_told O.Sink out.old) (sink_told O.Sink out.new) result }
+        (sink_told O.Sink out.old) (sink_told O.Sink out.new)
+        (sink_told E.Sink err.old) (sink_told E.Sink err.new) result }
 {
     match like_into(alloc, words, source, like) {
         Ok(file) => print_text(&file, out),
-        Err(refusal) => print_refusal(alloc, refusal, out),
+        Err(refusal) => print_refusal(alloc, refusal, err),
     }
 }
 

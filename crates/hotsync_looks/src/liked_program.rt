@@ -6,7 +6,7 @@ ghost use Rattle.hotsync_looks.specs.LikingSystems.{AreFilesUntold, IsSystemLiki
 ghost use Rattle.run_words.specs.Likes.{begins_like, liking_of};
 
 use crate::liked::import_like;
-use hs_folders::{FileSource, Sink, Source, StdoutSink};
+use hs_folders::{FileSource, Sink, Source, StderrSink, StdoutSink};
 use run_words::is_liking;
 use std::alloc::Global;
 use std::fs::File;
@@ -27,8 +27,9 @@ fn words_of(args: &[String]) -> &[String]
     args.get(1..).unwrap_or(&[])
 }
 
-/// Has the import that these words ask for, the program's name first, over the files and the standard output of the system.
-pub fn import_on_system<R: Files<File = File> + Print + AllocGlobal>(
+/// Has the import that these words ask for, the program's name first, over the files, the standard output and the standard
+/// error of the system.
+pub fn import_on_system<R: Files<File = File> + Print + Eprint + AllocGlobal>(
     rt: &R,
     args: &[String],
 ) -> ExitCode
@@ -41,21 +42,23 @@ pub fn import_on_system<R: Files<File = File> + Print + AllocGlobal>(
         &mut FileSource::new(rt),
         &mut FileSource::new(rt),
         &mut StdoutSink::new(rt),
+        &mut StderrSink::new(rt),
     );
     ExitCode::from(code)
 }
 
 // The call over objects that tell nothing, and the exit status of the program.
-fn import_untold<S: Source, L: Source, O: Sink>(
+fn import_untold<S: Source, L: Source, O: Sink, E: Sink>(
     alloc: Global,
     words: &[String],
     source: &mut S,
     like: &mut L,
     out: &mut O,
+    err: &mut E,
 ) -> u8
     requires { AreFilesUntold (source_told S.Source source.old) (source_told L.Source like.old)
         (sink_told O.Sink out.old) }
     ensures { IsSystemLiking (liking_of (map string_bytes words.now)) result }
 {
-    import_like(alloc, words, source, like, out).code()
+    import_like(alloc, words, source, like, out, err).code()
 }

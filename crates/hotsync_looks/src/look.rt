@@ -22,20 +22,22 @@ use pdb_values::{Database, DbName};
 use run_words::{Export, ExportForm, ImportForm, Look, LookWords};
 use std::alloc::Global;
 
-/// Reads a file, and prints what the look wants of it.
-pub fn look_at<S: Source, O: Sink>(
+/// Reads a file, and prints what the look wants of it on `out`, or why there is nothing on `err`.
+pub fn look_at<S: Source, O: Sink, E: Sink>(
     alloc: Global,
     words: LookWords<'_>,
     source: &mut S,
     out: &mut O,
+    err: &mut E,
 ) -> Status
     ensures { IsLook words.entry.look words.entry.file.now
         (source_told S.Source source.old) (source_told S.Source source.new)
-        (sink_told O.Sink out.old) (sink_told O.Sink out.new) result }
+        (sink_told O.Sink out.old) (sink_told O.Sink out.new)
+        (sink_told E.Sink err.old) (sink_told E.Sink err.new) result }
 {
     match look_into(alloc, words.look, words.file, source) {
         Ok(text) => print_text(&text, out),
-        Err(refusal) => print_refusal(alloc, refusal, out),
+        Err(refusal) => print_refusal(alloc, refusal, err),
     }
 }
 

@@ -11,14 +11,21 @@ use hs_folders::Sink;
 use std::alloc::{AllocError, Global};
 use trace_text::show_packets;
 
-/// Prints a line for each packet in the bytes of this hexadecimal, and then their number.
-pub fn print_packets<O: Sink>(alloc: Global, hex: &str, out: &mut O) -> Status
+/// Prints a line for each packet in the bytes of this hexadecimal, and then their number, on `out`, or on `err` that memory
+/// ran out.
+pub fn print_packets<O: Sink, E: Sink>(
+    alloc: Global,
+    hex: &str,
+    out: &mut O,
+    err: &mut E,
+) -> Status
     ensures scanned { IsScanned (bytes_of hex.now)
-        (sink_told O.Sink out.old) (sink_told O.Sink out.new) result }
+        (sink_told O.Sink out.old) (sink_told O.Sink out.new)
+        (sink_told E.Sink err.old) (sink_told E.Sink err.new) result }
 {
     match packets_text(alloc, hex) {
         Ok(text) => print_text(text.as_bytes(), out),
-        Err(AllocError) => print_no_memory(out),
+        Err(AllocError) => print_no_memory(err),
     }
 }
 

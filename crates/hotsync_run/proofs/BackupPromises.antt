@@ -20,7 +20,7 @@ module _ (call : Call) (words : Between) (is : IsAnsweredCall call) (task : call
   Session = BackupRan words call.before call.after call.status call.report
 
   answered : IsSessionCall (backup_command words) call.before call.after call.out call.out_after call.status call.report
-  answered = subst (λ (task : Option WordTask). IsCall task call.before call.after call.out call.out_after call.status call.report) task is
+  answered = subst (λ (t : Option WordTask). IsCall t call.before call.after call.out call.out_after call.err call.err_after call.status call.report) task is
 
   pub backup_refused : call.report.end ≡ NotStarted → Silent
   backup_refused none = subst (λ (e : SessionEnd). ByEnd e Silent Session) none answered.ran.shown

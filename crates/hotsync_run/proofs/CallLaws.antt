@@ -1,19 +1,22 @@
 -- A call whose words were not read for want of memory.
 use Rattle.std.proofs.lemmas.Grind.{common_steps}
 use Rattle.std.proofs.Common.{arith, ◌≡◌, ◌⊎◌, inl, inr, refl, subst, sym}
-use Rattle.std.specs.Prelude.{None, Option, Some, length}
+use Rattle.std.specs.Prelude.{List, None, Option, Some, length, ℕ}
 use Rattle.run_words.specs.Commands.{Backup, DryRun, Emulate, Categories, Help, Install, LookAt, Make, Restore, Scan, Sync, WordTask}
 use Rattle.hotsync_run.specs.Calls.{IsCall}
 use Rattle.call_parts.specs.Causes.{ByEnd, HasBegun}
 use Rattle.cmd_status.proofs.PrintedLaws.{printed_weaken}
 use Rattle.hotsync_looks.specs.HelpTexts.{help_text}
 use Rattle.call_parts.specs.DoneLines.{done_lines}
-use Rattle.cmd_status.specs.Printed.{IsPrinted}
+use Rattle.cmd_status.specs.Printed.{IsPrinted, IsShown}
 use Rattle.cmd_status.specs.Told.{SinkTold}
 use Rattle.call_parts.specs.Told.{CallTold}
 use Rattle.call_parts.specs.Reports.{IsNotStarted}
 use Rattle.cmd_files.specs.Backups.{backup_command}
+use Rattle.hotsync_looks.specs.Looks.{IsTextIn}
 use Rattle.hotsync_looks.specs.Served.{served_lines}
+use Rattle.slp_frames.specs.PacketScan.{scan}
+use Rattle.trace_text.specs.PacketLists.{ShowsPackets}
 use Rattle.cmd_session.specs.Filings.{categories_command}
 use Rattle.cmd_files.specs.Installs.{install_command}
 use Rattle.cmd_files.specs.Restores.{restore_command}
@@ -70,29 +73,44 @@ unread_session command before {report = report} kept is printed =
       complete = λ calm. inr (inl refl);
     }
 
+-- a line that memory ran out, in the place of a text
+unread_text : (IsText : List ℕ → Type 0) {out out_after : SinkTold} (err : SinkTold) → IsPrinted (λ text. ⊥) out out_after NoMemory
+    → IsShown IsText out out_after err err NoMemory
+unread_text IsText err printed = inl (record {
+  ended = inr (inr refl);
+  printed = printed_weaken IsText (λ text no. absurd no) printed;
+  apart = refl;
+})
+
 -- what is known of a call that stops before its words are read
-pub unread_call : (task : Option WordTask) (before : CallTold) {out out_after : SinkTold} {report : Report} → IsNotStarted report
-    → IsPrinted (λ text. ⊥) out out_after NoMemory → IsCall task before before out out_after NoMemory report
-unread_call (Some (Sync run)) before is printed =
+pub unread_call : (task : Option WordTask) (before : CallTold) {out out_after : SinkTold} (err : SinkTold) {report : Report} → IsNotStarted report
+    → IsPrinted (λ text. ⊥) out out_after NoMemory → IsCall task before before out out_after err err NoMemory report
+unread_call (Some (Sync run)) before err is printed =
     unread_session (run_command run) before (record { stands = stands_same refl; unread = λ unread. stays_same refl }) is printed
-unread_call (Some (DryRun run)) before is printed = dry_untouched
+unread_call (Some (DryRun run)) before err is printed = dry_untouched
     (unread_session (run_command run) before (record { stands = stands_same refl; unread = λ unread. stays_same refl }) is printed)
-unread_call (Some (Install words)) before is printed = unread_session (install_command words) before refl is printed
-unread_call (Some (Backup words)) before is printed = unread_session (backup_command words) before (stays_same refl) is printed
-unread_call (Some (Restore words)) before is printed = unread_session (restore_command words) before (stays_same refl) is printed
-unread_call (Some (Emulate capture)) before {report = report} is printed = record {
+unread_call (Some (Install words)) before err is printed = unread_session (install_command words) before refl is printed
+unread_call (Some (Backup words)) before err is printed = unread_session (backup_command words) before (stays_same refl) is printed
+unread_call (Some (Restore words)) before err is printed = unread_session (restore_command words) before (stays_same refl) is printed
+unread_call (Some (Emulate capture)) before err {report = report} is printed = record {
   ran = unread_emulation capture before is;
   printed = printed_weaken (λ text. text ≡ served_lines (length report.performed.items)) (λ text no. absurd no) printed;
   complete = λ calm. inl refl;
 }
-unread_call (Some (Categories words)) before is printed =
+unread_call (Some (Categories words)) before err is printed =
     unread_session (categories_command words) before (record { stands = stands_same refl; unread = λ unread. stays_same refl }) is printed
-unread_call (Some (Help topic)) before is printed = record {
+unread_call (Some (Help topic)) before err is printed = record {
   ended = inr (inr refl);
-  printed = printed_weaken (λ text. text ≡ help_text topic) (λ text no. absurd no) printed;
+  printed = unread_text (λ text. text ≡ help_text topic) err printed;
   complete = λ calm. inr refl;
 }
-unread_call None before is printed = grind (arith, common_steps)
-unread_call (Some (LookAt look file)) before is printed = grind (arith, common_steps)
-unread_call (Some (Scan bytes)) before is printed = grind (arith, common_steps)
-unread_call (Some (Make seed count)) before is printed = grind (arith, common_steps)
+unread_call None before err is printed = record { ended = inr refl; printed = inl (printed, refl) }
+unread_call (Some (LookAt look file)) before err is printed =
+    let shown = unread_text (IsTextIn look before.source.left) err printed in
+    grind (arith, common_steps, shown)
+unread_call (Some (Scan bytes)) before err is printed = record {
+  ended = inr (inr refl);
+  printed = unread_text (ShowsPackets (scan bytes)) err printed;
+  complete = λ calm. inr refl;
+}
+unread_call (Some (Make seed count)) before err is printed = grind (arith, common_steps)

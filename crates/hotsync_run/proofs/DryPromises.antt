@@ -16,7 +16,7 @@ use Rattle.cmd_status.specs.declared.status.Status.{Status}
 pub dry_asked : (call : Call) (run : Run) → IsAnsweredCall call → call.task ≡ Some (DryRun run)
     → IsDryRun run call.before call.after call.out call.out_after call.status call.report
 dry_asked call run is asked =
-    subst (λ (task : Option WordTask). IsCall task call.before call.after call.out call.out_after call.status call.report) asked is
+    subst (λ (task : Option WordTask). IsCall task call.before call.after call.out call.out_after call.err call.err_after call.status call.report) asked is
 
 holds_same : (told copied : Option FileMap) (before now : ℕ) → IsCopy told before now copied → ¬ (Rose before now)
     → IfSome told (λ held. copied ≡ Some held)

@@ -13,5 +13,5 @@ pub handheld_says_all : (call : Call) (capture : Capture) → IsAnsweredCall cal
     → SaysAll call.before call.after call.report
 handheld_says_all call capture is task done =
     let answered : IsEmulation capture call.before call.after call.out call.out_after call.status call.report =
-    subst (λ (task : Option WordTask). IsCall task call.before call.after call.out call.out_after call.status call.report) task is in
+    subst (λ (task : Option WordTask). IsCall task call.before call.after call.out call.out_after call.err call.err_after call.status call.report) task is in
     says_all (subst (λ (s : Status). MayEmulate capture call.before call.after s call.report) done answered.ran)

@@ -27,7 +27,7 @@ module _ (call : Call) (words : Between) (is : IsAnsweredCall call) (task : call
   Session = RestoreRan words call.before call.after call.status call.report
 
   answered : IsSessionCall (restore_command words) call.before call.after call.out call.out_after call.status call.report
-  answered = subst (λ (task : Option WordTask). IsCall task call.before call.after call.out call.out_after call.status call.report) task is
+  answered = subst (λ (t : Option WordTask). IsCall t call.before call.after call.out call.out_after call.err call.err_after call.status call.report) task is
 
   pub restore_refused : call.report.end ≡ NotStarted → Silent
   restore_refused none = subst (λ (e : SessionEnd). ByEnd e Silent Session) none answered.ran.shown

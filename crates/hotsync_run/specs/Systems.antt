@@ -22,8 +22,10 @@ pub record IsSystemCall (task : Option WordTask) (status : Status) (report : Rep
   pub after : CallTold
   pub out : SinkTold
   pub out_after : SinkTold
+  pub err : SinkTold
+  pub err_after : SinkTold
   pub untold : AreUntold before out
-  pub called : IsCall task before after out out_after status report
+  pub called : IsCall task before after out out_after err err_after status report
 
 -- The program ended with the exit status of such a call, for the words that it was called with and
 -- the date now. Nothing says which words the system hands over, and which date it tells.

@@ -1,8 +1,10 @@
 // The top call.
-ghost use Rattle.std.specs.Prelude.{◌≡◌, None};
-ghost use Rattle.hotsync_looks.specs.Misuses.{TellsFault};
-ghost use Rattle.hotsync_run.specs.Calls.{HasSession, IsCall, ReadsFirst, fault_in, paths_of, task_in};
-ghost use Rattle.call_parts.specs.OfCalls.{OfCall};
+ghost use Rattle.std.specs.Prelude.{◌≡◌, ◌⊎◌, None, false, map, string_bytes, true};
+ghost use Rattle.cmd_status.specs.Told.{sink_told};
+ghost use Rattle.hotsync_looks.specs.Misuses.{IsMisuse, TellsFault};
+ghost use Rattle.hotsync_run.specs.Calls as calls;
+ghost use Rattle.hotsync_run.specs.Calls.{HasSession, IsCall, IsRefused, OfProgram, ReadsFirst, fault_in, paths_of, task_in};
+ghost use Rattle.run_words.specs.Helps.{command_named as named_by_first};
 ghost use Rattle.call_parts.specs.Refusals.{BlamesHandheld, BlamesSource};
 ghost use Rattle.call_parts.specs.Reports.{IsNotStarted};
 
@@ -13,13 +15,14 @@ use cmd_status::{Status, print_refusal};
 use hotsync_looks::{look_at, print_help, print_misuse, print_packets};
 use hs_folders::{Folder, Sink, Source};
 use run_clap::{Command, WordsFault, read_command};
-use run_words::fault_of;
+use run_words::{CommandWord, command_named, fault_of};
 use std::alloc::Global;
 
 /// Does what the words ask for, and prints the lines of its status on `out`.
 ///
+/// Where what is printed is the result of a command, as that of `export` is, what is refused goes to `err` in its place.
 /// `now` are the seconds of the date now, if it can be told, and `words` those after the program's name. Both folders are handed back with every status.
-pub fn hotsync<H: Folder, D: Folder, S: Source, T: Sink, O: Sink>(
+pub fn hotsync<H: Folder, D: Folder, S: Source, T: Sink, O: Sink, E: Sink>(
     alloc: Global,
     now: Option<u32>,
     words: &[String],
@@ -28,15 +31,21 @@ pub fn hotsync<H: Folder, D: Folder, S: Source, T: Sink, O: Sink>(
     source: &mut S,
     trace: &mut T,
     out: &mut O,
+    err: &mut E,
 ) -> Answer<H, D>
-    ensures run { OfCall (IsCall (task_in now words.now))
-        H.Folder D.Folder S.Source T.Sink O.Sink
-        device desk source.old trace.old out.old
-        result source.new trace.new out.new }
+    ensures run { OfProgram (IsCall (task_in now words.now))
+        H.Folder D.Folder S.Source T.Sink O.Sink E.Sink
+        device desk source.old trace.old out.old err.old
+        result source.new trace.new out.new err.new }
 
     // Where the words ask for nothing, the status names the word at fault.
     ensures fault { task_in now words.now ≡ None
         → TellsFault (fault_in now words.now) result.status }
+
+    // Such words of a command that prints its result leave standard output alone.
+    ensures misuse { task_in now words.now ≡ None
+        → calls.gives_result (named_by_first (map string_bytes words.now)) ≡ true
+        → IsMisuse result.status → out.new ≡ out.old }
 
     // Nothing goes over a line but in a session.
     ensures report { ¬ HasSession (task_in now words.now) → IsNotStarted result.report }
@@ -59,11 +68,11 @@ pub fn hotsync<H: Folder, D: Folder, S: Source, T: Sink, O: Sink>(
             dry_run_folders(alloc, &run, device, desk, source, trace, out)
         }
         Ok(Command::Look(look)) => {
-            let status = look_at(alloc, look, source, out);
+            let status = look_at(alloc, look, source, out, err);
             Answer::not_started(alloc, status, device, desk)
         }
         Ok(Command::Packet(packet)) => {
-            let status = print_packets(alloc, packet.hex, out);
+            let status = print_packets(alloc, packet.hex, out, err);
             Answer::not_started(alloc, status, device, desk)
         }
         Ok(Command::Make(words)) => {
@@ -89,16 +98,59 @@ pub fn hotsync<H: Folder, D: Folder, S: Source, T: Sink, O: Sink>(
             file_categories(alloc, &words, device, desk, source, trace, out)
         }
         Ok(Command::Help(topic)) => {
-            let status = print_help(alloc, topic, out);
+            let status = print_help(alloc, topic, out, err);
             Answer::not_started(alloc, status, device, desk)
         }
         Err(WordsFault::Usage) => {
-            let status = print_misuse(alloc, fault_of(now, words), out);
+            let status = refuse_words(alloc, now, words, out, err);
             Answer::not_started(alloc, status, device, desk)
         }
         Err(WordsFault::NoMemory) => {
             let status = print_refusal(alloc, Status::NoMemory, out);
             Answer::not_started(alloc, status, device, desk)
         }
+    }
+}
+
+// Prints what is wrong with words that ask for nothing, apart from the result that the command would have printed.
+fn refuse_words<O: Sink, E: Sink>(
+    alloc: Global,
+    now: Option<u32>,
+    words: &[String],
+    out: &mut O,
+    err: &mut E,
+) -> Status
+    ensures status { IsMisuse result ⊎ (result ≡ Status.NoMemory) }
+    ensures fault { TellsFault (fault_in now words.now) result }
+    ensures printed { IsRefused (sink_told O.Sink out.old) (sink_told O.Sink out.new)
+        (sink_told E.Sink err.old) (sink_told E.Sink err.new) result }
+    ensures apart { calls.gives_result (named_by_first (map string_bytes words.now)) ≡ true
+        → out.new ≡ out.old }
+    ensures alone { calls.gives_result (named_by_first (map string_bytes words.now)) ≡ false
+        → err.new ≡ err.old }
+{
+    let fault = fault_of(now, words);
+    if gives_result(command_named(words)) {
+        print_misuse(alloc, fault, err)
+    } else {
+        print_misuse(alloc, fault, out)
+    }
+}
+
+// Whether what a command prints is its result.
+fn gives_result(command: Option<CommandWord>) -> bool
+    ensures { result ≡ calls.gives_result command }
+{
+    match command {
+        Some(
+            CommandWord::Check
+            | CommandWord::Show
+            | CommandWord::Export
+            | CommandWord::Import
+            | CommandWord::Verify
+            | CommandWord::Picture
+            | CommandWord::Packet,
+        ) => true,
+        _ => false,
     }
 }

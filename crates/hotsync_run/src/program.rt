@@ -1,9 +1,9 @@
 // What the program does with the words that it was called with.
-ghost use Rattle.std.specs.Prelude.{◌≡◌, ◌↔◌, IfOk, IsErr, IsErrOf, None, drop};
+ghost use Rattle.std.specs.Prelude.{◌≡◌, ◌↔◌, IfOk, IsErr, IsErrOf, None, drop, map, string_bytes, true};
 ghost use Rattle.std.specs.Process.{exit_status};
-ghost use Rattle.hotsync_looks.specs.Misuses.{TellsFault};
-ghost use Rattle.hotsync_run.specs.Calls.{HasSession, IsCall, ReadsFirst, fault_in, paths_of, task_in};
-ghost use Rattle.call_parts.specs.OfCalls.{OfCall};
+ghost use Rattle.hotsync_looks.specs.Misuses.{IsMisuse, TellsFault};
+ghost use Rattle.hotsync_run.specs.Calls.{HasSession, IsCall, OfProgram, ReadsFirst, fault_in, gives_result, paths_of, task_in};
+ghost use Rattle.run_words.specs.Helps.{command_named};
 ghost use Rattle.cmd_status.specs.Codes.{code_of};
 ghost use Rattle.call_parts.specs.Refusals.{BlamesHandheld, BlamesSource};
 ghost use Rattle.call_parts.specs.Reports.{IsNotStarted};
@@ -16,7 +16,7 @@ use crate::counted_folder::CountedFolder;
 use crate::hints::{hint_folders, hint_words};
 use call_parts::{Answer, SessionEnd, seconds_now};
 use cmd_status::{Status, print_refusal};
-use hs_folders::{DirFolder, FileSink, FileSource, Folder, Sink, Source, StdoutSink};
+use hs_folders::{DirFolder, FileSink, FileSource, Folder, Sink, Source, StderrSink, StdoutSink};
 use run_clap::WordsFault;
 use std::alloc::Global;
 use std::fs::File;
@@ -36,7 +36,7 @@ pub struct Ended<H, D> {
 /// Calls [`hotsync`] with the words behind the program's name, and gives the exit status of what it answers.
 ///
 /// `args` begin with the program's name. Without any there are no words. `now` are the seconds of the date now, if it can be told.
-pub fn run_program<H: Folder, D: Folder, S: Source, T: Sink, O: Sink>(
+pub fn run_program<H: Folder, D: Folder, S: Source, T: Sink, O: Sink, E: Sink>(
     alloc: Global,
     now: Option<u32>,
     args: &[String],
@@ -45,16 +45,22 @@ pub fn run_program<H: Folder, D: Folder, S: Source, T: Sink, O: Sink>(
     source: &mut S,
     trace: &mut T,
     out: &mut O,
+    err: &mut E,
 ) -> Ended<H, D>
     ensures code { result.code ≡ code_of result.answer.status }
-    ensures run { OfCall (IsCall (task_in now (drop 1 args.now)))
-        H.Folder D.Folder S.Source T.Sink O.Sink
-        device desk source.old trace.old out.old
-        result.answer source.new trace.new out.new }
+    ensures run { OfProgram (IsCall (task_in now (drop 1 args.now)))
+        H.Folder D.Folder S.Source T.Sink O.Sink E.Sink
+        device desk source.old trace.old out.old err.old
+        result.answer source.new trace.new out.new err.new }
 
     // Where the words ask for nothing, the status names the word at fault.
     ensures fault { task_in now (drop 1 args.now) ≡ None
         → TellsFault (fault_in now (drop 1 args.now)) result.answer.status }
+
+    // Such words of a command that prints its result leave standard output alone.
+    ensures misuse { task_in now (drop 1 args.now) ≡ None
+        → gives_result (command_named (map string_bytes (drop 1 args.now))) ≡ true
+        → IsMisuse result.answer.status → out.new ≡ out.old }
 
     // Nothing goes over a line but in a session.
     ensures report { ¬ HasSession (task_in now (drop 1 args.now))
@@ -75,7 +81,17 @@ pub fn run_program<H: Folder, D: Folder, S: Source, T: Sink, O: Sink>(
     ensures trace { (paths_of (task_in now (drop 1 args.now))).trace ≡ None
         → trace.new ≡ trace.old }
 {
-    let answer = hotsync(alloc, now, words_of(args), device, desk, source, trace, out);
+    let answer = hotsync(
+        alloc,
+        now,
+        words_of(args),
+        device,
+        desk,
+        source,
+        trace,
+        out,
+        err,
+    );
     Ended {
         code: answer.status.code(),
         answer,
@@ -89,8 +105,8 @@ fn words_of(args: &[String]) -> &[String]
     args.get(1..).unwrap_or(&[])
 }
 
-/// Runs the program over the system's folders and files and its standard output, with hints on standard error, and where it is
-/// wanted with how many writes went to the handheld's folder, once they take a second.
+/// Runs the program over the system's folders and files, its standard output and its standard error, with hints on that, and
+/// where it is wanted with how many writes went to the handheld's folder, once they take a second.
 pub fn run_on_system<R: Clock + Env + Files<File = File> + Print + Eprint + AllocGlobal>(
     rt: &R,
     is_count_wanted: bool,
@@ -145,6 +161,7 @@ fn run_over_files<'r, R: Clock + Files<File = File> + Print + Eprint + AllocGlob
         &mut FileSource::new(rt),
         &mut FileSink::new(rt, alloc),
         &mut StdoutSink::new(rt),
+        &mut StderrSink::new(rt),
     );
     hint_words(
         rt,
@@ -157,7 +174,7 @@ fn run_over_files<'r, R: Clock + Files<File = File> + Print + Eprint + AllocGlob
 }
 
 // The program over objects that tell nothing.
-fn run_untold<H: Folder, D: Folder, S: Source, T: Sink, O: Sink>(
+fn run_untold<H: Folder, D: Folder, S: Source, T: Sink, O: Sink, E: Sink>(
     alloc: Global,
     now: Option<u32>,
     args: &[String],
@@ -166,6 +183,7 @@ fn run_untold<H: Folder, D: Folder, S: Source, T: Sink, O: Sink>(
     source: &mut S,
     trace: &mut T,
     out: &mut O,
+    err: &mut E,
 ) -> Ended<H, D>
     requires { AreUntold
         (call_told H.Folder D.Folder S.Source T.Sink device desk source.old trace.old)
@@ -174,7 +192,7 @@ fn run_untold<H: Folder, D: Folder, S: Source, T: Sink, O: Sink>(
     ensures call { IsSystemCall (task_in now (drop 1 args.now))
         result.answer.status result.answer.report }
 {
-    run_program(alloc, now, args, device, desk, source, trace, out)
+    run_program(alloc, now, args, device, desk, source, trace, out, err)
 }
 
 // A call whose words were not fetched for want of memory.

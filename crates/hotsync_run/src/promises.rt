@@ -112,7 +112,7 @@ pub fn what_is_refused_changes_nothing()
     ensures run { (call : RunCall) → IsAnsweredRun call → call.report.end ≡ NotStarted
         → SentNothing (run_command call.run) call.before call.after call.status call.report }
     ensures words { (call : Call) → IsAnsweredCall call → call.task ≡ None
-        → IsNothing call.out call.out_after call.status }
+        → IsNothing call.out call.out_after call.err call.err_after call.status }
 {}
 
 /// An ended session leaves both sides at the merge; one that stopped leaves the desktop as it was, or merged.
@@ -177,7 +177,8 @@ pub fn a_dry_run_is_a_run_over_the_same()
 pub fn every_file_is_read_or_refused()
     ensures { (call : Call) (look : Look) (file : List ℕ) → IsAnsweredCall call
         → call.task ≡ Some (LookAt look file)
-        → IsLook look file call.before.source call.after.source call.out call.out_after call.status }
+        → IsLook look file call.before.source call.after.source call.out call.out_after
+        call.err call.err_after call.status }
 {}
 
 /// Folders that are told stand for one handheld and one desktop: whatever meets them meets the same.

@@ -144,15 +144,18 @@ impl Bench {
         source.fail_calls(self.failing_source.clone()?);
         let mut trace = failing_sink(alloc, &self.failing_trace)?;
         let mut out = failing_sink(alloc, &self.failing_out)?;
-        let (code, report) = self.over_folders(&args, &mut source, &mut trace, &mut out);
+        let mut err = failing_sink(alloc, &self.failing_out)?;
+        let (code, report) =
+            self.over_folders(&args, &mut source, &mut trace, &mut out, &mut err);
         self.trace = Vec::from_slice(alloc, trace.bytes())?;
         let printed = String::from_utf8_lossy(alloc, out.bytes())?;
+        let refused = String::from_utf8_lossy(alloc, err.bytes())?;
         let did = if whole {
             report_text(alloc, &report)?
         } else {
             String::new(alloc)
         };
-        format!(in alloc; "status {code}\n{printed}{did}")
+        format!(in alloc; "status {code}\n{printed}{refused}{did}")
     }
 
     // Calls over both folders, which come back and fail no more.
@@ -162,12 +165,13 @@ impl Bench {
         source: &mut MemSource,
         trace: &mut MemSink,
         out: &mut MemSink,
+        err: &mut MemSink,
     ) -> (u8, Report) {
         let alloc = self.alloc;
         let palm = mem::replace(&mut self.palm, MemFolder::new(alloc));
         let desk = mem::replace(&mut self.desk, MemFolder::new(alloc));
         let Ended { code, answer } = run_program(
-            alloc, self.now, args, palm, desk, source, trace, out,
+            alloc, self.now, args, palm, desk, source, trace, out, err,
         );
         let Answer {
             device,

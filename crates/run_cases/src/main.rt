@@ -54,7 +54,7 @@ fn print_said(rt: &HostRuntime, bench: &mut Bench, line: &str) -> io::Result<()>
     print!(rt; "{said}")
 }
 
-// Calls over the folders beside the program, and the files and the standard output of the system.
+// Calls over the folders beside the program, and the files and the standard output of the system, which gets refusals too.
 fn call_on_system(rt: &HostRuntime, words: &str) -> io::Result<()> {
     let alloc = rt.alloc();
     println!(rt; "$ hotsync {words}")?;
@@ -67,6 +67,7 @@ fn call_on_system(rt: &HostRuntime, words: &str) -> io::Result<()> {
         DirFolder::new(rt, alloc),
         &mut FileSource::new(rt),
         &mut FileSink::new(rt, alloc),
+        &mut StdoutSink::new(rt),
         &mut StdoutSink::new(rt),
     );
     Ok(())

@@ -113,6 +113,11 @@ def want_line(answer, status, line):
     want((answer[0], answer[1][-1:]), (status, [line]), "status and last line")
 
 
+def want_error(answer, status, line):
+    """A refusal that stands on standard error, where the result would have stood on standard output."""
+    want((answer[0], answer[1], answer[2][:1]), (status, [], [line]), "status, result and first line on standard error")
+
+
 def want_run(*words, **given):
     want_line(call("run", *words, **given), 0, "ended")
 

@@ -5,7 +5,7 @@ import subprocess
 
 from situations.rig import (
     DATE, DIRTY, LATER, LATEST, PROGRAM, all_files, call, memos, mode, pdb, put, situation, texts, two_sides,
-    want, want_line, want_run,
+    want, want_error, want_line, want_run,
 )
 
 
@@ -162,7 +162,7 @@ def sources_are_files():
     two_sides()
     os.mkfifo("script")
     want_line(call("run", "h", "d", LATER, "--script=script"), 4, "source read failed")
-    want_line(call("check", "script"), 4, "source read failed")
+    want_error(call("check", "script"), 4, "source read failed")
 
 @situation
 def memos_come_from_an_editor():
@@ -183,4 +183,24 @@ def memos_come_from_an_editor():
     heads = [line[10:] for line in call("export", "h/MemoDB.pdb", "--as=txt")[1] if line.startswith("--- ")]
     want(sorted(heads), ["", " Errands", " private"], "heads on the handheld")
     put("bad.txt", "Shopping\n")
-    want_line(call("import", "bad.txt", "--as=txt"), 3, "bad text line 1")
+    want_error(call("import", "bad.txt", "--as=txt"), 3, "bad text line 1")
+
+
+@situation
+def a_result_holds_no_refusal():
+    """What is refused stands on standard error where standard output is the result, also where the words are at fault; what is
+    refused of a session stands where its lines do."""
+    put("bad.pdb", "no database")
+    put("bad.txt", "no trace")
+    for word in ("check", "show"):
+        want_error(call(word, "bad.pdb"), 3, "bad file source bad.pdb short 0")
+    want_error(call("export", "bad.pdb", "--as=txt"), 3, "bad file source bad.pdb short 0")
+    want_error(call("import", "bad.txt", "--as=txt"), 3, "bad text line 1")
+    for word in ("verify", "picture"):
+        want_error(call(word, "bad.txt"), 3, "bad trace line 1")
+    for words in (("check",), ("export", "a.pdb", "--as=tyt"), ("import", "a.txt", "--like=a.pdb"), ("packet", "x"), ("verify", "a", "b")):
+        status, lines, errors = call(*words)
+        want((status, lines, errors[0][:6]), (2, [], "usage:"), f"words at fault of {words[0]}")
+    for words in (("run", "h"), ("install",), ("nothing",), ()):
+        status, lines, _ = call(*words)
+        want((status, lines[0][:6]), (2, "usage:"), "words at fault of a session, or of no command")

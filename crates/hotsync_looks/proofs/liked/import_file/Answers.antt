@@ -1,5 +1,5 @@
 -- What was made is printed, or the line of a refusal.
-use Rattle.std.proofs.Common.{◌∙◌, ap, subst, sym, inl, Err}
+use Rattle.std.proofs.Common.{◌∙◌, ap, refl, subst, sym, inl, inr, Err}
 use Rattle.hotsync_looks.specs.Likings.{IsLikedIn}
 use Rattle.hotsync_looks.proofs.LikingLaws.{printed_ended, printed_not_failed, refused_failed, refused_not_done, refused_status}
 use Rattle.cmd_status.proofs.PrintedLaws.{printed_weaken}
@@ -17,8 +17,12 @@ returns-in-Ok g c =
       like_path = found.like_path;
       source_opened = λ done. found.source_opened;
       like_opened = λ done. found.like_opened;
-      printed = printed_weaken (IsLikedIn source like) (λ text is. subst (IsLikedIn source like) (sym (is ∙ c.deref.ensures.value)) found.file)
-          c.print_text.ensures.printed;
+      printed = inl (record {
+        ended = c.print_text.ensures.status;
+        printed = printed_weaken (IsLikedIn source like) (λ text is. subst (IsLikedIn source like) (sym (is ∙ c.deref.ensures.value)) found.file)
+            c.print_text.ensures.printed;
+        apart = refl;
+      });
     }
 
 pub returns-in-Err : goal.returns-in-Err
@@ -34,5 +38,5 @@ returns-in-Err g c =
       like_path = found.like_path;
       source_opened = λ done. absurd (refused_not_done c.args.words.like.now source like c.print_refusal.result refused done);
       like_opened = λ done. absurd (refused_not_done c.args.words.like.now source like c.print_refusal.result refused done);
-      printed = printed_weaken (IsLikedIn source like) (λ text no. absurd no) c.print_refusal.ensures.printed;
+      printed = inr (record { printed = c.print_refusal.ensures.printed; apart = refl });
     }

@@ -25,7 +25,8 @@ returns-in-Err-NoMemory-clause-run g c =
     let end = c.not_started-in-Err-NoMemory in
     let memory = only_memory said.ensures.status in
     rw (end.ensures.status, end.ensures.device, end.ensures.desk, memory)
-    (unread_call (task_of c.args.now (map string_bytes c.args.words.now)) before end.ensures.report (rw memory at said.ensures.printed))
+    (unread_call (task_of c.args.now (map string_bytes c.args.words.now)) before (sink_told g.E.Sink c.args.err.now) end.ensures.report
+    (rw memory at said.ensures.printed))
 
 pub returns-in-Ok-Run-clause-device : goal.returns-in-Ok-Run-clause-device
 returns-in-Ok-Run-clause-device g c = λ none.

@@ -10,6 +10,8 @@ returns-clause-call g c =
       after = call_told g.H.Folder g.D.Folder g.S.Source g.T.Sink answer.device answer.desk c.run_program.new.source c.run_program.new.trace;
       out = sink_told g.O.Sink c.args.out.now;
       out_after = sink_told g.O.Sink c.run_program.new.out;
+      err = sink_told g.E.Sink c.args.err.now;
+      err_after = sink_told g.E.Sink c.run_program.new.err;
       untold = c.requires;
       called = c.run_program.ensures.run;
     }

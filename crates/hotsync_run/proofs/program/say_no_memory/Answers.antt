@@ -1,4 +1,4 @@
-use Rattle.std.proofs.Common.{◌∙◌, inr, refl}
+use Rattle.std.proofs.Common.{◌∙◌, inl, inr, refl}
 use Rattle.std.specs.Prelude.{None}
 use Rattle.cmd_status.specs.Told.{sink_told}
 use Rattle.call_parts.specs.Told.{CallTold, FolderTold}
@@ -22,6 +22,8 @@ returns-clause-call g c =
       after = told;
       out = sink_told g.O.Sink c.args.out.now;
       out_after = sink_told g.O.Sink c.print_refusal-status.new.out;
+      err = sink_told g.O.Sink c.args.out.now;
+      err_after = sink_told g.O.Sink c.args.out.now;
       untold = record { palm = refl; desk = refl; source = refl; trace = refl; printed = c.requires };
-      called = record { ended = inr (only_memory c.print_refusal-status.ensures.status); printed = c.print_refusal-status.ensures.printed };
+      called = record { ended = inr (only_memory c.print_refusal-status.ensures.status); printed = inl (c.print_refusal-status.ensures.printed, refl) };
     })

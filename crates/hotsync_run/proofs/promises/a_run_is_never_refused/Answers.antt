@@ -9,5 +9,5 @@ pub returns : goal.returns
 returns c = record {
   run = λ call is. run-answered call.run call.before call.after call.out call.out_after call.status call.report is;
   made = λ call seed count is asked. made-answered seed count call.out call.out_after call.status call.report
-      (subst (λ (task : Option WordTask). IsCall task call.before call.after call.out call.out_after call.status call.report) asked is);
+      (subst (λ (task : Option WordTask). IsCall task call.before call.after call.out call.out_after call.err call.err_after call.status call.report) asked is);
 }

@@ -9,5 +9,5 @@ pub returns : goal.returns
 returns c = record {
   run = run-proper;
   made = λ call seed count is asked. made-proper seed count call.out call.out_after call.status call.report
-      (subst (λ (task : Option WordTask). IsCall task call.before call.after call.out call.out_after call.status call.report) asked is);
+      (subst (λ (task : Option WordTask). IsCall task call.before call.after call.out call.out_after call.err call.err_after call.status call.report) asked is);
 }

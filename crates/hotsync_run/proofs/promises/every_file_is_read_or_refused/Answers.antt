@@ -6,4 +6,4 @@ use Rattle.hotsync_run.proofs.promises.every_file_is_read_or_refused.Goals as go
 
 pub returns : goal.returns
 returns c call look file is asked =
-    subst (λ (task : Option WordTask). IsCall task call.before call.after call.out call.out_after call.status call.report) asked is
+    subst (λ (task : Option WordTask). IsCall task call.before call.after call.out call.out_after call.err call.err_after call.status call.report) asked is

@@ -9,5 +9,5 @@ pub returns : goal.returns
 returns c = record {
   run = silent_run;
   words = λ call is none.
-      subst (λ (task : Option WordTask). IsCall task call.before call.after call.out call.out_after call.status call.report) none is;
+      subst (λ (task : Option WordTask). IsCall task call.before call.after call.out call.out_after call.err call.err_after call.status call.report) none is;
 }
