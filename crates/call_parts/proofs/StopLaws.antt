@@ -46,7 +46,7 @@ module _ {asked : List (List ℕ)} {report : Report} {answered : ℕ} where
   tells_stop OutWrite it why by = absurd (none_ended it it.ends by)
   tells_stop NoMemory it why by = inr refl
   tells_stop Usage it why by = absurd it.ends
-  tells_stop (BadWord kind word) it why by = absurd it.ends
+  tells_stop (BadWord command kind word) it why by = absurd it.ends
   tells_stop (BadScript line) it why by = absurd it.ends
   tells_stop TooLong it why by = absurd it.ends
   tells_stop (BadFile side name kind place) it why by = absurd it.ends

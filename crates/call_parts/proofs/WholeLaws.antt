@@ -180,7 +180,7 @@ module _ {asked : List (List ℕ)} where
   whole_over OutWrite some over short whole = inl over.ends
   whole_over NoMemory some over short whole = inr refl
   whole_over Usage some over short whole = absurd over.ends
-  whole_over (BadWord kind word) some over short whole = absurd over.ends
+  whole_over (BadWord command kind word) some over short whole = absurd over.ends
   whole_over (BadScript line) some over short whole = absurd over.ends
   whole_over TooLong some over short whole = absurd over.ends
   whole_over (BadFile a b c d) some over short whole = absurd over.ends

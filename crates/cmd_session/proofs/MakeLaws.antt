@@ -141,7 +141,7 @@ module _ {items : List Item} (after : SidesTold) (report : Report) (are : AreIte
   by_status Done asks ends unsaid up caused numbered shows palm desk = inl refl
   by_status NoMemory asks ends unsaid up caused numbered shows palm desk = inr refl
   by_status Usage asks ends unsaid up caused numbered shows palm desk = absurd ends
-  by_status (BadWord kind word) asks ends unsaid up caused numbered shows palm desk = absurd ends
+  by_status (BadWord command kind word) asks ends unsaid up caused numbered shows palm desk = absurd ends
   by_status (BadScript line) asks ends unsaid up caused numbered shows palm desk = absurd ends
   by_status TooLong asks ends unsaid up caused numbered shows palm desk = absurd ends
   by_status (BadFile side name kind place) asks ends unsaid up caused numbered shows palm desk = absurd ends

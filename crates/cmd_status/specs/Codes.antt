@@ -11,7 +11,7 @@ use Rattle.cmd_status.specs.declared.status.Status.TheVariants.{PortFailed, NoHa
 abbrev pub code_of : Status → ℕ
 code_of Done = 0
 code_of Usage = 2
-code_of (BadWord _ _) = 2
+code_of (BadWord _ _ _) = 2
 code_of (BadScript _) = 3
 code_of TooLong = 3
 code_of (BadFile _ _ _ _) = 3

@@ -6,3 +6,4 @@ pub mod Printed
 pub mod PrintedNames
 pub mod Sources
 pub mod Told
+pub mod Usages

@@ -1,5 +1,5 @@
 -- The lines that a call prints.
-use Rattle.std.specs.Prelude.{ℕ, List, [], ◌∷◌, ◌++◌, codes, string_bytes}
+use Rattle.std.specs.Prelude.{ℕ, List, [], ◌∷◌, ◌++◌, codes, string_bytes, Option}
 use Rattle.std.specs.Fmt.{decimal}
 use Rattle.std.specs.Int.{to_be_bytes, w32}
 use Rattle.std.specs.declared.alloc.Global.{Global}
@@ -22,6 +22,8 @@ use Rattle.cmd_status.specs.declared.status.Status.TheVariants.{TraceWrite, OutW
 use Rattle.cmd_status.specs.declared.status.Status.TheVariants.{TooManyUsers, Limit, NewHandheld, WrongSide, InUse, CannotExport, BadRecord, BadText, Overfull, BadTrace, NotProper, BadCategories, CannotInstall, NotBackupFolder, SameDatabase}
 use Rattle.cmd_status.specs.declared.status.Status.TheVariants.{StreamEnded, StreamAborted, BadHello, Refused, BadReply}
 use Rattle.cmd_status.specs.declared.status.Status.TheVariants.{PortFailed, NoHandheld, LineSilent, LineEndless, PeerAborted, PeerBeganAnew}
+use Rattle.cmd_status.specs.Usages.{usage_line, usage_of, way_on}
+use Rattle.run_words.specs.declared.topic.CommandWord.{CommandWord}
 use Rattle.trace_check.specs.declared.rule.Rule.{Rule}
 use Rattle.trace_check.specs.declared.rule.Rule.TheVariants as rule
 use Rattle.trace_text.specs.declared.frame.End.{End}
@@ -30,11 +32,6 @@ use Rattle.trace_text.specs.declared.frame.End.TheVariants as end
 -- the byte that ends a line
 abbrev pub line_feed : List ℕ
 line_feed = 10 ∷ []
-
--- how the program is called
-abbrev pub usage_line : List ℕ
-usage_line = codes "usage: hotsync run HANDHELD DESKTOP --date=D [--script=F] [--trace=F] "
-    ++ codes "[--only=L] [--slow] [--actions=L] [--add-user]" ++ line_feed
 
 -- what is wrong with the word that stands behind it
 abbrev pub fault_words : FaultKind → List ℕ
@@ -49,10 +46,11 @@ fault_words fault.TooFew = codes "too few words behind "
 fault_words fault.BadOption = codes "bad --"
 fault_words fault.BadWord = codes "bad word "
 
--- the usage line, and then the word at fault
-unfoldable pub fault_lines : FaultKind → List ℕ → List ℕ
-fault_lines kind word =
-    usage_line ++ (fault_words kind ++ (printed_name word ++ line_feed))
+-- how a command is called, then the word at fault, and where more is said
+unfoldable pub fault_lines : Option CommandWord → FaultKind → List ℕ → List ℕ
+fault_lines command kind word =
+    usage_of command
+    ++ (fault_words kind ++ (printed_name word ++ (line_feed ++ way_on command)))
 
 abbrev pub no_memory_line : List ℕ
 no_memory_line = codes "no memory" ++ line_feed
@@ -155,7 +153,8 @@ rule_word rule.G = codes "g"
 abbrev pub refusal_line : Status → List ℕ
 refusal_line Done = ended_line
 refusal_line Usage = usage_line
-refusal_line (BadWord kind word) = fault_lines kind (string_bytes {Z = Global} word)
+refusal_line (BadWord command kind word) =
+    fault_lines command kind (string_bytes {Z = Global} word)
 refusal_line (BadScript line) = number_line (codes "bad script line ") line
 refusal_line TooLong = codes "source too long" ++ line_feed
 refusal_line (BadFile side name kind place) =

@@ -3,8 +3,8 @@ ghost use Rattle.std.specs.Prelude.{◌≡◌, IfOk, string_bytes};
 ghost use Rattle.cmd_status.specs.Lines.{fault_lines as lines_of_fault, fault_words as words_of_fault};
 
 use crate::printed_name::push_name;
-use crate::printing::USAGE;
-use run_words::FaultKind;
+use crate::usage::{push_usage, push_way_on};
+use run_words::{CommandWord, FaultKind};
 use std::alloc::{AllocError, Global};
 
 // What is wrong with the word that stands behind it.
@@ -25,14 +25,21 @@ fn fault_words(kind: FaultKind) -> &'static str
     }
 }
 
-/// The usage line, and then the word at fault.
+/// How a command is called, then the word at fault, and where more is said.
 #[tactic(auto, unfolding(crate::specs::Lines::fault_lines))]
-pub(crate) fn fault_lines(alloc: Global, kind: FaultKind, word: &str) -> Result<String, AllocError>
-    ensures { IfOk result (λ lines. string_bytes lines ≡ lines_of_fault kind word.now) }
+pub(crate) fn fault_lines(
+    alloc: Global,
+    command: Option<CommandWord>,
+    kind: FaultKind,
+    word: &str,
+) -> Result<String, AllocError>
+    ensures { IfOk result (λ lines. string_bytes lines ≡ lines_of_fault command kind word.now) }
 {
-    let mut lines = String::from_str(alloc, USAGE)?;
+    let mut lines = String::new(alloc);
+    push_usage(&mut lines, command)?;
     lines.push_str(fault_words(kind))?;
     push_name(&mut lines, word)?;
     lines.push_str("\n")?;
+    push_way_on(&mut lines, command)?;
     Ok(lines)
 }

@@ -10,10 +10,6 @@ use crate::status::Status;
 use hs_folders::{Sink, SinkFault};
 use std::alloc::Global;
 
-/// How the program is called.
-pub(crate) const USAGE: &str =
-    "usage: hotsync run HANDHELD DESKTOP --date=D [--script=F] [--trace=F] [--only=L] [--slow] [--actions=L] [--add-user]\n";
-
 const NO_MEMORY: &[u8] = b"no memory\n";
 
 /// Prints the text of what was done. A failing sink makes the status `OutWrite`.

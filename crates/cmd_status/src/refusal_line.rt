@@ -5,8 +5,8 @@ ghost use Rattle.cmd_status.specs.Lines.{bad_file_line as line_of_bad_file, end_
 
 use crate::fault_lines::fault_lines;
 use crate::printed_name::push_name;
-use crate::printing::USAGE;
 use crate::status::{FileSide, Status, Surplus};
+use crate::usage::USAGE;
 use dlp_replies::ErrorCode;
 use pdb_files::BadKind;
 use pdb_values::DbName;
@@ -23,7 +23,11 @@ pub(crate) fn refusal_line(alloc: Global, refusal: &Status) -> Result<String, Al
     match refusal {
         Status::Done => String::from_str(alloc, "ended\n"),
         Status::Usage => String::from_str(alloc, USAGE),
-        Status::BadWord { kind, word } => fault_lines(alloc, *kind, word.as_str()),
+        Status::BadWord {
+            command,
+            kind,
+            word,
+        } => fault_lines(alloc, *command, *kind, word.as_str()),
         Status::BadScript(line) => number_line(alloc, "bad script line ", u64::from(*line)),
         Status::TooLong => String::from_str(alloc, "source too long\n"),
         Status::BadFile {

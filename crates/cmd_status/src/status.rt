@@ -9,7 +9,7 @@ use dlp_replies::ErrorCode;
 use handheld_store::OpenFault;
 use pdb_files::BadKind;
 use pdb_values::DbName;
-use run_words::{ExportForm, FaultKind};
+use run_words::{CommandWord, ExportForm, FaultKind};
 use std::alloc::AllocError;
 use trace_check::Rule;
 use trace_text::End;
@@ -36,8 +36,9 @@ pub enum Status {
     Done,
     /// The words ask for nothing that this program does.
     Usage,
-    /// The same, and this word is at fault: what is wrong with it, and the word.
+    /// The same, and this word is at fault: the command, where one is named, what is wrong with the word, and the word.
     BadWord {
+        command: Option<CommandWord>,
         kind: FaultKind,
         word: String,
     },

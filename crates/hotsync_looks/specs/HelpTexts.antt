@@ -6,6 +6,7 @@ use Rattle.run_words.specs.declared.topic.CommandWord.TheVariants.{Run, Check, S
 use Rattle.run_words.specs.declared.topic.Topic.{Topic}
 use Rattle.run_words.specs.declared.topic.Topic.TheVariants.{Program, Version, Of}
 use Rattle.cmd_status.specs.Lines.{line_feed}
+use Rattle.cmd_status.specs.Usages.{synopsis}
 use Rattle.hotsync_looks.specs.declared.help_text.OptionLine.{OptionLine}
 use Rattle.hotsync_looks.specs.declared.help_text.OptionLine.TheVariants.{Date, DateNow, Script, Trace, Input, Output, Port, Slow, Actions, ActionsBoth, Only, User, AddUser, DryRun, AsText, AsCards, AsTable, AsCalendar, WithoutPrivate, KeepBroken, Records, Like}
 
@@ -14,30 +15,6 @@ abbrev pub commands : List CommandWord
 commands =
     Run ∷ Check ∷ Show ∷ Export ∷ Import ∷ Verify ∷ Picture ∷ Packet
     ∷ Install ∷ Backup ∷ Restore ∷ Device ∷ Categories ∷ Sync ∷ Make ∷ []
-
--- how a command is called
-abbrev pub synopsis : CommandWord → List ℕ
-synopsis Run =
-    codes "hotsync run HANDHELD DESKTOP --date=D [--script=F] [--trace=F] [--only=L] [--slow] "
-    ++ codes "[--actions=L] [--user=NAME] [--add-user] [--dry-run]"
-synopsis Check = codes "hotsync check FILE"
-synopsis Show = codes "hotsync show FILE [--records]"
-synopsis Export =
-    codes "hotsync export FILE --as=FORM [--date=D] [--without-private] [--keep-broken]"
-synopsis Import = codes "hotsync import FILE --as=txt [--like=FILE]"
-synopsis Verify = codes "hotsync verify FILE"
-synopsis Picture = codes "hotsync picture FILE"
-synopsis Packet = codes "hotsync packet HEX"
-synopsis Install = codes "hotsync install HANDHELD FILE [--trace=F]"
-synopsis Backup = codes "hotsync backup HANDHELD FOLDER [--script=F] [--trace=F]"
-synopsis Restore = codes "hotsync restore HANDHELD FOLDER [--script=F] [--trace=F]"
-synopsis Device =
-    codes "hotsync device HANDHELD {--in=F --out=F | --port=PORT [--trace=F]}"
-synopsis Categories = codes "hotsync categories HANDHELD DESKTOP [--script=F] [--trace=F]"
-synopsis Sync =
-    codes "hotsync sync PORT DESKTOP --date=D [--only=L] [--trace=F] [--slow] [--actions=L] "
-    ++ codes "[--user=NAME] [--add-user]"
-synopsis Make = codes "hotsync make SEED N"
 
 -- the options of a command
 abbrev pub options : CommandWord → List OptionLine

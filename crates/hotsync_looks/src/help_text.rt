@@ -3,6 +3,7 @@ ghost use Rattle.std.specs.Prelude.{◌≡◌, IfOk, string_bytes};
 ghost use Rattle.std.specs.List.{flat_map};
 ghost use Rattle.hotsync_looks.specs.HelpTexts as spec;
 
+use cmd_status::synopsis;
 use run_words::{CommandWord, Topic};
 use std::alloc::{AllocError, Global};
 
@@ -75,37 +76,6 @@ pub enum OptionLine {
     Records,
     /// `--like=FILE`.
     Like,
-}
-
-// How a command is called.
-fn synopsis(command: CommandWord) -> &'static str
-    ensures { result.now ≡ spec.synopsis command }
-{
-    match command {
-        CommandWord::Run => {
-            "hotsync run HANDHELD DESKTOP --date=D [--script=F] [--trace=F] [--only=L] [--slow] [--actions=L] [--user=NAME] [--add-user] [--dry-run]"
-        }
-        CommandWord::Check => "hotsync check FILE",
-        CommandWord::Show => "hotsync show FILE [--records]",
-        CommandWord::Export => {
-            "hotsync export FILE --as=FORM [--date=D] [--without-private] [--keep-broken]"
-        }
-        CommandWord::Import => "hotsync import FILE --as=txt [--like=FILE]",
-        CommandWord::Verify => "hotsync verify FILE",
-        CommandWord::Picture => "hotsync picture FILE",
-        CommandWord::Packet => "hotsync packet HEX",
-        CommandWord::Install => "hotsync install HANDHELD FILE [--trace=F]",
-        CommandWord::Backup => "hotsync backup HANDHELD FOLDER [--script=F] [--trace=F]",
-        CommandWord::Restore => "hotsync restore HANDHELD FOLDER [--script=F] [--trace=F]",
-        CommandWord::Device => {
-            "hotsync device HANDHELD {--in=F --out=F | --port=PORT [--trace=F]}"
-        }
-        CommandWord::Categories => "hotsync categories HANDHELD DESKTOP [--script=F] [--trace=F]",
-        CommandWord::Sync => {
-            "hotsync sync PORT DESKTOP --date=D [--only=L] [--trace=F] [--slow] [--actions=L] [--user=NAME] [--add-user]"
-        }
-        CommandWord::Make => "hotsync make SEED N",
-    }
 }
 
 // The options of a command.

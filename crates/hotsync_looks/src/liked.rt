@@ -8,6 +8,7 @@ ghost use Rattle.hotsync_looks.specs.Likings as likings;
 ghost use Rattle.hotsync_looks.specs.Likings.{IsLikedFile, IsLikedIn, IsLiking, IsLikingCall, RefusesLiking, SaysUnlike};
 ghost use Rattle.hotsync_looks.specs.Misuses.{TellsFault};
 ghost use Rattle.run_words.specs.Faults.{fault_of as fault_of_words};
+ghost use Rattle.run_words.specs.Helps.{command_named as named_by_first};
 ghost use Rattle.run_words.specs.Likes.{liking_of};
 ghost use Rattle.run_words.specs.Views.{like_view};
 
@@ -20,7 +21,7 @@ use hs_folders::{Sink, Source};
 use pdb_files::{read_database, write_database};
 use pdb_values::{Database, DbName};
 use run_clap::{WordsFault, read_liking};
-use run_words::{LikeWords, fault_of};
+use run_words::{LikeWords, command_named, fault_of};
 use std::alloc::Global;
 
 /// Reads a text and another file, as the words ask for, and prints the file of the database that the memos of the text make, in
@@ -45,11 +46,12 @@ pub fn import_like<S: Source, L: Source, O: Sink, E: Sink>(
     ensures untouched { liking_of (map string_bytes words.now) ≡ None
         → (source.new ≡ source.old) × (like.new ≡ like.old) }
     ensures fault { liking_of (map string_bytes words.now) ≡ None
-        → TellsFault (fault_of_words None (map string_bytes words.now)) result }
+        → TellsFault (named_by_first (map string_bytes words.now))
+            (fault_of_words None (map string_bytes words.now)) result }
 {
     match read_liking(alloc, words) {
         Ok(words) => import_file(alloc, words, source, like, out, err),
-        Err(WordsFault::Usage) => print_misuse(alloc, fault_of(None, words), err),
+        Err(WordsFault::Usage) => print_misuse(alloc, command_named(words), fault_of(None, words), err),
         Err(WordsFault::NoMemory) => print_refusal(alloc, Status::NoMemory, err),
     }
 }

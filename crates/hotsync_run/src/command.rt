@@ -40,7 +40,8 @@ pub fn hotsync<H: Folder, D: Folder, S: Source, T: Sink, O: Sink, E: Sink>(
 
     // Where the words ask for nothing, the status names the word at fault.
     ensures fault { task_in now words.now ≡ None
-        → TellsFault (fault_in now words.now) result.status }
+        → TellsFault (named_by_first (map string_bytes words.now)) (fault_in now words.now)
+            result.status }
 
     // Such words of a command that prints its result leave standard output alone.
     ensures misuse { task_in now words.now ≡ None
@@ -121,7 +122,8 @@ fn refuse_words<O: Sink, E: Sink>(
     err: &mut E,
 ) -> Status
     ensures status { IsMisuse result ⊎ (result ≡ Status.NoMemory) }
-    ensures fault { TellsFault (fault_in now words.now) result }
+    ensures fault { TellsFault (named_by_first (map string_bytes words.now))
+        (fault_in now words.now) result }
     ensures printed { IsRefused (sink_told O.Sink out.old) (sink_told O.Sink out.new)
         (sink_told E.Sink err.old) (sink_told E.Sink err.new) result }
     ensures apart { calls.gives_result (named_by_first (map string_bytes words.now)) ≡ true
@@ -129,11 +131,11 @@ fn refuse_words<O: Sink, E: Sink>(
     ensures alone { calls.gives_result (named_by_first (map string_bytes words.now)) ≡ false
         → err.new ≡ err.old }
 {
-    let fault = fault_of(now, words);
-    if gives_result(command_named(words)) {
-        print_misuse(alloc, fault, err)
+    let (command, fault) = (command_named(words), fault_of(now, words));
+    if gives_result(command) {
+        print_misuse(alloc, command, fault, err)
     } else {
-        print_misuse(alloc, fault, out)
+        print_misuse(alloc, command, fault, out)
     }
 }
 

@@ -10,6 +10,7 @@ ghost use Rattle.port_run.specs.Syncs.{HasSynced, IsSyncCall, TracesTalk, synced
 ghost use Rattle.port_run.specs.Told.{OfSync, OfSyncCall};
 ghost use Rattle.run_words.specs.Cables.{only_of, sync_of};
 ghost use Rattle.run_words.specs.Faults.{fault_of as fault_in_words};
+ghost use Rattle.run_words.specs.Helps.{command_named as named_by_first};
 ghost use Rattle.run_words.specs.Views.{cable_view};
 
 use crate::opening::open_port;
@@ -23,7 +24,7 @@ use hotsync_looks::print_misuse;
 use hs_folders::{Folder, Sink};
 use port_line::Port;
 use run_clap::{WordsFault, read_sync};
-use run_words::{CableWords, fault_of};
+use run_words::{CableWords, command_named, fault_of};
 use session_parts::DbReport;
 use std::alloc::Global;
 
@@ -53,12 +54,13 @@ pub fn sync<P: Port, D: Folder, T: Sink, O: Sink>(
 
     // Where the words ask for nothing, the status names the word at fault.
     ensures fault { sync_of now (map string_bytes words.now) ≡ None
-        → TellsFault (fault_in_words now (map string_bytes words.now)) result.status }
+        → TellsFault (named_by_first (map string_bytes words.now))
+            (fault_in_words now (map string_bytes words.now)) result.status }
 {
     let cable = match read_sync(alloc, now, words) {
         Ok(cable) => cable,
         Err(WordsFault::Usage) => {
-            let status = print_misuse(alloc, fault_of(now, words), out);
+            let status = print_misuse(alloc, command_named(words), fault_of(now, words), out);
             return Synced::not_started(alloc, status, port, desk);
         }
         Err(WordsFault::NoMemory) => {
