@@ -16,6 +16,24 @@ commands =
     Run ∷ Check ∷ Show ∷ Export ∷ Import ∷ Verify ∷ Picture ∷ Packet
     ∷ Install ∷ Backup ∷ Restore ∷ Device ∷ Categories ∷ Sync ∷ Make ∷ []
 
+-- what it does, in a sentence
+abbrev pub summary : CommandWord → List ℕ
+summary Run = codes "brings a handheld's folder and a desktop's together"
+summary Check = codes "says whether the file of a database is whole"
+summary Show = codes "says what a database holds"
+summary Export = codes "prints what the records of a database say"
+summary Import = codes "makes a database of a text of memos"
+summary Verify = codes "says whether a trace keeps each rule of the line"
+summary Picture = codes "makes a page of a trace, for a browser"
+summary Packet = codes "shows the packets in hexadecimal bytes"
+summary Install = codes "puts one file onto a handheld"
+summary Backup = codes "copies each database of a handheld into a folder"
+summary Restore = codes "puts the databases of a folder onto a handheld"
+summary Device = codes "is the handheld's end, over captured bytes or at a port"
+summary Categories = codes "brings the categories of both sides together"
+summary Sync = codes "synchronises the handheld at a port"
+summary Make = codes "synchronises two folders that it makes in memory"
+
 -- the options of a command
 abbrev pub options : CommandWord → List OptionLine
 options Run =
@@ -70,9 +88,9 @@ option_words Like = codes "--like=FILE        the categories of the database in 
 abbrev pub indented : List ℕ → List ℕ
 indented line = codes "  " ++ line ++ line_feed
 
--- the line of a command, where help tells all of them
-abbrev pub command_line : CommandWord → List ℕ
-command_line command = indented (synopsis command)
+-- the lines of a command, where help tells all of them
+unfoldable pub command_lines : CommandWord → List ℕ
+command_lines command = indented (synopsis command) ++ (codes "    " ++ indented (summary command))
 
 -- the line of an option
 abbrev pub option_line : OptionLine → List ℕ
@@ -81,13 +99,14 @@ option_line option = indented (option_words option)
 -- how the program is called
 unfoldable pub program_help : List ℕ
 program_help =
-    codes "usage:\n" ++ flat_map command_line commands
+    codes "usage:\n" ++ flat_map command_lines commands
     ++ codes "  hotsync help [COMMAND]\n" ++ codes "  hotsync --version\n"
 
--- how a command is called, and its options
+-- how a command is called, what it does, and its options
 unfoldable pub command_help : CommandWord → List ℕ
 command_help command =
-    codes "usage: " ++ synopsis command ++ line_feed ++ flat_map option_line (options command)
+    codes "usage: " ++ synopsis command ++ line_feed ++ (summary command ++ line_feed)
+    ++ flat_map option_line (options command)
 
 -- the text of a topic
 abbrev pub help_text : Topic → List ℕ

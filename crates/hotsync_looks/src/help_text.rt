@@ -78,6 +78,29 @@ pub enum OptionLine {
     Like,
 }
 
+// What a command does, in a sentence.
+fn summary(command: CommandWord) -> &'static str
+    ensures { result.now ≡ spec.summary command }
+{
+    match command {
+        CommandWord::Run => "brings a handheld's folder and a desktop's together",
+        CommandWord::Check => "says whether the file of a database is whole",
+        CommandWord::Show => "says what a database holds",
+        CommandWord::Export => "prints what the records of a database say",
+        CommandWord::Import => "makes a database of a text of memos",
+        CommandWord::Verify => "says whether a trace keeps each rule of the line",
+        CommandWord::Picture => "makes a page of a trace, for a browser",
+        CommandWord::Packet => "shows the packets in hexadecimal bytes",
+        CommandWord::Install => "puts one file onto a handheld",
+        CommandWord::Backup => "copies each database of a handheld into a folder",
+        CommandWord::Restore => "puts the databases of a folder onto a handheld",
+        CommandWord::Device => "is the handheld's end, over captured bytes or at a port",
+        CommandWord::Categories => "brings the categories of both sides together",
+        CommandWord::Sync => "synchronises the handheld at a port",
+        CommandWord::Make => "synchronises two folders that it makes in memory",
+    }
+}
+
 // The options of a command.
 fn options(command: CommandWord) -> &'static [OptionLine]
     ensures { result.now ≡ spec.options command }
@@ -184,15 +207,27 @@ fn indented(alloc: Global, line: &str) -> Result<String, AllocError>
     Ok(text)
 }
 
-// A line for each of these commands.
+// The lines of one of all commands: how it is called, and what it does.
+#[tactic(auto, unfolding(crate::specs::HelpTexts::command_lines))]
+fn command_lines(alloc: Global, command: CommandWord) -> Result<String, AllocError>
+    ensures { IfOk result (λ text. string_bytes text ≡ spec.command_lines command) }
+{
+    let mut text = indented(alloc, synopsis(command))?;
+    let does = indented(alloc, summary(command))?;
+    text.push_str("    ")?;
+    text.push_str(does.as_str())?;
+    Ok(text)
+}
+
+// The lines of these commands.
 fn commands_text(alloc: Global, commands: &[CommandWord]) -> Result<String, AllocError>
     ensures { IfOk result (λ text. string_bytes text
-        ≡ flat_map spec.command_line commands.now) }
+        ≡ flat_map spec.command_lines commands.now) }
 {
     let mut text = String::new(alloc);
     for command in commands {
-        let line = indented(alloc, synopsis(*command))?;
-        text.push_str(line.as_str())?;
+        let lines = command_lines(alloc, *command)?;
+        text.push_str(lines.as_str())?;
     }
     Ok(text)
 }
@@ -222,13 +257,15 @@ fn program_text(alloc: Global) -> Result<String, AllocError>
     Ok(text)
 }
 
-// How a command is called.
+// How a command is called, what it does, and its options.
 #[tactic(auto, unfolding(crate::specs::HelpTexts::command_help))]
 fn command_text(alloc: Global, command: CommandWord) -> Result<String, AllocError>
     ensures { IfOk result (λ text. string_bytes text ≡ spec.command_help command) }
 {
     let mut text = String::from_str(alloc, "usage: ")?;
     text.push_str(synopsis(command))?;
+    text.push_str("\n")?;
+    text.push_str(summary(command))?;
     text.push_str("\n")?;
     let options = options_text(alloc, options(command))?;
     text.push_str(options.as_str())?;

@@ -161,15 +161,17 @@ unknown_word word =
 abbrev pub help_fault : List (List ℕ) → Option Fault
 help_fault [] = None
 help_fault (word ∷ words) =
-    if is_some (command_word word) || bytes_eq word (codes "--help") then word_too_many words
+    if is_some (command_word word) || bytes_eq word (codes "--help") || bytes_eq word (codes "help")
+    then word_too_many words
     else unknown_word word
 
 -- the word at fault behind a first word that names no command
 abbrev pub first_fault : List ℕ → List (List ℕ) → Option Fault
 first_fault word words =
     if bytes_eq word (codes "help") then help_fault words
-    else (if bytes_eq word (codes "--help") then word_too_many words
-    else (if bytes_eq word (codes "--version") then word_too_many words else unknown_word word))
+    else (if bytes_eq word (codes "--help") || bytes_eq word (codes "-h") then word_too_many words
+    else (if bytes_eq word (codes "--version") || bytes_eq word (codes "-V") then word_too_many words
+    else unknown_word word))
 
 -- the word at fault where its command is known or not
 abbrev pub fault_behind : Option ℕ → Option CommandWord → List ℕ → List (List ℕ) → Option Fault

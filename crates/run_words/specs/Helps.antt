@@ -1,5 +1,5 @@
 -- Which command a first word names, and which words ask for help, and of what.
-use Rattle.std.specs.Prelude.{ℕ, Bool, false, List, [], ◌∷◌, Option, Some, None, codes, bytes_eq, slice_get, option_map, option_and_then, if◌then◌else◌}
+use Rattle.std.specs.Prelude.{ℕ, Bool, false, ◌||◌, List, [], ◌∷◌, Option, Some, None, codes, bytes_eq, slice_get, option_map, option_and_then, if◌then◌else◌}
 use Rattle.std.specs.Option.{option_map_or}
 use Rattle.run_words.specs.Forms.{has_flag}
 use Rattle.run_words.specs.declared.topic.CommandWord.{CommandWord}
@@ -48,7 +48,8 @@ alone topic (word ∷ words) = None
 abbrev pub help_behind : List (List ℕ) → Option Topic
 help_behind [] = Some Program
 help_behind (word ∷ []) =
-    if bytes_eq word (codes "--help") then Some Program else help_with word
+    if bytes_eq word (codes "--help") || bytes_eq word (codes "help") then Some Program
+    else help_with word
 help_behind (word ∷ other ∷ words) = None
 
 -- the help of the command that a word names, where `--help` stands among the words behind it
@@ -58,8 +59,8 @@ flagged_help command words = if has_flag (codes "help") words then help_with com
 -- the help that a first word and those behind it ask for
 abbrev pub help_by : List ℕ → List (List ℕ) → Option Topic
 help_by first words =
-    if bytes_eq first (codes "--version") then alone Version words
-    else (if bytes_eq first (codes "--help") then alone Program words
+    if bytes_eq first (codes "--version") || bytes_eq first (codes "-V") then alone Version words
+    else (if bytes_eq first (codes "--help") || bytes_eq first (codes "-h") then alone Program words
     else (if bytes_eq first (codes "help") then help_behind words
     else flagged_help first words))
 

@@ -325,10 +325,11 @@ fn help_fault<'a>(words: &'a [String]) -> Option<WordFault<'a>>
     let [word, words @ ..] = words else {
         return None;
     };
-    if command_word(word.as_str()).is_some() || word.as_str() == "--help" {
+    let asked = word.as_str();
+    if command_word(asked).is_some() || asked == "--help" || asked == "help" {
         word_too_many(words)
     } else {
-        unknown_word(word.as_str())
+        unknown_word(asked)
     }
 }
 
@@ -339,8 +340,8 @@ fn first_fault<'a>(word: &'a str, words: &'a [String]) -> Option<WordFault<'a>>
 {
     match word {
         "help" => help_fault(words),
-        "--help" => word_too_many(words),
-        "--version" => word_too_many(words),
+        "--help" | "-h" => word_too_many(words),
+        "--version" | "-V" => word_too_many(words),
         _ => unknown_word(word),
     }
 }

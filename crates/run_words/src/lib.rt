@@ -7,7 +7,7 @@
 //! `install HANDHELD FILE [--trace=F]`, `backup` or `restore HANDHELD FOLDER [--script=F] [--trace=F]`,
 //! `device HANDHELD --in=F --out=F` or `categories HANDHELD DESKTOP [--script=F] [--trace=F]`; and `sync PORT DESKTOP
 //! --date=D [--only=L] [--trace=F] [--slow] [--actions=L] [--user=NAME] [--add-user]`, `device HANDHELD --port=PORT [--trace=F]`
-//! and `import FILE --as=txt --like=FILE`, which have calls of their own. `help [COMMAND]`, `--help`, `COMMAND .. --help` and `--version` ask for help. The form of the words behind a command is a table, and they
+//! and `import FILE --as=txt --like=FILE`, which have calls of their own. `help [COMMAND]`, `--help`, `-h`, `COMMAND .. --help`, `--version` and `-V` ask for help. The form of the words behind a command is a table, and they
 //! stand in any order. A plain word is not empty and does not begin with `-`. A date is written, or it is `now`, the date
 //! that the caller hands over. No call takes memory but for the list of actions.
 #![tactic(auto)]

@@ -43,9 +43,9 @@ pub enum CommandWord {
 /// What help is asked for.
 #[derive(Clone, Copy, PartialEq, Eq)]
 pub enum Topic {
-    /// The program: `--help` or `help`.
+    /// The program: `--help`, `-h` or `help`.
     Program,
-    /// Its version: `--version`.
+    /// Its version: `--version` or `-V`.
     Version,
     /// One command: `help COMMAND`, or `--help` behind it.
     Of(CommandWord),
@@ -108,7 +108,7 @@ fn help_behind(words: &[String]) -> Option<Topic>
 {
     match words {
         [] => Some(Topic::Program),
-        [word] if word.as_str() == "--help" => Some(Topic::Program),
+        [word] if word.as_str() == "--help" || word.as_str() == "help" => Some(Topic::Program),
         [word] => help_with(word.as_str()),
         [_, _, ..] => None,
     }
@@ -130,8 +130,8 @@ fn help_by(first: &str, words: &[String]) -> Option<Topic>
     ensures { result ≡ help_by_first first.now (map string_bytes words.now) }
 {
     match first {
-        "--version" => alone(Topic::Version, words),
-        "--help" => alone(Topic::Program, words),
+        "--version" | "-V" => alone(Topic::Version, words),
+        "--help" | "-h" => alone(Topic::Program, words),
         "help" => help_behind(words),
         _ => help_flagged(first, words),
     }
