@@ -1,4 +1,5 @@
 // Hints for whoever called, on standard error. Nothing is promised of them: what can't be said is left out.
+use crate::path_hints::hint_paths;
 use call_parts::{Answer, Report};
 use category_tables::read_table;
 use cmd_status::{Status, push_name};
@@ -12,6 +13,8 @@ use run_clap::{Command, RunWords, read_command};
 use run_words::{NamedAction, Target, read_actions, run_actions};
 use session_parts::{Counts, DbReport, Did, Skip};
 use std::alloc::{AllocError, Global};
+use std::fs::File;
+use std::rt::Files;
 
 // The function whose reply tells when the handheld was synchronised last.
 const READ_USER_INFO: u8 = 0x10;
@@ -19,21 +22,22 @@ const READ_USER_INFO: u8 = 0x10;
 // The number of the request for the handheld's databases.
 const READ_DB_LIST: u8 = 0x16;
 
-/// Says what may help with the words of a run that was done.
-pub fn hint_words<R: Eprint + AllocGlobal>(
+/// Says what may help with the words of a run that was done, and why what the words name could not be opened.
+pub fn hint_words<R: Files<File = File> + Eprint + AllocGlobal>(
     rt: &R,
     now: Option<u32>,
     words: &[String],
     status: &Status,
     report: &Report,
 ) {
-    let Status::Done = status else {
+    let Ok(command) = read_command(rt.alloc(), now, words) else {
         return;
     };
-    if let Ok(Command::Run(run) | Command::DryRun(run)) = read_command(rt.alloc(), now, words) {
-        hint_date(rt, &run, report);
-        hint_actions(rt, &run, report);
-        hint_only(rt, &run, report);
+    hint_paths(rt, &command, status);
+    if let (Status::Done, Command::Run(run) | Command::DryRun(run)) = (status, &command) {
+        hint_date(rt, run, report);
+        hint_actions(rt, run, report);
+        hint_only(rt, run, report);
     }
 }
 

@@ -10,6 +10,7 @@
 mod command;
 mod counted_folder;
 mod hints;
+mod path_hints;
 mod program;
 pub mod promises;
 

@@ -204,3 +204,19 @@ def a_result_holds_no_refusal():
     for words in (("run", "h"), ("install",), ("nothing",), ()):
         status, lines, _ = call(*words)
         want((status, lines[0][:6]), (2, "usage:"), "words at fault of a session, or of no command")
+
+
+@situation
+def what_could_not_be_opened_is_named():
+    """Behind a failure a hint names the path and the system's reason."""
+    two_sides()
+    hinted = lambda *words: call(*words)[2][-1:]
+    want(hinted("check", "nothing.pdb"), ["hint: nothing.pdb: nothing is there"], "a file that is missing")
+    want(hinted("import", "h", "--as=txt"), ["hint: h: it is a folder"], "a folder in a file's place")
+    want(hinted("run", "h/MemoDB.pdb", "d", LATER), ["hint: h/MemoDB.pdb: it is no folder"], "a file in a folder's place")
+    want(hinted("run", "h", "e", LATER), ["hint: e: nothing is there"], "a desktop that is missing")
+    want(hinted("run", "h", "d", LATER, "--script=s"), ["hint: s: nothing is there"], "a script that is missing")
+    want(hinted("check", "h/MemoDB.pdb/x"), ["hint: h/MemoDB.pdb/x: a folder of its path is none"], "a file in a file")
+    if os.geteuid():
+        os.chmod("h/MemoDB.pdb", 0)
+        want(hinted("check", "h/MemoDB.pdb"), ["hint: h/MemoDB.pdb: permission denied"], "a file that may not be read")
