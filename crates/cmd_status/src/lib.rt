@@ -11,10 +11,12 @@ mod printing;
 mod refusal_line;
 mod source;
 mod status;
+mod stderr_sink;
 mod usage;
 
 pub use printed_name::push_name;
 pub use printing::{print_no_memory, print_refusal, print_text};
 pub use source::read_source;
 pub use status::{FileSide, Status, Surplus};
+pub use stderr_sink::StderrSink;
 pub use usage::synopsis;

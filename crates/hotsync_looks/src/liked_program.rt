@@ -6,7 +6,8 @@ ghost use Rattle.hotsync_looks.specs.LikingSystems.{AreFilesUntold, IsSystemLiki
 ghost use Rattle.run_words.specs.Likes.{begins_like, liking_of};
 
 use crate::liked::import_like;
-use hs_folders::{FileSource, Sink, Source, StderrSink, StdoutSink};
+use cmd_status::StderrSink;
+use hs_folders::{FileSource, Sink, Source, StdoutSink};
 use run_words::is_liking;
 use std::alloc::Global;
 use std::fs::File;

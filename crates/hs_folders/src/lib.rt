@@ -7,9 +7,8 @@
 //! right bytes there, and one of the system tells nothing. Every refusal but want of memory is
 //! counted, so that a caller that reports a failure can be proved to have met one.
 //!
-//! `MemFolder`, `MemSource` and `MemSink` stand in memory. `DirFolder`, `FileSource`, `FileSink`,
-//! `StdoutSink` and `StderrSink` are the system's own, and what the system does with their bytes is
-//! trusted.
+//! `MemFolder`, `MemSource` and `MemSink` stand in memory. `DirFolder`, `FileSource`, `FileSink`
+//! and `StdoutSink` are the system's own, and what the system does with their bytes is trusted.
 #![tactic(auto)]
 
 mod calls;
@@ -28,7 +27,6 @@ mod mem_source;
 mod replacement;
 mod sink;
 mod source;
-mod stderr_sink;
 mod stdout_sink;
 mod system_files;
 
@@ -42,5 +40,4 @@ pub use mem_sink::MemSink;
 pub use mem_source::MemSource;
 pub use sink::Sink;
 pub use source::Source;
-pub use stderr_sink::StderrSink;
 pub use stdout_sink::StdoutSink;

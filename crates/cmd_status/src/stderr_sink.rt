@@ -1,8 +1,7 @@
 // Standard error. It tells nothing.
 ghost use Rattle.std.specs.Prelude.{◌≡◌, None};
 
-use crate::faults::SinkFault;
-use crate::sink::Sink;
+use hs_folders::{Sink, SinkFault};
 use std::io::ErrorKind;
 use std::{io, str};
 
@@ -32,7 +31,7 @@ fn print_bytes<R: Eprint>(rt: &R, bytes: &[u8]) -> io::Result<()> {
     }
 }
 
-#[tactic(auto, using(crate::proofs::Prefixes::none_taken))]
+#[tactic(auto, using(hs_folders::proofs::Prefixes::none_taken))]
 impl<'r, R: Eprint> Sink for StderrSink<'r, R> {
     ghost taken = { λ _. None };
 
