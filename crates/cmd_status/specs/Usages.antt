@@ -60,6 +60,9 @@ usage_of (Some Run) = usage_line
 usage_of (Some command) = own_usage command
 
 -- the line that says where more is said of it
+abbrev pub more_of : CommandWord → List ℕ
+more_of command = codes "more: hotsync help " ++ (word_of command ++ (10 ∷ []))
+
 unfoldable pub way_on : Option CommandWord → List ℕ
-way_on None = codes "more: hotsync help" ++ (10 ∷ [])
-way_on (Some command) = codes "more: hotsync help" ++ (codes " " ++ (word_of command ++ (10 ∷ [])))
+way_on None = codes "more: hotsync help\n"
+way_on (Some command) = more_of command

@@ -88,11 +88,17 @@ fn push_own(lines: &mut String, command: CommandWord) -> Result<(), AllocError>
 pub(crate) fn push_way_on(lines: &mut String, command: Option<CommandWord>) -> Result<(), AllocError>
     ensures { OnOk result (string_bytes lines.new ≡ string_bytes lines.old ++ usages.way_on command) }
 {
-    lines.push_str("more: hotsync help")?;
-    if let Some(command) = command {
-        lines.push_str(" ")?;
-        lines.push_str(word_of(command))?;
+    match command {
+        None => lines.push_str("more: hotsync help\n"),
+        Some(command) => push_more(lines, command),
     }
+}
+
+fn push_more(lines: &mut String, command: CommandWord) -> Result<(), AllocError>
+    ensures { OnOk result (string_bytes lines.new ≡ string_bytes lines.old ++ usages.more_of command) }
+{
+    lines.push_str("more: hotsync help ")?;
+    lines.push_str(word_of(command))?;
     lines.push_str("\n")?;
     Ok(())
 }
