@@ -32,23 +32,23 @@ synopsis Sync =
     ++ codes "[--user=NAME] [--add-user]"
 synopsis Make = codes "hotsync make SEED N"
 
--- its word
-abbrev pub word_of : CommandWord → List ℕ
-word_of Run = codes "run"
-word_of Check = codes "check"
-word_of Show = codes "show"
-word_of Export = codes "export"
-word_of Import = codes "import"
-word_of Verify = codes "verify"
-word_of Picture = codes "picture"
-word_of Packet = codes "packet"
-word_of Install = codes "install"
-word_of Backup = codes "backup"
-word_of Restore = codes "restore"
-word_of Device = codes "device"
-word_of Categories = codes "categories"
-word_of Sync = codes "sync"
-word_of Make = codes "make"
+-- how its help is called
+abbrev pub help_call : CommandWord → List ℕ
+help_call Run = codes "hotsync help run"
+help_call Check = codes "hotsync help check"
+help_call Show = codes "hotsync help show"
+help_call Export = codes "hotsync help export"
+help_call Import = codes "hotsync help import"
+help_call Verify = codes "hotsync help verify"
+help_call Picture = codes "hotsync help picture"
+help_call Packet = codes "hotsync help packet"
+help_call Install = codes "hotsync help install"
+help_call Backup = codes "hotsync help backup"
+help_call Restore = codes "hotsync help restore"
+help_call Device = codes "hotsync help device"
+help_call Categories = codes "hotsync help categories"
+help_call Sync = codes "hotsync help sync"
+help_call Make = codes "hotsync help make"
 
 abbrev pub own_usage : CommandWord → List ℕ
 own_usage command = codes "usage: " ++ (synopsis command ++ (10 ∷ []))
@@ -61,7 +61,7 @@ usage_of (Some command) = own_usage command
 
 -- the line that says where more is said of it
 abbrev pub more_of : CommandWord → List ℕ
-more_of command = codes "more: hotsync help " ++ (word_of command ++ (10 ∷ []))
+more_of command = codes "more: " ++ (help_call command ++ (10 ∷ []))
 
 unfoldable pub way_on : Option CommandWord → List ℕ
 way_on None = codes "more: hotsync help\n"

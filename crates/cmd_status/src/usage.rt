@@ -40,26 +40,26 @@ pub fn synopsis(command: CommandWord) -> &'static str
     }
 }
 
-// The word of a command.
-fn word_of(command: CommandWord) -> &'static str
-    ensures { result.now ≡ usages.word_of command }
+// How its help is called.
+fn help_call(command: CommandWord) -> &'static str
+    ensures { result.now ≡ usages.help_call command }
 {
     match command {
-        CommandWord::Run => "run",
-        CommandWord::Check => "check",
-        CommandWord::Show => "show",
-        CommandWord::Export => "export",
-        CommandWord::Import => "import",
-        CommandWord::Verify => "verify",
-        CommandWord::Picture => "picture",
-        CommandWord::Packet => "packet",
-        CommandWord::Install => "install",
-        CommandWord::Backup => "backup",
-        CommandWord::Restore => "restore",
-        CommandWord::Device => "device",
-        CommandWord::Categories => "categories",
-        CommandWord::Sync => "sync",
-        CommandWord::Make => "make",
+        CommandWord::Run => "hotsync help run",
+        CommandWord::Check => "hotsync help check",
+        CommandWord::Show => "hotsync help show",
+        CommandWord::Export => "hotsync help export",
+        CommandWord::Import => "hotsync help import",
+        CommandWord::Verify => "hotsync help verify",
+        CommandWord::Picture => "hotsync help picture",
+        CommandWord::Packet => "hotsync help packet",
+        CommandWord::Install => "hotsync help install",
+        CommandWord::Backup => "hotsync help backup",
+        CommandWord::Restore => "hotsync help restore",
+        CommandWord::Device => "hotsync help device",
+        CommandWord::Categories => "hotsync help categories",
+        CommandWord::Sync => "hotsync help sync",
+        CommandWord::Make => "hotsync help make",
     }
 }
 
@@ -97,8 +97,8 @@ pub(crate) fn push_way_on(lines: &mut String, command: Option<CommandWord>) -> R
 fn push_more(lines: &mut String, command: CommandWord) -> Result<(), AllocError>
     ensures { OnOk result (string_bytes lines.new ≡ string_bytes lines.old ++ usages.more_of command) }
 {
-    lines.push_str("more: hotsync help ")?;
-    lines.push_str(word_of(command))?;
+    lines.push_str("more: ")?;
+    lines.push_str(help_call(command))?;
     lines.push_str("\n")?;
     Ok(())
 }
