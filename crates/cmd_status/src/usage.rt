@@ -85,7 +85,10 @@ fn push_own(lines: &mut String, command: CommandWord) -> Result<(), AllocError>
 
 // Appends the line that says where more is said of a command, or of all.
 #[tactic(auto, unfolding(crate::specs::Usages::way_on))]
-pub(crate) fn push_way_on(lines: &mut String, command: Option<CommandWord>) -> Result<(), AllocError>
+pub(crate) fn push_way_on(
+    lines: &mut String,
+    command: Option<CommandWord>,
+) -> Result<(), AllocError>
     ensures { OnOk result (string_bytes lines.new ≡ string_bytes lines.old ++ usages.way_on command) }
 {
     match command {

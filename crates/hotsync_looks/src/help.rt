@@ -9,12 +9,7 @@ use run_words::Topic;
 use std::alloc::{AllocError, Global};
 
 /// Prints the text of a topic on `out`, or on `err` that memory ran out.
-pub fn print_help<O: Sink, E: Sink>(
-    alloc: Global,
-    topic: Topic,
-    out: &mut O,
-    err: &mut E,
-) -> Status
+pub fn print_help<O: Sink, E: Sink>(alloc: Global, topic: Topic, out: &mut O, err: &mut E) -> Status
     ensures { IsHelped topic (sink_told O.Sink out.old) (sink_told O.Sink out.new)
         (sink_told E.Sink err.old) (sink_told E.Sink err.new) result }
 {

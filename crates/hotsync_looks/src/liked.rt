@@ -47,11 +47,16 @@ pub fn import_like<S: Source, L: Source, O: Sink, E: Sink>(
         → (source.new ≡ source.old) × (like.new ≡ like.old) }
     ensures fault { liking_of (map string_bytes words.now) ≡ None
         → TellsFault (named_by_first (map string_bytes words.now))
-            (fault_of_words None (map string_bytes words.now)) result }
+        (fault_of_words None (map string_bytes words.now)) result }
 {
     match read_liking(alloc, words) {
         Ok(words) => import_file(alloc, words, source, like, out, err),
-        Err(WordsFault::Usage) => print_misuse(alloc, command_named(words), fault_of(None, words), err),
+        Err(WordsFault::Usage) => print_misuse(
+            alloc,
+            command_named(words),
+            fault_of(None, words),
+            err,
+        ),
         Err(WordsFault::NoMemory) => print_refusal(alloc, Status::NoMemory, err),
     }
 }

@@ -28,11 +28,7 @@ pub fn print_misuse<O: Sink>(
 }
 
 // The status of words that ask for nothing, with the word at fault where it can be named.
-fn usage_status(
-    alloc: Global,
-    command: Option<CommandWord>,
-    fault: Option<WordFault<'_>>,
-) -> Status
+fn usage_status(alloc: Global, command: Option<CommandWord>, fault: Option<WordFault<'_>>) -> Status
     ensures { TellsFault command (option_map fault_view fault.entry) result }
 {
     let Some(WordFault { kind, word }) = fault else {

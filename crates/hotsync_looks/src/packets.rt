@@ -13,12 +13,7 @@ use trace_text::show_packets;
 
 /// Prints a line for each packet in the bytes of this hexadecimal, and then their number, on `out`, or on `err` that memory
 /// ran out.
-pub fn print_packets<O: Sink, E: Sink>(
-    alloc: Global,
-    hex: &str,
-    out: &mut O,
-    err: &mut E,
-) -> Status
+pub fn print_packets<O: Sink, E: Sink>(alloc: Global, hex: &str, out: &mut O, err: &mut E) -> Status
     ensures scanned { IsScanned (bytes_of hex.now)
         (sink_told O.Sink out.old) (sink_told O.Sink out.new)
         (sink_told E.Sink err.old) (sink_told E.Sink err.new) result }

@@ -41,7 +41,7 @@ pub fn hotsync<H: Folder, D: Folder, S: Source, T: Sink, O: Sink, E: Sink>(
     // Where the words ask for nothing, the status names the word at fault.
     ensures fault { task_in now words.now ≡ None
         → TellsFault (named_by_first (map string_bytes words.now)) (fault_in now words.now)
-            result.status }
+        result.status }
 
     // Such words of a command that prints its result leave standard output alone.
     ensures misuse { task_in now words.now ≡ None

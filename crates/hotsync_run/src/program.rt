@@ -56,7 +56,7 @@ pub fn run_program<H: Folder, D: Folder, S: Source, T: Sink, O: Sink, E: Sink>(
     // Where the words ask for nothing, the status names the word at fault.
     ensures fault { task_in now (drop 1 args.now) ≡ None
         → TellsFault (command_named (map string_bytes (drop 1 args.now)))
-            (fault_in now (drop 1 args.now)) result.answer.status }
+        (fault_in now (drop 1 args.now)) result.answer.status }
 
     // Such words of a command that prints its result leave standard output alone.
     ensures misuse { task_in now (drop 1 args.now) ≡ None

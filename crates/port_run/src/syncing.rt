@@ -55,7 +55,7 @@ pub fn sync<P: Port, D: Folder, T: Sink, O: Sink>(
     // Where the words ask for nothing, the status names the word at fault.
     ensures fault { sync_of now (map string_bytes words.now) ≡ None
         → TellsFault (named_by_first (map string_bytes words.now))
-            (fault_in_words now (map string_bytes words.now)) result.status }
+        (fault_in_words now (map string_bytes words.now)) result.status }
 {
     let cable = match read_sync(alloc, now, words) {
         Ok(cable) => cable,

@@ -145,8 +145,7 @@ impl Bench {
         let mut trace = failing_sink(alloc, &self.failing_trace)?;
         let mut out = failing_sink(alloc, &self.failing_out)?;
         let mut err = failing_sink(alloc, &self.failing_out)?;
-        let (code, report) =
-            self.over_folders(&args, &mut source, &mut trace, &mut out, &mut err);
+        let (code, report) = self.over_folders(&args, &mut source, &mut trace, &mut out, &mut err);
         self.trace = Vec::from_slice(alloc, trace.bytes())?;
         let printed = String::from_utf8_lossy(alloc, out.bytes())?;
         let refused = String::from_utf8_lossy(alloc, err.bytes())?;
