@@ -6,7 +6,7 @@ use Rattle.hotsync_looks.proofs.HelpLaws.{four_parts}
 use Rattle.hotsync_looks.proofs.help_text.program_text.Goals as goal
 
 pub returns : goal.returns
-unfolding program_help
+unfolding program_help command_lines
 returns c =
     four_parts (string_bytes c.in_ok-text.text) (string_bytes c.push_str.new.self) (string_bytes c.push_str-2.new.self) (string_bytes c.push_str-3.new.self)
     (codes "usage:\n") (flat_map command_lines commands) (codes "  hotsync help [COMMAND]\n") (codes "  hotsync --version\n")
