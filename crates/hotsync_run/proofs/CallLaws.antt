@@ -15,8 +15,6 @@ use Rattle.call_parts.specs.Reports.{IsNotStarted}
 use Rattle.cmd_files.specs.Backups.{backup_command}
 use Rattle.hotsync_looks.specs.Looks.{IsTextIn}
 use Rattle.hotsync_looks.specs.Served.{served_lines}
-use Rattle.slp_frames.specs.PacketScan.{scan}
-use Rattle.trace_text.specs.PacketLists.{ShowsPackets}
 use Rattle.cmd_session.specs.Filings.{categories_command}
 use Rattle.cmd_files.specs.Installs.{install_command}
 use Rattle.cmd_files.specs.Restores.{restore_command}
@@ -110,7 +108,7 @@ unread_call (Some (LookAt look file)) before err is printed =
     grind (arith, common_steps, shown)
 unread_call (Some (Scan bytes)) before err is printed = record {
   ended = inr (inr refl);
-  printed = unread_text (ShowsPackets (scan bytes)) err printed;
+  printed = unread_text _ err printed;
   complete = λ calm. inr refl;
 }
 unread_call (Some (Make seed count)) before err is printed = grind (arith, common_steps)
