@@ -193,8 +193,8 @@ def a_result_holds_no_refusal():
     put("bad.pdb", "no database")
     put("bad.txt", "no trace")
     for word in ("check", "show"):
-        want_error(call(word, "bad.pdb"), 3, "bad file source bad.pdb short 0")
-    want_error(call("export", "bad.pdb", "--as=txt"), 3, "bad file source bad.pdb short 0")
+        want_error(call(word, "bad.pdb"), 3, "bad file source bad.pdb short 11")
+    want_error(call("export", "bad.pdb", "--as=txt"), 3, "bad file source bad.pdb short 11")
     want_error(call("import", "bad.txt", "--as=txt"), 3, "bad text line 1")
     for word in ("verify", "picture"):
         want_error(call(word, "bad.txt"), 3, "bad trace line 1")
