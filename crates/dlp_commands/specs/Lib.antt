@@ -12,5 +12,7 @@ pub mod Readings
 pub mod Refusals
 pub mod Talks
 pub mod Targets
+pub mod Tries
+pub mod TryLaws
 pub mod UserFunctions
 pub mod Writings

@@ -1,8 +1,9 @@
 // A link to a device.
-ghost use Rattle.std.specs.Prelude.{◌≡◌, ℕ, Bool, true, false, Option, IfSome, IsErrOf, OnErr, OnOk};
+ghost use Rattle.std.specs.Prelude.{◌≡◌, ◌++◌, ℕ, Bool, true, false, List, [], Option, IfSome, IsErrOf, OnErr, OnOk};
 ghost use Rattle.std.specs.Result.{result_err};
 ghost use Rattle.dlp_commands.specs.Links.{MayExchange, WentDown, first_fault};
 ghost use Rattle.dlp_commands.specs.Talks.{HasAnswer, Talk, LacksAnswer};
+ghost use Rattle.dlp_commands.specs.Tries.{Try, tries_of};
 
 use dlp_args::Message;
 
@@ -37,6 +38,9 @@ pub trait Link {
     /// What holds of it since it was the first of the two. Each link says what.
     ghost since: { Self → Self → Type 0 };
 
+    /// What was asked since it was the first of the two, and what was replied, in order. Each link says what that is of it.
+    ghost heard: { Self → List Try → Self → Type 0 };
+
     /// Waits for the handheld's wake and answers its rate in bits per second.
     fn hello(&mut self) -> Result<u32, LinkFault>
         requires { begun self.old ≡ false }
@@ -50,7 +54,8 @@ pub trait Link {
         ensures again { IfSome (fault self.old) (λ fault. result ≡ Err fault) }
         ensures cause { WentDown (fault self.old) (downs self.old) (downs self.new)
             (IsErrOf result LinkFault.Down) }
-        ensures since { since self.old self.new };
+        ensures since { since self.old self.new }
+        ensures heard { heard self.old [] self.new };
 
     /// Sends a request and takes the reply to it. With Ok the device took exactly one step, else one or none.
     fn exchange(&mut self, request: &Message, reply: &mut Message) -> Result<(), LinkFault>
@@ -67,9 +72,15 @@ pub trait Link {
         ensures fault { fault self.new ≡ first_fault (fault self.old) (result_err result) }
         ensures cause { WentDown (fault self.old) (downs self.old) (downs self.new)
             (IsErrOf result LinkFault.Down) }
-        ensures since { since self.old self.new };
+        ensures since { since self.old self.new }
+        // One request more, with its reply or without.
+        ensures heard { heard self.old (tries_of (fault self.old) request.now reply.new result) self.new };
 
     ghost since_itself: { (link : Self) → since link link };
 
     ghost since_more: { (a b c : Self) → since a b → since b c → since a c };
+
+    ghost heard_none: { (link : Self) → heard link [] link };
+
+    ghost heard_more: { (a b c : Self) (first next : List Try) → heard a first b → heard b next c → heard a (first ++ next) c };
 }

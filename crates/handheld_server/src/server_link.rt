@@ -52,8 +52,11 @@ impl<F: Folder> ServerLink<F> {
     }
 }
 
+#[tactic(auto, using(dlp_commands::specs::TryLaws::goes_answered, dlp_commands::specs::TryLaws::goes_unanswered, dlp_commands::specs::TryLaws::goes_still))]
 impl<F: Folder> Link for ServerLink<F> {
     ghost use Rattle.std.specs.Prelude.{Some};
+    ghost use Rattle.dlp_commands.specs.Tries.{GoesOn};
+    ghost use Rattle.dlp_commands.specs.TryLaws.{goes_more, goes_none};
     ghost use Rattle.handheld_server.specs.SaidThings.{downs_of, talk_of};
 
     ghost downs = { λ link. downs_of link.fault };
@@ -65,6 +68,10 @@ impl<F: Folder> Link for ServerLink<F> {
     ghost talk = { λ link. Some (talk_of link.server.device link.exchanges.items link.left) };
 
     ghost since = { λ first last. Unit {0} };
+
+    ghost heard = { λ first tries last. GoesOn
+        (Some (talk_of first.server.device first.exchanges.items first.left)) tries
+        (Some (talk_of last.server.device last.exchanges.items last.left)) };
 
     fn hello(&mut self) -> Result<u32, LinkFault> {
         if let Some(fault) = self.fault {
@@ -115,4 +122,8 @@ impl<F: Folder> Link for ServerLink<F> {
     ghost since_itself = { λ link. tt };
 
     ghost since_more = { λ a b c first second. tt };
+
+    ghost heard_none = { λ link. goes_none _ };
+
+    ghost heard_more = { λ a b c first next one more. goes_more _ first _ next _ one more };
 }

@@ -1,5 +1,5 @@
 //! The world as a link.
-ghost use Rattle.std.specs.Prelude.{◌≡◌, false, true, Err, IfOk, IfSome, IsErrOf, OnErr, OnOk};
+ghost use Rattle.std.specs.Prelude.{◌≡◌, [], false, true, Err, IfOk, IfSome, IsErrOf, OnErr, OnOk};
 ghost use Rattle.std.specs.Result.{result_err};
 ghost use Rattle.dlp_commands.specs.Links.{WentDown, first_fault};
 ghost use Rattle.line_steps.specs.TalkTelling.{wake};
@@ -13,6 +13,8 @@ use line_steps::greet;
 
 impl<F: Folder> Link for World<F> {
     ghost use Rattle.std.specs.Prelude.{Some};
+    ghost use Rattle.dlp_commands.specs.Tries.{GoesOn};
+    ghost use Rattle.dlp_commands.specs.TryLaws.{goes_more, goes_none};
     ghost use Rattle.handheld_server.specs.SaidThings.{downs_of};
     ghost use Rattle.line_world.specs.Worlds.{world_talk, WorldSince};
     ghost use Rattle.line_world.specs.SinceLaws.{since_itself, since_more};
@@ -26,6 +28,8 @@ impl<F: Folder> Link for World<F> {
     ghost talk = { λ world. Some (world_talk world) };
 
     ghost since = { λ first last. WorldSince F.contents F.moments F.paths F.faults first last };
+
+    ghost heard = { λ first tries last. GoesOn (Some (world_talk first)) tries (Some (world_talk last)) };
 
     /// Its answer is the rate that the handheld woke with.
     fn hello(&mut self) -> Result<u32, LinkFault>
@@ -41,6 +45,7 @@ impl<F: Folder> Link for World<F> {
         ensures cause { WentDown (⟦<Self as Link>⟧.fault self.old) (⟦<Self as Link>⟧.downs self.old)
             (⟦<Self as Link>⟧.downs self.new) (IsErrOf result LinkFault.Down) }
         ensures since { ⟦<Self as Link>⟧.since self.old self.new }
+        ensures heard { ⟦<Self as Link>⟧.heard self.old [] self.new }
     {
         if let Some(fault) = self.fault {
             return Err(fault);
@@ -90,4 +95,8 @@ impl<F: Folder> Link for World<F> {
     ghost since_itself = { since_itself F.contents F.moments F.paths F.faults };
 
     ghost since_more = { since_more F.contents F.moments F.paths F.faults };
+
+    ghost heard_none = { λ link. goes_none _ };
+
+    ghost heard_more = { λ a b c first next one more. goes_more _ first _ next _ one more };
 }

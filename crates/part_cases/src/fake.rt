@@ -58,6 +58,8 @@ impl Link for FakeLink {
 
     ghost since = { λ first last. Unit {0} };
 
+    ghost heard = { λ first tries last. Unit {0} };
+
     fn hello(&mut self) -> Result<u32, LinkFault> {
         if let Some(fault) = self.fault {
             return Err(fault);
@@ -89,6 +91,10 @@ impl Link for FakeLink {
     ghost since_itself = { λ link. tt };
 
     ghost since_more = { λ a b c first second. tt };
+
+    ghost heard_none = { λ link. tt };
+
+    ghost heard_more = { λ a b c first next one more. tt };
 }
 
 /// Says a session over a link that answers these replies, and the functions of the requests that were

@@ -3,6 +3,8 @@ use Rattle.line_world.proofs.Names.{frame_value, IsCauseOf, NamesLast, Served, l
 use Rattle.line_world.proofs.TalkLaws.{talk-answered, talk-broke}
 use Rattle.line_world.proofs.WentLaws.{since-went}
 use Rattle.line_world.proofs.WorldLaws.{begun-of, tells-of, world-answered, world-broke}
+use Rattle.std.proofs.Common.{◌∙◌, ap}
+use Rattle.dlp_commands.specs.TryLaws.{goes_answered, goes_unanswered}
 use Rattle.line_world.proofs.link.WorldLink.exchange.Goals as goal
 
 pub returns-in-Some-clause-since : goal.returns-in-Some-clause-since
@@ -159,3 +161,11 @@ returns-in-Ok-clause-cause g c = record {
   later = subst (λ v. downs_of v.fault ≤ downs_of c.self.inside.fault) c.self.view_is (omega arith);
   rose = λ is. absurd cc;
 }
+
+pub returns-in-Ok-clause-heard : goal.returns-in-Ok-clause-heard
+returns-in-Ok-clause-heard g c =
+    goes_answered c.args.self.now.fault _ _ _ _ (sym (ap (λ v. v.fault) c.self.view_is) ∙ c.in_default.is) (returns-in-Ok-clause-answered g c)
+
+pub returns-in-Err-clause-heard : goal.returns-in-Err-clause-heard
+returns-in-Err-clause-heard g c =
+    goes_unanswered c.args.self.now.fault _ _ _ _ _ (sym (ap (λ v. v.fault) c.self.view_is) ∙ c.in_default.is) (returns-in-Err-clause-unanswered g c)
