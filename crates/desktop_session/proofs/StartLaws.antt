@@ -196,3 +196,6 @@ listed_none none = subst (ListedTo 0) (sym none) Begun
 pub listed_on : {start next : ℕ} {heads more : List DbHead} (read : Result ReplyValue ReplyFault) → ListedTo start heads → next_start start read ≡ Some next
     → more ≡ heads ++ heads_in read → ListedTo next more
 listed_on {next} read before goes is = subst (ListedTo next) (sym is) (GoesOn before read goes)
+
+pub next_above : (read : Result ReplyValue ReplyFault) (start next : ℕ) → next_start start read ≡ Some next → start < next
+next_above read start next goes = grind (arith, nat_tests, common_steps)

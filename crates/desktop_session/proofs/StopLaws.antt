@@ -15,7 +15,7 @@ use Rattle.std.proofs.Common.{rules}
 
 -- ---- the count of downs
 
-fell_then : {a b c : Option LinkFault} {x y z : ℕ} → WentDown a x y (b ≡ Some link.Down) → WentDown b y z (c ≡ Some link.Down)
+pub fell_then : {a b c : Option LinkFault} {x y z : ℕ} → WentDown a x y (b ≡ Some link.Down) → WentDown b y z (c ≡ Some link.Down)
     → WentDown a x z (c ≡ Some link.Down)
 fell_then first second = grind (arith, common_steps, nat_tests)
 

@@ -1,11 +1,16 @@
 pub mod Acts
 pub mod Answers
+pub mod Asking
 pub mod Bases
 pub mod Calls
 pub mod Ends
 pub mod Faults
+pub mod Following
+pub mod Greeted
 pub mod Greetings
+pub mod Inquiries
 pub mod Lasts
+pub mod Lendings
 pub mod Lent
 pub mod Lists
 pub mod Loans

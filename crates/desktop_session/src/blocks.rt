@@ -1,7 +1,10 @@
 // The blocks of an open database.
 ghost use Rattle.std.specs.Prelude.{◌≡◌};
 ghost use Rattle.dlp_replies.specs.ReplyReading.{reply_at};
+ghost use Rattle.std.specs.Option.{option_map};
 ghost use Rattle.desktop_session.specs.Answers.{IsCopy, answer_by, block_of, mapped, or_none, said_in};
+ghost use Rattle.desktop_session.specs.Asking.{copies_app, copies_sort};
+ghost use Rattle.desktop_session.specs.Following.{Follows};
 ghost use Rattle.desktop_session.specs.Requests.{reading_app, reading_sort};
 ghost use Rattle.desktop_session.specs.Stops.{AsksOne};
 
@@ -22,6 +25,8 @@ impl<'s, L: Link> OpenDb<'s, L> {
         ensures answer { IsCopy (λ copy. copy.items) result
             (answer_by (L.fault self.new.linked.now.link)
             (or_none (said_in 0x1B block_of (reply_at 0x1B self.new.linked.now.reply)))) }
+        ensures follows { Follows L.Link (copies_app self.old.handle) self.old.linked.now.link
+            self.new.linked.now.link (mapped (option_map (λ copy. copy.items)) result) }
     {
         let handle = self.handle();
         self.linked.ask(&Request::ReadAppBlock {
@@ -42,6 +47,8 @@ impl<'s, L: Link> OpenDb<'s, L> {
         ensures answer { IsCopy (λ copy. copy.items) result
             (answer_by (L.fault self.new.linked.now.link)
             (or_none (said_in 0x1D block_of (reply_at 0x1D self.new.linked.now.reply)))) }
+        ensures follows { Follows L.Link (copies_sort self.old.handle) self.old.linked.now.link
+            self.new.linked.now.link (mapped (option_map (λ copy. copy.items)) result) }
     {
         let handle = self.handle();
         self.linked.ask(&Request::ReadSortBlock {

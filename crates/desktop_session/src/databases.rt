@@ -5,6 +5,8 @@ ghost use Rattle.pdb_values.specs.PalmDates.{wire_date};
 ghost use Rattle.dlp_replies.specs.ReplyReading.{reply_at};
 ghost use Rattle.dlp_commands.specs.UserFunctions.{chosen, name_length};
 ghost use Rattle.desktop_session.specs.Answers.{answer_by, no_more, or_false, said_in};
+ghost use Rattle.desktop_session.specs.Asking.{deletes, marks};
+ghost use Rattle.desktop_session.specs.Following.{Follows};
 ghost use Rattle.desktop_session.specs.Requests.{deleting, marked_name, marking};
 ghost use Rattle.desktop_session.specs.Stops.{AsksOne};
 
@@ -25,6 +27,7 @@ impl<L: Link> Linked<L> {
             self.new }
         ensures answer { result ≡ answer_by (L.fault self.new.link)
             (said_in 0x11 no_more (reply_at 0x11 self.new.reply)) }
+        ensures follows { Follows L.Link (marks mark.now bits) self.old.link self.new.link result }
     {
         let name = name_where_set(bits, mark.name.as_bytes());
         self.ask(&Request::WriteUserInfo {
@@ -46,6 +49,7 @@ impl<L: Link> Linked<L> {
         ensures asked { AsksOne L.talk L.since L.fault L.downs (deleting name.now) self.old self.new }
         ensures answer { result ≡ answer_by (L.fault self.new.link)
             (or_false (said_in 0x1A no_more (reply_at 0x1A self.new.reply))) }
+        ensures follows { Follows L.Link (deletes name.now) self.old.link self.new.link result }
     {
         let name = name.as_bytes();
         self.ask(&Request::DeleteDb { card: 0, name })?;

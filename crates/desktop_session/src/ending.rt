@@ -3,7 +3,9 @@ ghost use Rattle.std.specs.Prelude.{◌≡◌, ◌∷◌, [], IfErr, IfOk, false
 ghost use Rattle.dlp_replies.specs.ReplyReading.{reply_at};
 ghost use Rattle.desktop_session.specs.Acts.{text};
 ghost use Rattle.desktop_session.specs.Answers.{answer_by, no_more, said_in};
+ghost use Rattle.desktop_session.specs.Asking.{ends};
 ghost use Rattle.desktop_session.specs.Ends.{AnswersEnding, end_of, link_ended};
+ghost use Rattle.desktop_session.specs.Following.{Follows};
 ghost use Rattle.desktop_session.specs.Lasts.{IsByLastReply};
 ghost use Rattle.desktop_session.specs.Requests.{ending};
 ghost use Rattle.desktop_session.specs.Stops.{AsksOne, Does, Stops};
@@ -33,6 +35,7 @@ impl<L: Link> Linked<L> {
         ensures asked { AsksOne L.talk L.since L.fault L.downs ending self.old self.new }
         ensures answer { result ≡ answer_by (L.fault self.new.link)
             (said_in 0x2F no_more (reply_at 0x2F self.new.reply)) }
+        ensures follows { Follows L.Link ends self.old.link self.new.link result }
         ensures last { IfErr result (IsByLastReply (L.talk self.new.link)) }
     {
         self.ask(&Request::EndOfSync { status: 0 })?;
@@ -45,6 +48,7 @@ impl<L: Link> Linked<L> {
         ensures stops { Stops L.talk L.since L.fault L.downs (text ending ∷ []) self.link
             (link_ended result) }
         ensures does { IfOk result (λ ended. Does L.talk (ending ∷ []) self.link ended.link) }
+        ensures follows { Follows L.Link ends self.link (link_ended result) (end_of result) }
         ensures answer { AnswersEnding (L.talk self.link) (L.fault (link_ended result)) (end_of result) }
         ensures last { IfErr result (λ halted. IsByLastReply (L.talk halted.link) halted.cause) }
     {

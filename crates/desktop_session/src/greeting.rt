@@ -3,6 +3,8 @@ ghost use Rattle.std.specs.Prelude.{◌≡◌, ◌≤◌, ◌∷◌, ◌⊎◌, 
 ghost use Rattle.dlp_replies.specs.ReplyReading.{reply_at};
 ghost use Rattle.desktop_session.specs.Acts.{text};
 ghost use Rattle.desktop_session.specs.Answers.{answer_by, no_more, said_in, user_of};
+ghost use Rattle.desktop_session.specs.Following.{Follows};
+ghost use Rattle.desktop_session.specs.Greeted.{asks_conduits, asks_user, greets};
 ghost use Rattle.desktop_session.specs.Greetings.{AsksUser, AnswersGreeting, HasSlot, user_by, user_with};
 ghost use Rattle.desktop_session.specs.Lasts.{IsByLastReply};
 ghost use Rattle.desktop_session.specs.Requests.{beginning, reading_user};
@@ -25,6 +27,7 @@ impl<L: Link> Linked<L> {
         ensures asked { AsksOne L.talk L.since L.fault L.downs reading_user self.old self.new }
         ensures answer { result ≡ answer_by (L.fault self.new.link)
             (user_by marks.now wish.now (said_in 0x10 user_of (reply_at 0x10 self.new.reply))) }
+        ensures follows { Follows L.Link (asks_user marks.now wish.now) self.old.link self.new.link result }
         ensures last { IfErr result (IsByLastReply (L.talk self.new.link)) }
     {
         self.ask(&Request::ReadUserInfo)?;
@@ -38,6 +41,7 @@ impl<L: Link> Linked<L> {
         ensures asked { AsksOne L.talk L.since L.fault L.downs beginning self.old self.new }
         ensures answer { result ≡ answer_by (L.fault self.new.link)
             (said_in 0x2E no_more (reply_at 0x2E self.new.reply)) }
+        ensures follows { Follows L.Link asks_conduits self.old.link self.new.link result }
         ensures last { IfErr result (IsByLastReply (L.talk self.new.link)) }
     {
         self.ask(&Request::OpenConduit)?;
@@ -77,6 +81,7 @@ impl<L: Link> Linked<L> {
             self.new.link) }
         ensures greeted { AnswersGreeting marks.now wish.now (L.talk self.old.link) (L.fault
             self.new.link) result }
+        ensures follows { Follows L.Link (greets marks.now wish.now) self.old.link self.new.link result }
         ensures unseated { AsksUser L.talk L.since L.fault L.downs self.old.link self.new.link
             ⊎ HasSlot marks.now wish.now (L.talk self.old.link) }
         ensures last { IfErr result (IsByLastReply (L.talk self.new.link)) }

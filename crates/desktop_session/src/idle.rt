@@ -2,6 +2,8 @@
 ghost use Rattle.std.specs.Prelude.{◌≡◌, ◌≤◌, ◌∷◌, ◌⊎◌, [], IfErr, IfOk, false, length};
 ghost use Rattle.desktop_session.specs.Acts.{text};
 ghost use Rattle.desktop_session.specs.Ends.{link_begun, user_begun};
+ghost use Rattle.desktop_session.specs.Following.{Follows};
+ghost use Rattle.desktop_session.specs.Greeted.{greets};
 ghost use Rattle.desktop_session.specs.Greetings.{AsksUser, AnswersGreeting, HasSlot};
 ghost use Rattle.desktop_session.specs.Lasts.{IsByLastReply};
 ghost use Rattle.desktop_session.specs.Requests.{beginning, reading_user};
@@ -56,6 +58,10 @@ impl<L: Link> Idle<L> {
             self.link (link_begun result) }
         ensures does { IfOk result (λ linked. Does L.talk (reading_user ∷ beginning ∷ [])
             self.link linked.link) }
+
+        // Over any link, also one that tells nothing: what is asked by the replies so far, and what the answer is by them.
+        ensures follows { Follows L.Link (greets marks.now wish.now) self.link (link_begun result)
+            (user_begun result) }
 
         // The user, or the cause of the refusal.
         ensures greeted { AnswersGreeting marks.now wish.now (L.talk self.link) (L.fault (link_begun result))

@@ -4,7 +4,9 @@ ghost use Rattle.dlp_requests.specs.RequestTexts.{IsRequest};
 ghost use Rattle.dlp_requests.specs.Views.{request_value};
 ghost use Rattle.dlp_commands.specs.Talks.{HasAnswer};
 ghost use Rattle.desktop_session.specs.Acts.{AsksNoId, act, text};
-ghost use Rattle.desktop_session.specs.Answers.{answer_by};
+ghost use Rattle.desktop_session.specs.Answers.{answer_by, mapped};
+ghost use Rattle.desktop_session.specs.Following.{Follows};
+ghost use Rattle.desktop_session.specs.Inquiries.{asks_bytes};
 ghost use Rattle.desktop_session.specs.Stops.{AsksOne, Stops};
 
 use crate::fault::{SessionFault, of_link};
@@ -57,6 +59,8 @@ impl<L: Link> Linked<L> {
         ensures answered { OnOk result (HasAnswer (L.talk self.old.link)
             (text (act (request_value request.now))) self.new.reply (L.talk self.new.link)) }
         ensures fault { result ≡ answer_by (L.fault self.new.link) (Ok tt) }
+        ensures follows { Follows L.Link (asks_bytes (request_value request.now)) self.old.link
+            self.new.link (mapped (λ done. self.new.reply) result) }
         ensures rest { (self.new.user ≡ self.old.user) × (self.new.abandoned ≡ self.old.abandoned) }
     {
         write_request(request, &mut self.request);

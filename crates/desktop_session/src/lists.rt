@@ -4,6 +4,10 @@ ghost use Rattle.palm_device.specs.FreshIds as fresh;
 ghost use Rattle.dlp_replies.specs.ReplyReading.{reply_at};
 ghost use Rattle.desktop_session.specs.Acts.{text};
 ghost use Rattle.desktop_session.specs.Answers.{ids_of, mapped, said_in};
+ghost use Rattle.desktop_session.specs.Asking as asking;
+ghost use Rattle.desktop_session.specs.Asking.{all_ids, asks_ids};
+ghost use Rattle.desktop_session.specs.Following.{Follows};
+ghost use Rattle.desktop_session.specs.Greeted.{asks_page, lists_all};
 ghost use Rattle.desktop_session.specs.Lasts.{IsByLastReply};
 ghost use Rattle.desktop_session.specs.Lists.{AreIdsRead, HasCause, IsByReplyTo, IsNotMissing, Lists, heads_in, id_listing, id_reads};
 ghost use Rattle.desktop_session.specs.Lists.{id_parts, ids_in};
@@ -33,6 +37,8 @@ impl<L: Link> Linked<L> {
             self.new.reply)) }
         ensures next { IfOk result (λ next. next ≡ next_start start
             (reply_at 0x16 self.new.reply)) }
+        ensures follows { Follows L.Link (asks_page start heads.old.items) self.old.link self.new.link
+            (mapped (λ next. (heads.new.items, next)) result) }
         ensures cause { IfErr result (HasCause (L.fault self.new.link) (reply_at 0x16
             self.new.reply)) }
         ensures last { IfErr result (IsByLastReply (L.talk self.new.link)) }
@@ -60,6 +66,8 @@ impl<L: Link> Linked<L> {
         ensures ids { OnOk result (ids.new.items ≡ ids.old.items ++ ids_in (reply_at 0x31
             self.new.reply)) }
         ensures read { OnOk result (IsOk (said_in 0x31 ids_of (reply_at 0x31 self.new.reply))) }
+        ensures follows { Follows L.Link (asks_ids handle start ids.old.items) self.old.link self.new.link
+            (mapped (λ done. ids.new.items) result) }
         ensures cause { IfErr result (HasCause (L.fault self.new.link) (reply_at 0x31
             self.new.reply)) }
         ensures last { IfErr result (IsByLastReply (L.talk self.new.link)) }
@@ -82,6 +90,8 @@ impl<L: Link> Linked<L> {
     pub fn list(&mut self, alloc: Global) -> Result<Vec<DbHead>, SessionFault>
         requires { self.old.abandoned ≡ false }
         ensures lists { Lists L.talk L.since L.fault L.downs self.old.link self.new.link
+            (mapped (λ heads. heads.items) result) }
+        ensures follows { Follows L.Link lists_all self.old.link self.new.link
             (mapped (λ heads. heads.items) result) }
         ensures listed { IfOk result (λ heads. IsListedUpTo (reply_at 0x16 self.new.reply)
             heads.items) }
@@ -118,6 +128,8 @@ impl<L: Link> Linked<L> {
             → Does L.talk (id_reads handle count) self.old.link self.new.link) }
         ensures ids { IfOk result (λ ids. IsCounted (L.talk self.old.link) handle count
             → AreIdsRead (L.talk self.old.link) handle count ids.items) }
+        ensures follows { Follows L.Link (all_ids handle count) self.old.link self.new.link
+            (mapped (λ ids. ids.items) result) }
         ensures whole { IfOk result (λ ids. count ≤ length ids.items) }
         ensures once { IfOk result (λ ids. 0 < count
             → AreIdsUpTo (reply_at 0x31 self.new.reply) ids.items) }
@@ -159,6 +171,7 @@ fn repeats(ids: &[RecordId], before: usize) -> bool
     ensures parted { IsTrue result → before % 8000 ≢ 0 }
     ensures twice { IsTrue result → ComesTwice before ids.now }
     ensures none { result ≡ false → (before % 8000 ≡ 0) ⊎ AreNewFrom before ids.now }
+    ensures value { result ≡ asking.repeats before ids.now }
 {
     if before % 8_000 == 0 {
         return false;
@@ -196,6 +209,8 @@ impl<'s, L: Link> OpenDb<'s, L> {
         ensures ids { IfOk result (λ ids. IsCounted (L.talk self.old.linked.now.link)
             self.old.handle count
             → AreIdsRead (L.talk self.old.linked.now.link) self.old.handle count ids.items) }
+        ensures follows { Follows L.Link (all_ids self.old.handle count) self.old.linked.now.link
+            self.new.linked.now.link (mapped (λ ids. ids.items) result) }
         ensures whole { IfOk result (λ ids. count ≤ length ids.items) }
         ensures once { IfOk result (λ ids. 0 < count
             → AreIdsUpTo (reply_at 0x31 self.new.linked.now.reply) ids.items) }

@@ -3,6 +3,8 @@ ghost use Rattle.std.specs.Prelude.{◌≡◌, ◌<◌, ◌^◌, IfOk, Ok, false
 ghost use Rattle.std.specs.Borrow.{sem};
 ghost use Rattle.dlp_replies.specs.ReplyReading.{reply_at};
 ghost use Rattle.desktop_session.specs.Answers.{answer_by, handle_of, no_more, said_in};
+ghost use Rattle.desktop_session.specs.Asking.{closes, makes, makes_by, opens};
+ghost use Rattle.desktop_session.specs.Following.{Follows};
 ghost use Rattle.desktop_session.specs.Requests.{closing, making, making_of, opening, opening_in, opening_to_read};
 ghost use Rattle.desktop_session.specs.Stops.{AsksOne};
 
@@ -26,6 +28,7 @@ impl<L: Link> Linked<L> {
             self.new }
         ensures answer { result ≡ answer_by (L.fault self.new.link)
             (said_in 0x17 handle_of (reply_at 0x17 self.new.reply)) }
+        ensures follows { Follows L.Link (opens mode name.now) self.old.link self.new.link result }
     {
         let name = name.as_bytes();
         self.ask(&Request::OpenDb {
@@ -50,6 +53,8 @@ impl<L: Link> Linked<L> {
             (making_of creator.0 kind.0 attributes version name.now) self.old self.new }
         ensures answer { result ≡ answer_by (L.fault self.new.link)
             (said_in 0x18 handle_of (reply_at 0x18 self.new.reply)) }
+        ensures follows { Follows L.Link (makes_by creator.0 kind.0 attributes version name.now)
+            self.old.link self.new.link result }
     {
         let name = name.as_bytes();
         self.ask(&Request::CreateDb {
@@ -70,7 +75,8 @@ impl<L: Link> Linked<L> {
     /// Opens a database for reading and writing.
     pub fn open(&mut self, name: &DbName) -> Result<OpenDb<'_, L>, SessionFault>
         requires { self.old.abandoned ≡ false }
-        ensures* stopped { sem 𝓛 (OpensNone L.row L.Link self.entry result (opening name.now) 0x17) }
+        ensures* stopped { sem 𝓛 (OpensNone L.row L.Link self.entry result (opening name.now) 0x17
+            (opens 0xD0 name.now)) }
         ensures same_reference { IfOk result (λ opened. opened.linked.ghost_name ≡
             self.entry.ghost_name) }
         ensures asked { IfOk result (λ opened. AsksOne L.talk L.since L.fault L.downs
@@ -79,6 +85,8 @@ impl<L: Link> Linked<L> {
         ensures handle { IfOk result (λ opened. Ok opened.handle ≡ answer_by
             (L.fault opened.linked.now.link)
             (said_in 0x17 handle_of (reply_at 0x17 opened.linked.now.reply))) }
+        ensures follows { IfOk result (λ opened. Follows L.Link (opens 0xD0 name.now) self.old.link
+            opened.linked.now.link (Ok opened.handle)) }
     {
         match self.ask_to_open(0xD0, name) {
             Ok(handle) => Ok(OpenDb {
@@ -92,7 +100,8 @@ impl<L: Link> Linked<L> {
     /// Opens a database to read it.
     pub fn open_read(&mut self, name: &DbName) -> Result<OpenDb<'_, L>, SessionFault>
         requires { self.old.abandoned ≡ false }
-        ensures* stopped { sem 𝓛 (OpensNone L.row L.Link self.entry result (opening_to_read name.now) 0x17) }
+        ensures* stopped { sem 𝓛 (OpensNone L.row L.Link self.entry result (opening_to_read name.now) 0x17
+            (opens 0x90 name.now)) }
         ensures same_reference { IfOk result (λ opened. opened.linked.ghost_name ≡
             self.entry.ghost_name) }
         ensures asked { IfOk result (λ opened. AsksOne L.talk L.since L.fault L.downs
@@ -101,6 +110,8 @@ impl<L: Link> Linked<L> {
         ensures handle { IfOk result (λ opened. Ok opened.handle ≡ answer_by
             (L.fault opened.linked.now.link)
             (said_in 0x17 handle_of (reply_at 0x17 opened.linked.now.reply))) }
+        ensures follows { IfOk result (λ opened. Follows L.Link (opens 0x90 name.now) self.old.link
+            opened.linked.now.link (Ok opened.handle)) }
     {
         match self.ask_to_open(0x90, name) {
             Ok(handle) => Ok(OpenDb {
@@ -115,7 +126,8 @@ impl<L: Link> Linked<L> {
     /// it for reading and writing.
     pub fn create(&mut self, head: &DbHead) -> Result<OpenDb<'_, L>, SessionFault>
         requires { self.old.abandoned ≡ false }
-        ensures* stopped { sem 𝓛 (OpensNone L.row L.Link self.entry result (making head.now) 0x18) }
+        ensures* stopped { sem 𝓛 (OpensNone L.row L.Link self.entry result (making head.now) 0x18
+            (makes head.now)) }
         ensures same_reference { IfOk result (λ opened. opened.linked.ghost_name ≡
             self.entry.ghost_name) }
         ensures asked { IfOk result (λ opened. AsksOne L.talk L.since L.fault L.downs
@@ -124,6 +136,8 @@ impl<L: Link> Linked<L> {
         ensures handle { IfOk result (λ opened. Ok opened.handle ≡ answer_by
             (L.fault opened.linked.now.link)
             (said_in 0x18 handle_of (reply_at 0x18 opened.linked.now.reply))) }
+        ensures follows { IfOk result (λ opened. Follows L.Link (makes head.now) self.old.link
+            opened.linked.now.link (Ok opened.handle)) }
     {
         match self.ask_to_make(
             head.creator,
@@ -157,6 +171,8 @@ impl<'s, L: Link> OpenDb<'s, L> {
             self.entry.linked.now self.exit.0.now }
         ensures answer { result ≡ answer_by (L.fault self.exit.0.now.link)
             (said_in 0x19 no_more (reply_at 0x19 self.exit.0.now.reply)) }
+        ensures follows { Follows L.Link (closes self.entry.handle) self.entry.linked.now.link
+            self.exit.0.now.link result }
     {
         let OpenDb { linked, handle } = self;
         linked.ask(&Request::CloseDb { handle })?;

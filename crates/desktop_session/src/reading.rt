@@ -4,7 +4,11 @@ ghost use Rattle.std.specs.Borrow.{sem};
 ghost use Rattle.std.specs.Option.{option_map};
 ghost use Rattle.dlp_args.specs.Views.{Gives};
 ghost use Rattle.dlp_replies.specs.ReplyReading.{reply_at};
-ghost use Rattle.desktop_session.specs.Answers.{answer_by, count_of, record_of, resource_of, said_in};
+ghost use Rattle.desktop_session.specs.Answers.{answer_by, count_of, mapped, record_of, resource_of, said_in};
+ghost use Rattle.desktop_session.specs.Asking.{lends_resource};
+ghost use Rattle.desktop_session.specs.Following.{Follows};
+ghost use Rattle.desktop_session.specs.Inquiries.{asks_bytes};
+ghost use Rattle.desktop_session.specs.Lendings.{asks_whole, counts, lends_at, lends_next, lends_of};
 ghost use Rattle.desktop_session.specs.Lent.{lent_resource, lent_value};
 ghost use Rattle.desktop_session.specs.Loans.{Lends, LendsWhole, answered_with, found_with};
 ghost use Rattle.desktop_session.specs.Requests.{counting, reading_at, reading_next, reading_of, reading_resource};
@@ -29,6 +33,8 @@ impl<'s, L: Link> OpenDb<'s, L> {
             self.old.linked.now self.new.linked.now }
         ensures answer { result ≡ answer_by (L.fault self.new.linked.now.link)
             (said_in 0x2B count_of (reply_at 0x2B self.new.linked.now.reply)) }
+        ensures follows { Follows L.Link (counts self.old.handle) self.old.linked.now.link
+            self.new.linked.now.link result }
     {
         let handle = self.handle();
         self.linked.ask(&Request::ReadOpenDbInfo { handle })?;
@@ -53,6 +59,8 @@ impl<L: Link> Linked<L> {
             self.new }
         ensures fault { result ≡ answer_by (L.fault self.new.link) (Ok tt) }
         ensures whole { HasWhole L.fault (reading_at handle index) self.new }
+        ensures follows { Follows L.Link (asks_whole (reading_at handle index).asks) self.old.link self.new.link
+            (mapped (λ done. self.new.reply) result) }
     {
         self.ask(&Request::ReadRecordByIndex {
             handle,
@@ -70,6 +78,8 @@ impl<L: Link> Linked<L> {
             self.new }
         ensures fault { result ≡ answer_by (L.fault self.new.link) (Ok tt) }
         ensures whole { HasWhole L.fault (reading_of handle id) self.new }
+        ensures follows { Follows L.Link (asks_whole (reading_of handle id).asks) self.old.link self.new.link
+            (mapped (λ done. self.new.reply) result) }
     {
         self.ask(&Request::ReadRecordById {
             handle,
@@ -87,6 +97,8 @@ impl<L: Link> Linked<L> {
             self.new }
         ensures fault { result ≡ answer_by (L.fault self.new.link) (Ok tt) }
         ensures whole { HasWhole L.fault (reading_next handle) self.new }
+        ensures follows { Follows L.Link (asks_whole (reading_next handle).asks) self.old.link self.new.link
+            (mapped (λ done. self.new.reply) result) }
     {
         self.ask(&Request::ReadNextModifiedRec { handle })?;
         self.keep_whole(0x1F);
@@ -98,6 +110,8 @@ impl<L: Link> Linked<L> {
         ensures asked { AsksOne L.talk L.since L.fault L.downs (reading_resource handle index)
             self.old self.new }
         ensures fault { result ≡ answer_by (L.fault self.new.link) (Ok tt) }
+        ensures follows { Follows L.Link (asks_bytes (reading_resource handle index).asks) self.old.link
+            self.new.link (mapped (λ done. self.new.reply) result) }
     {
         self.ask(&Request::ReadResourceByIndex {
             handle,
@@ -113,6 +127,7 @@ impl<'s, L: Link> OpenDb<'s, L> {
     /// Lends the record at an index. One whose reply has fewer bytes than the size that it tells is a reply that can't be read.
     pub fn at(&mut self, index: u16) -> Result<RecordLent<'_>, SessionFault>
         ensures* rests { sem 𝓛 (LendsWhole L.row L.Link self.entry (reading_at self.old.handle index)
+            (lends_at self.old.handle index) (answered_with L.fault 0x20 record_of)
             (λ last. Gives lent_value result (answered_with L.fault 0x20 record_of last))) }
     {
         let handle = self.handle();
@@ -127,6 +142,7 @@ impl<'s, L: Link> OpenDb<'s, L> {
     /// Lends the record of an id, or nothing where there is none. One with fewer bytes than its size can't be read.
     pub fn by_id(&mut self, id: RecordId) -> Result<Option<RecordLent<'_>>, SessionFault>
         ensures* rests { sem 𝓛 (LendsWhole L.row L.Link self.entry (reading_of self.old.handle id)
+            (lends_of self.old.handle id) (found_with L.fault 0x20 record_of)
             (λ last. Gives (option_map lent_value) result
             (found_with L.fault 0x20 record_of last))) }
     {
@@ -143,6 +159,7 @@ impl<'s, L: Link> OpenDb<'s, L> {
     /// can't be read.
     pub fn next_changed(&mut self) -> Result<Option<RecordLent<'_>>, SessionFault>
         ensures* rests { sem 𝓛 (LendsWhole L.row L.Link self.entry (reading_next self.old.handle)
+            (lends_next self.old.handle) (found_with L.fault 0x1F record_of)
             (λ last. Gives (option_map lent_value) result
             (found_with L.fault 0x1F record_of last))) }
     {
@@ -158,6 +175,7 @@ impl<'s, L: Link> OpenDb<'s, L> {
     /// Lends the resource at an index.
     pub fn resource_at(&mut self, index: u16) -> Result<ResourceLent<'_>, SessionFault>
         ensures* rests { sem 𝓛 (Lends L.row L.Link self.entry (reading_resource self.old.handle index)
+            (lends_resource self.old.handle index) (answered_with L.fault 0x23 resource_of)
             (λ last. Gives lent_resource result
             (answered_with L.fault 0x23 resource_of last))) }
     {

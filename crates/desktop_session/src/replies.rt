@@ -5,8 +5,12 @@ ghost use Rattle.dlp_args.specs.Views.{Gives};
 ghost use Rattle.dlp_replies.specs.ReplyReading.{reply_at};
 ghost use Rattle.dlp_replies.specs.Views.{reply_value};
 ghost use Rattle.desktop_session.specs.Answers as answers;
-ghost use Rattle.desktop_session.specs.Answers.{block_of, count_of, handle_of, id_of, ids_of, list_of, no_more};
+ghost use Rattle.desktop_session.specs.Answers.{block_of, count_of, handle_of, id_of, ids_of, list_of, mapped, no_more};
 ghost use Rattle.desktop_session.specs.Answers.{record_of, resource_of, said_in, user_of};
+ghost use Rattle.desktop_session.specs.Asking.{ids_behind};
+ghost use Rattle.desktop_session.specs.Following.{OrNoMemory};
+ghost use Rattle.desktop_session.specs.Greeted as greeted;
+ghost use Rattle.desktop_session.specs.Greeted.{page};
 ghost use Rattle.desktop_session.specs.Lent.{lent_resource, lent_value};
 ghost use Rattle.desktop_session.specs.Lists as lists;
 ghost use Rattle.desktop_session.specs.Replies.{AnswersTo};
@@ -282,6 +286,8 @@ pub(crate) fn add_heads(
     ensures heads { OnOk result (heads.new.items ≡ heads.old.items ++ lists.heads_in
         (reply_at 0x16 bytes.now)) }
     ensures next { IfOk result (λ next. next ≡ next_start start (reply_at 0x16 bytes.now)) }
+    ensures page { OrNoMemory (page start heads.old.items (reply_at 0x16 bytes.now))
+        (mapped (λ next. (heads.new.items, next)) result) }
     ensures cause { IfErr result (lists.HasCause None (reply_at 0x16 bytes.now)) }
     ensures function { IfErr result (lists.IsToldOf 0x16) }
     ensures others { IfErr result lists.IsNotMissing }
@@ -294,10 +300,17 @@ pub(crate) fn add_heads(
         let (_, head) = entry;
         push(heads, head)?;
     }
+    Ok(list_behind(start, last, flags))
+}
+
+// Where a list goes on that was asked for from a start on, by the last index and the flags of its reply.
+fn list_behind(start: u16, last: u16, flags: u8) -> Option<u16>
+    ensures { result ≡ greeted.list_behind start last flags }
+{
     if flags & 0x80 == 0 || last < start || last == u16::MAX {
-        return Ok(None);
+        return None;
     }
-    Ok(Some(last + 1))
+    Some(last + 1)
 }
 
 // Appends the ids in a reply to ReadRecordIDList.
@@ -305,6 +318,8 @@ pub(crate) fn add_ids(bytes: &[u8], all: &mut Vec<RecordId>) -> Result<(), Sessi
     ensures ids { OnOk result (all.new.items ≡ all.old.items ++ lists.ids_in
         (reply_at 0x31 bytes.now)) }
     ensures read { OnOk result (IsOk (said_in 0x31 ids_of (reply_at 0x31 bytes.now))) }
+    ensures behind { OrNoMemory (ids_behind all.old.items (reply_at 0x31 bytes.now))
+        (mapped (λ done. all.new.items) result) }
     ensures cause { IfErr result (lists.HasCause None (reply_at 0x31 bytes.now)) }
     ensures function { IfErr result (lists.IsToldOf 0x31) }
 {

@@ -1,7 +1,10 @@
 // What is written into an open database.
 ghost use Rattle.std.specs.Prelude.{◌≡◌, ◌≤◌, Ok, length};
 ghost use Rattle.dlp_replies.specs.ReplyReading.{reply_at};
-ghost use Rattle.desktop_session.specs.Answers.{answer_by, id_of, no_more, or_false, said_in};
+ghost use Rattle.desktop_session.specs.Answers.{answer_by, id_of, mapped, no_more, or_false, said_in};
+ghost use Rattle.desktop_session.specs.Asking.{cleans, puts_one, puts_resource, removes, resets, writes_app, writes_sort};
+ghost use Rattle.desktop_session.specs.Following.{Follows};
+ghost use Rattle.desktop_session.specs.Inquiries.{asks_bytes};
 ghost use Rattle.desktop_session.specs.Puts.{Puts};
 ghost use Rattle.desktop_session.specs.Requests.{cleaning, putting_resource, removing, resetting, secret_bit, writing_app, writing_sort};
 ghost use Rattle.desktop_session.specs.Stops.{AsksOne};
@@ -33,6 +36,7 @@ impl<L: Link> Linked<L> {
             self.new result }
         ensures answer { result ≡ answer_by (L.fault self.new.link)
             (said_in 0x21 id_of (reply_at 0x21 self.new.reply)) }
+        ensures follows { Follows L.Link (puts_one handle id content.now) self.old.link self.new.link result }
     {
         let request = Request::WriteRecord {
             handle,
@@ -62,6 +66,8 @@ impl<L: Link> Linked<L> {
             (putting_resource handle kind.0 id bytes.now)
             self.old self.new }
         ensures fault { result ≡ answer_by (L.fault self.new.link) (Ok tt) }
+        ensures follows { Follows L.Link (asks_bytes (putting_resource handle kind.0 id bytes.now).asks)
+            self.old.link self.new.link (mapped (λ done. self.new.reply) result) }
     {
         self.ask(&Request::WriteResource {
             handle,
@@ -83,6 +89,8 @@ impl<'s, L: Link> OpenDb<'s, L> {
             self.old.linked.now self.new.linked.now result }
         ensures answer { result ≡ answer_by (L.fault self.new.linked.now.link)
             (said_in 0x21 id_of (reply_at 0x21 self.new.linked.now.reply)) }
+        ensures follows { Follows L.Link (puts_one self.old.handle id content.now) self.old.linked.now.link
+            self.new.linked.now.link result }
     {
         let handle = self.handle();
         self.linked.ask_to_put(handle, id, content)
@@ -97,6 +105,8 @@ impl<'s, L: Link> OpenDb<'s, L> {
             self.old.linked.now self.new.linked.now }
         ensures answer { result ≡ answer_by (L.fault self.new.linked.now.link)
             (or_false (said_in 0x22 no_more (reply_at 0x22 self.new.linked.now.reply))) }
+        ensures follows { Follows L.Link (removes self.old.handle id) self.old.linked.now.link
+            self.new.linked.now.link result }
     {
         let handle = self.handle();
         self.linked.ask(&Request::DeleteRecord {
@@ -116,6 +126,8 @@ impl<'s, L: Link> OpenDb<'s, L> {
             self.old.linked.now self.new.linked.now }
         ensures answer { result ≡ answer_by (L.fault self.new.linked.now.link)
             (said_in 0x26 no_more (reply_at 0x26 self.new.linked.now.reply)) }
+        ensures follows { Follows L.Link (cleans self.old.handle) self.old.linked.now.link
+            self.new.linked.now.link result }
     {
         let handle = self.handle();
         self.linked.ask(&Request::CleanUpDatabase { handle })?;
@@ -131,6 +143,8 @@ impl<'s, L: Link> OpenDb<'s, L> {
             self.old.linked.now self.new.linked.now }
         ensures answer { result ≡ answer_by (L.fault self.new.linked.now.link)
             (said_in 0x27 no_more (reply_at 0x27 self.new.linked.now.reply)) }
+        ensures follows { Follows L.Link (resets self.old.handle) self.old.linked.now.link
+            self.new.linked.now.link result }
     {
         let handle = self.handle();
         self.linked.ask(&Request::ResetSyncFlags { handle })?;
@@ -147,6 +161,8 @@ impl<'s, L: Link> OpenDb<'s, L> {
             self.old.linked.now self.new.linked.now }
         ensures answer { result ≡ answer_by (L.fault self.new.linked.now.link)
             (said_in 0x1C no_more (reply_at 0x1C self.new.linked.now.reply)) }
+        ensures follows { Follows L.Link (writes_app self.old.handle bytes.now) self.old.linked.now.link
+            self.new.linked.now.link result }
     {
         let handle = self.handle();
         self.linked.ask(&Request::WriteAppBlock { handle, bytes })?;
@@ -164,6 +180,8 @@ impl<'s, L: Link> OpenDb<'s, L> {
             self.old.linked.now self.new.linked.now }
         ensures answer { result ≡ answer_by (L.fault self.new.linked.now.link)
             (said_in 0x1E no_more (reply_at 0x1E self.new.linked.now.reply)) }
+        ensures follows { Follows L.Link (writes_sort self.old.handle bytes.now) self.old.linked.now.link
+            self.new.linked.now.link result }
     {
         let handle = self.handle();
         self.linked.ask(&Request::WriteSortBlock { handle, bytes })?;
@@ -182,6 +200,9 @@ impl<'s, L: Link> OpenDb<'s, L> {
             self.old.linked.now self.new.linked.now }
         ensures answer { result ≡ answer_by (L.fault self.new.linked.now.link)
             (said_in 0x24 no_more (reply_at 0x24 self.new.linked.now.reply)) }
+        ensures follows { Follows L.Link (puts_resource self.old.handle resource.now.kind.0
+            resource.now.id resource.now.bytes) self.old.linked.now.link
+            self.new.linked.now.link result }
     {
         let handle = self.handle();
         self.linked.ask_to_put_resource(

@@ -1,6 +1,8 @@
 -- All ids are appended.
-use Rattle.std.proofs.Common.{◌∙◌, sym, ℕ, arith}
+use Rattle.std.proofs.Common.{◌∙◌, ap, inl, sym, ℕ, List, ◌++◌, arith}
+use Rattle.std.specs.Prelude.{Ok}
 use Rattle.dlp_replies.specs.ReplyReading.{reply_at}
+use Rattle.desktop_session.specs.Answers.{mapped}
 use Rattle.desktop_session.proofs.GrowLaws.{grows, whole_same}
 use Rattle.desktop_session.proofs.ListedLaws.{ids_said}
 use Rattle.desktop_session.proofs.replies.add_ids.Goals as goal
@@ -18,3 +20,8 @@ returns-clause-ids c =
       ids_said (reply_at 0x31 c.args.bytes.now)
           c.in_ok-ids.ensures,
     )
+
+pub returns-clause-behind : goal.returns-clause-behind
+returns-clause-behind c =
+    inl (ap (λ (ids : List ℕ). Ok ids) (whole_same c.in_ok-ids.ids c.args.all.now.items c.loop-place.place (omega arith) c.loop-place.invariant)
+    ∙ sym (ap (mapped (λ (more : List ℕ). c.args.all.now.items ++ more)) c.in_ok-ids.ensures))

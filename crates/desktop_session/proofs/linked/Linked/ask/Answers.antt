@@ -2,6 +2,7 @@
 use Rattle.std.proofs.Common.{rules, ◌≡◌}
 use Rattle.dlp_requests.specs.Views.{request_value}
 use Rattle.desktop_session.proofs.AskLaws.{answered_ok, asked_done, asked_failed, some_fault, stops_err, stops_ok}
+use Rattle.desktop_session.proofs.FollowLaws.{follows_answered, follows_left}
 use Rattle.desktop_session.proofs.linked.Linked.ask.Goals as goal
 
 pub returns-clause-answered : goal.returns-clause-answered
@@ -34,3 +35,15 @@ returns-in-Err-clause-asked g c fixed =
     asked_failed c.requires
     (some_fault _ (g.L.Link.fault c.self.inside.link) c.in-Err.fault c.in-Err.ensures.fault c.in-Err.ensures.stays)
     (returns-in-Err-clause-stops g c) (search rules) (search rules)
+
+pub returns-clause-follows : goal.returns-clause-follows
+returns-clause-follows g c =
+    let same : c.self.inside.link ≡ c.args.self.now.link = search rules in
+    follows_answered (request_value c.args.request.now) c.exchange.new.reply c.requires same c.write_request.ensures c.in_default.ensures.heard
+    c.in_default.ensures.fault c.in_default.ensures.cause
+
+pub returns-in-Err-clause-follows : goal.returns-in-Err-clause-follows
+returns-in-Err-clause-follows g c =
+    let same : c.self.inside.link ≡ c.args.self.now.link = search rules in
+    rw c.of_link.ensures (follows_left (request_value c.args.request.now) c.exchange.new.reply c.in-Err.fault c.requires same c.write_request.ensures
+    c.in-Err.ensures.heard c.in-Err.ensures.fault c.in-Err.ensures.cause)

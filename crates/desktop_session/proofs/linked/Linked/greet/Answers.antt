@@ -6,6 +6,8 @@ use Rattle.desktop_session.specs.Answers.{no_more, said_in, user_of}
 use Rattle.desktop_session.specs.Greetings.{user_by}
 use Rattle.desktop_session.specs.Requests.{beginning, reading_user}
 use Rattle.dlp_replies.specs.ReplyReading.{reply_at}
+use Rattle.desktop_session.specs.Greeted.{greets}
+use Rattle.desktop_session.proofs.FollowLaws.{follows_done, follows_ended, reaches_none, reaches_then}
 use Rattle.desktop_session.proofs.GreetLaws.{greet_first, greet_second, no_fault_said, slot_read}
 use Rattle.desktop_session.proofs.StopLaws.{does_then, stops_more, stops_then}
 use Rattle.desktop_session.proofs.linked.Linked.greet.Goals as goal
@@ -74,3 +76,22 @@ returns-clause-greeted g c =
     c.ask_user.new.self.reply c.ask_conduits.new.self.reply
     c.in_ok-user.ensures.answer c.in_ok-user.ensures.asked.told (λ none. (c.in_ok-user.ensures.asked.does none).said)
     c.in_ok-ask_conduits.ensures.answer c.in_ok-ask_conduits.ensures.asked.told
+
+pub returns-in_err-user-clause-follows : goal.returns-in_err-user-clause-follows
+returns-in_err-user-clause-follows g c =
+    let p = err_from_is_err_and c.from_residual.result c.from_residual.ensures.1 in
+    rw (p.1, p.2) (follows_ended g.met.L.Link.heard_more _ (reaches_none g.met.L.Link.heard_none (greets c.args.marks.now c.args.wish.now) _)
+    c.in_err-user.ensures.follows)
+
+pub returns-in_err-ask_conduits-clause-follows : goal.returns-in_err-ask_conduits-clause-follows
+returns-in_err-ask_conduits-clause-follows g c =
+    let p = err_from_is_err_and c.from_residual-in_err-ask_conduits.result c.from_residual-in_err-ask_conduits.ensures.1 in
+    rw (p.1, p.2) (follows_ended g.met.L.Link.heard_more _ (reaches_then g.met.L.Link.heard_more _
+    (reaches_none g.met.L.Link.heard_none (greets c.args.marks.now c.args.wish.now) _) c.in_ok-user.ensures.follows)
+    c.in_err-ask_conduits.ensures.follows)
+
+pub returns-clause-follows : goal.returns-clause-follows
+returns-clause-follows g c =
+    follows_done (reaches_then g.met.L.Link.heard_more _ (reaches_then g.met.L.Link.heard_more _
+    (reaches_none g.met.L.Link.heard_none (greets c.args.marks.now c.args.wish.now) _) c.in_ok-user.ensures.follows)
+    c.in_ok-ask_conduits.ensures.follows)

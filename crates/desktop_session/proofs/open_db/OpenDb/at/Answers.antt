@@ -1,0 +1,53 @@
+-- What is lent is followed.
+use Rattle.std.proofs.Common.{refl, rules, subst, sym}
+use Rattle.dlp_replies.specs.ReplyReading.{reply_at}
+use Rattle.desktop_session.specs.Answers.{record_of, said_in}
+use Rattle.desktop_session.specs.Lendings.{lends_at}
+use Rattle.desktop_session.specs.Following.{Follows}
+use Rattle.desktop_session.specs.Lent.{lent_value}
+use Rattle.desktop_session.specs.Loans.{answered_with}
+use Rattle.desktop_session.specs.Requests.{reading_at}
+use Rattle.desktop_session.specs.Sessions.{SessionValue}
+use Rattle.desktop_session.proofs.AnswerLaws.{gives_failed, gives_said}
+use Rattle.desktop_session.proofs.LendFollows.{follows_lent}
+use Rattle.desktop_session.proofs.open_db.OpenDb.at.Goals as goal
+
+pub returns-in-Err : goal.returns-in-Err
+returns-in-Err g c = (
+  (
+    refl,
+    λ last. tt,
+    (
+      refl,
+      refl,
+      rw c.handle-handle.ensures.same at c.in-Err.ensures.asked,
+      gives_failed lent_value _ _ _ c.in-Err.ensures.fault,
+      c.in-Err.ensures.whole,
+      follows_lent g.met.L.Link.heard_none g.met.L.Link.heard_more
+          (reading_at c.args.self.now.handle c.args.index).asks (λ bytes. said_in 0x20 record_of (reply_at 0x20 bytes)) c.ask_at.new.self.reply _
+          (rw c.handle-handle.ensures.same at c.in-Err.ensures.follows) c.in-Err.ensures.fault,
+    ),
+  ),
+  record { rests = tt },
+)
+
+pub returns : goal.returns
+returns g c = (
+  (
+    refl,
+    λ last. tt,
+    (
+      refl,
+      refl,
+      search rules,
+      search (rules, gives_said),
+      search rules,
+      subst (λ (now : SessionValue g.row.L.Denot). Follows g.L.Link (lends_at c.args.self.now.handle c.args.index) c.args.self.now.linked.now.link now.link
+          (answered_with g.L.Link.fault 0x20 record_of now)) (sym c.linked.view_is)
+          (follows_lent g.met.L.Link.heard_none g.met.L.Link.heard_more
+          (reading_at c.args.self.now.handle c.args.index).asks (λ bytes. said_in 0x20 record_of (reply_at 0x20 bytes)) c.ask_at.new.self.reply _
+          (rw c.handle-handle.ensures.same at c.in-Ok.ensures.follows) c.in-Ok.ensures.fault),
+    ),
+  ),
+  record { rests = tt },
+)
