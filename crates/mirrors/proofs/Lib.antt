@@ -8,8 +8,10 @@ mod ListingLaws
 pub mod NewsLaws
 mod NextLaws
 pub mod OrderLaws
+pub mod PartFollows
 mod PlaceLaws
 pub mod PlanLaws
+mod ReadFollows
 pub mod ReadLaws
 mod RisingLaws
 mod SayLaws
@@ -19,3 +21,4 @@ pub mod SlowSayLaws
 mod ToldLaws
 pub mod ViewLaws
 mod WholeLaws
+mod WriteFollows

@@ -4,6 +4,8 @@ pub mod Entries
 pub mod FastReads
 pub mod News
 pub mod Places
+pub mod ReadInquiries
 pub mod Reads
 pub mod SamePlans
 pub mod Shells
+pub mod WriteInquiries

@@ -1,7 +1,9 @@
 // The changed records of an open database.
-ghost use Rattle.std.specs.Prelude.{◌≡◌, ◌<◌, IfErr, IfOk, IfSome, None, OnOk, option_to_list};
+ghost use Rattle.std.specs.Prelude.{◌≡◌, ◌<◌, [], IfErr, IfOk, IfSome, None, OnOk, option_to_list};
 ghost use Rattle.dlp_replies.specs.ReplyReading.{reply_at};
 ghost use Rattle.conduit_rules.specs.ById.{id_bound};
+ghost use Rattle.desktop_session.specs.Answers.{mapped};
+ghost use Rattle.desktop_session.specs.Following.{Follows};
 ghost use Rattle.desktop_session.specs.Lasts.{IsByLastReply};
 ghost use Rattle.desktop_session.specs.Lists.{HasCause};
 ghost use Rattle.desktop_session.specs.Requests.{reading_next};
@@ -9,6 +11,7 @@ ghost use Rattle.desktop_session.specs.Stops.{AsksOne};
 ghost use Rattle.mirrors.specs.Asks.{Asks};
 ghost use Rattle.mirrors.specs.Entries.{AreBounded, seen_in};
 ghost use Rattle.mirrors.specs.FastReads.{changed_reads_of, changed_seen};
+ghost use Rattle.mirrors.specs.ReadInquiries.{reads_changed, reads_next};
 ghost use Rattle.mirrors.specs.Shells.{AreRead, IsRead};
 
 use crate::entry::entry_of;
@@ -22,6 +25,8 @@ use std::alloc::Global;
 fn read_next<L: Link>(alloc: Global, db: &mut OpenDb<'_, L>) -> Result<Option<Seen>, SessionFault>
     ensures same_reference { db.new.linked.ghost_name ≡ db.old.linked.ghost_name }
     ensures same_handle { db.new.handle ≡ db.old.handle }
+    ensures follows { Follows L.Link (reads_next db.old.handle) db.old.linked.now.link
+        db.new.linked.now.link result }
     ensures asked { AsksOne L.talk L.since L.fault L.downs (reading_next db.old.handle)
         db.old.linked.now db.new.linked.now }
     ensures none { OnOk result (L.fault db.new.linked.now.link ≡ None) }
@@ -48,6 +53,9 @@ pub(crate) fn read_changed<L: Link>(
 ) -> Result<Vec<Seen>, SessionFault>
     ensures same_reference { db.new.linked.ghost_name ≡ db.old.linked.ghost_name }
     ensures same_handle { db.new.handle ≡ db.old.handle }
+    ensures follows { Follows L.Link (reads_changed db.old.handle most [])
+        db.old.linked.now.link db.new.linked.now.link
+        (mapped (λ seen. seen.items) result) }
     ensures asks { Asks L.talk L.since L.fault L.downs
         (changed_reads_of db.old.handle most (L.talk db.old.linked.now.link))
         db.old.linked.now db.new.linked.now result }

@@ -1,5 +1,5 @@
 // The records of an open database that did not change.
-ghost use Rattle.std.specs.Prelude.{◌≡◌, ◌<◌, ◌++◌, ℕ, IfErr, IfOk, IfSome, None, OnOk, map, option_to_list};
+ghost use Rattle.std.specs.Prelude.{◌≡◌, ◌<◌, ◌++◌, [], ℕ, IfErr, IfOk, IfSome, None, OnOk, map, option_to_list};
 ghost use Rattle.std.specs.BTreeMap.{get};
 ghost use Rattle.std.specs.List.{flat_map};
 ghost use Rattle.std.specs.Ordering.{nat_cmp};
@@ -7,12 +7,15 @@ ghost use Rattle.dlp_replies.specs.ReplyReading.{reply_at};
 ghost use Rattle.palm_device.specs.Records.{place_of_id};
 ghost use Rattle.conduit_rules.specs.ById.{id_bound};
 ghost use Rattle.conduit_rules.specs.declared.view.Seen.{Seen};
+ghost use Rattle.desktop_session.specs.Answers.{mapped};
+ghost use Rattle.desktop_session.specs.Following.{Follows};
 ghost use Rattle.desktop_session.specs.Lasts.{IsByLastReply};
 ghost use Rattle.desktop_session.specs.Lists.{HasCause};
 ghost use Rattle.desktop_session.specs.Requests.{reading_of};
 ghost use Rattle.desktop_session.specs.Stops.{AsksOne};
 ghost use Rattle.mirrors.specs.Asks.{Asks};
 ghost use Rattle.mirrors.specs.Entries.{AreBounded, seen_in};
+ghost use Rattle.mirrors.specs.ReadInquiries.{fills, fills_next, fills_one, reads_of};
 ghost use Rattle.mirrors.specs.Shells.{Adds, Fills, IsOf, filled_reads, filled_seen, shell};
 
 use crate::entry::entry_of;
@@ -69,6 +72,8 @@ fn read_of<L: Link>(
 ) -> Result<Option<Seen>, SessionFault>
     ensures same_reference { db.new.linked.ghost_name ≡ db.old.linked.ghost_name }
     ensures same_handle { db.new.handle ≡ db.old.handle }
+    ensures follows { Follows L.Link (reads_of db.old.handle id) db.old.linked.now.link
+        db.new.linked.now.link result }
     ensures asked { AsksOne L.talk L.since L.fault L.downs (reading_of db.old.handle id)
         db.old.linked.now db.new.linked.now }
     ensures none { OnOk result (L.fault db.new.linked.now.link ≡ None) }
@@ -106,6 +111,8 @@ fn filled<L: Link>(
     requires { (id : ℕ) → get nat_cmp places.now id ≡ place_of_id id base.now }
     ensures same_reference { db.new.linked.ghost_name ≡ db.old.linked.ghost_name }
     ensures same_handle { db.new.handle ≡ db.old.handle }
+    ensures follows { Follows L.Link (fills_one base.now db.old.handle entry) db.old.linked.now.link
+        db.new.linked.now.link result }
     ensures asks { Asks L.talk L.since L.fault L.downs
         (filled_reads base.now db.old.handle entry)
         db.old.linked.now db.new.linked.now result }
@@ -144,6 +151,9 @@ fn fill<L: Link>(
     requires { (id : ℕ) → get nat_cmp places.now id ≡ place_of_id id base.now }
     ensures same_reference { db.new.linked.ghost_name ≡ db.old.linked.ghost_name }
     ensures same_handle { db.new.handle ≡ db.old.handle }
+    ensures follows { Follows L.Link (fills_next base.now db.old.handle seen.old.items entry)
+        db.old.linked.now.link db.new.linked.now.link
+        (mapped (λ done. seen.new.items) result) }
     ensures asks { Asks L.talk L.since L.fault L.downs
         (filled_reads base.now db.old.handle entry)
         db.old.linked.now db.new.linked.now result }
@@ -173,6 +183,9 @@ pub(crate) fn fill_all<L: Link>(
     requires { (id : ℕ) → get nat_cmp places.now id ≡ place_of_id id base.now }
     ensures same_reference { db.new.linked.ghost_name ≡ db.old.linked.ghost_name }
     ensures same_handle { db.new.handle ≡ db.old.handle }
+    ensures follows { Follows L.Link (fills base.now db.old.handle entries.items [])
+        db.old.linked.now.link db.new.linked.now.link
+        (mapped (λ view. view.seen.items) result) }
     ensures asks { Asks L.talk L.since L.fault L.downs
         (flat_map (filled_reads base.now db.old.handle) entries.items)
         db.old.linked.now db.new.linked.now result }

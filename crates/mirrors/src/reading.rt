@@ -3,6 +3,8 @@ ghost use Rattle.std.specs.Prelude.{◌≡◌, ◌∷◌, [], IfErr, IfOk, IfSom
 ghost use Rattle.dlp_replies.specs.ReplyReading.{reply_at};
 ghost use Rattle.conduit_rules.specs.ById.{each_id};
 ghost use Rattle.desktop_session.specs.Acts.{text};
+ghost use Rattle.desktop_session.specs.Answers.{mapped};
+ghost use Rattle.desktop_session.specs.Following.{Follows};
 ghost use Rattle.desktop_session.specs.Lasts.{IsByLastReply};
 ghost use Rattle.desktop_session.specs.Lists.{HasCause, HasCauseIn};
 ghost use Rattle.desktop_session.specs.Stops.{Does, Stops};
@@ -10,6 +12,7 @@ ghost use Rattle.mirrors.specs.Asks.{Asks};
 ghost use Rattle.mirrors.specs.Entries.{AreBounded, ordered};
 ghost use Rattle.mirrors.specs.FastReads.{fast_reads_of, fast_shown, ids_told, listing_acts};
 ghost use Rattle.mirrors.specs.FastReads.{reads_at, shown_at};
+ghost use Rattle.mirrors.specs.ReadInquiries.{reads_fast, reads_ids, reads_others};
 ghost use Rattle.mirrors.specs.Shells.{AreRead};
 
 use crate::changed::read_changed;
@@ -26,6 +29,9 @@ use std::alloc::Global;
 fn read_ids<L: Link>(alloc: Global, db: &mut OpenDb<'_, L>) -> Result<Vec<RecordId>, SessionFault>
     ensures same_reference { db.new.linked.ghost_name ≡ db.old.linked.ghost_name }
     ensures same_handle { db.new.handle ≡ db.old.handle }
+    ensures follows { Follows L.Link (reads_ids db.old.handle)
+        db.old.linked.now.link db.new.linked.now.link
+        (mapped (λ ids. ids.items) result) }
     ensures stops { Stops L.talk L.since L.fault L.downs
         (map text (listing_acts db.old.handle (L.talk db.old.linked.now.link)))
         db.old.linked.now.link db.new.linked.now.link }
@@ -57,6 +63,9 @@ fn read_others<L: Link>(
     requires read { AreRead seen.items }
     ensures same_reference { db.new.linked.ghost_name ≡ db.old.linked.ghost_name }
     ensures same_handle { db.new.handle ≡ db.old.handle }
+    ensures follows { Follows L.Link (reads_others base.now db.old.handle ids.now seen.items)
+        db.old.linked.now.link db.new.linked.now.link
+        (mapped (λ view. view.seen.items) result) }
     ensures asks { Asks L.talk L.since L.fault L.downs
         (each_id (reads_at base.now db.old.handle ids.now seen.items))
         db.old.linked.now db.new.linked.now result }
@@ -89,6 +98,9 @@ pub fn read_fast<L: Link>(
 ) -> Result<View, SessionFault>
     ensures same_reference { db.new.linked.ghost_name ≡ db.old.linked.ghost_name }
     ensures same_handle { db.new.handle ≡ db.old.handle }
+    ensures follows { Follows L.Link (reads_fast base.now db.old.handle)
+        db.old.linked.now.link db.new.linked.now.link
+        (mapped (λ view. view.seen.items) result) }
     ensures asks { Asks L.talk L.since L.fault L.downs
         (fast_reads_of base.now db.old.handle (L.talk db.old.linked.now.link))
         db.old.linked.now db.new.linked.now result }

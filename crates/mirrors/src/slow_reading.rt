@@ -2,12 +2,15 @@
 ghost use Rattle.std.specs.Prelude.{◌≡◌, ◌<◌, ◌∷◌, [], IfErr, IfOk, IfSome, None, OnOk};
 ghost use Rattle.dlp_replies.specs.ReplyReading.{reply_at};
 ghost use Rattle.conduit_rules.specs.ById.{id_bound};
+ghost use Rattle.desktop_session.specs.Answers.{mapped};
+ghost use Rattle.desktop_session.specs.Following.{Follows};
 ghost use Rattle.desktop_session.specs.Lasts.{IsByLastReply};
 ghost use Rattle.desktop_session.specs.Lists.{HasCause, HasCauseIn};
 ghost use Rattle.desktop_session.specs.Requests.{reading_at};
 ghost use Rattle.desktop_session.specs.Stops.{AsksOne};
 ghost use Rattle.mirrors.specs.Asks.{Asks};
 ghost use Rattle.mirrors.specs.Entries.{AreBounded, ordered, seen_in};
+ghost use Rattle.mirrors.specs.ReadInquiries.{reads_from, reads_one, reads_slowly};
 ghost use Rattle.mirrors.specs.Reads.{entries_of, reads, seen_below, slow_reads, slow_shown};
 
 use crate::entry::entry_of;
@@ -22,6 +25,8 @@ use std::alloc::Global;
 fn read_at<L: Link>(alloc: Global, db: &mut OpenDb<'_, L>, index: u16) -> Result<Seen, SessionFault>
     ensures same_reference { db.new.linked.ghost_name ≡ db.old.linked.ghost_name }
     ensures same_handle { db.new.handle ≡ db.old.handle }
+    ensures follows { Follows L.Link (reads_one db.old.handle index) db.old.linked.now.link
+        db.new.linked.now.link result }
     ensures asked { AsksOne L.talk L.since L.fault L.downs (reading_at db.old.handle index)
         db.old.linked.now db.new.linked.now }
     ensures none { OnOk result (L.fault db.new.linked.now.link ≡ None) }
@@ -46,6 +51,9 @@ fn read_all<L: Link>(
 ) -> Result<Vec<Seen>, SessionFault>
     ensures same_reference { db.new.linked.ghost_name ≡ db.old.linked.ghost_name }
     ensures same_handle { db.new.handle ≡ db.old.handle }
+    ensures follows { Follows L.Link (reads_from db.old.handle 0 count [])
+        db.old.linked.now.link db.new.linked.now.link
+        (mapped (λ seen. seen.items) result) }
     ensures asks { Asks L.talk L.since L.fault L.downs (reads db.old.handle count)
         db.old.linked.now db.new.linked.now result }
     ensures seen { IfOk result (λ seen. IfSome (L.talk db.old.linked.now.link)
@@ -70,6 +78,9 @@ fn read_all<L: Link>(
 pub fn read_slowly<L: Link>(alloc: Global, db: &mut OpenDb<'_, L>) -> Result<View, SessionFault>
     ensures same_reference { db.new.linked.ghost_name ≡ db.old.linked.ghost_name }
     ensures same_handle { db.new.handle ≡ db.old.handle }
+    ensures follows { Follows L.Link (reads_slowly db.old.handle)
+        db.old.linked.now.link db.new.linked.now.link
+        (mapped (λ view. view.seen.items) result) }
     ensures asks { Asks L.talk L.since L.fault L.downs
         (slow_reads db.old.handle (entries_of (L.talk db.old.linked.now.link) db.old.handle))
         db.old.linked.now db.new.linked.now result }

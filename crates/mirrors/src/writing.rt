@@ -1,11 +1,14 @@
 // A plan, carried out on an open database.
 ghost use Rattle.std.specs.Prelude.{◌≡◌, ◌∷◌, [], IfErr, drop, length, map};
 ghost use Rattle.dlp_replies.specs.ReplyReading.{reply_at};
+ghost use Rattle.desktop_session.specs.Answers.{mapped};
+ghost use Rattle.desktop_session.specs.Following.{Follows};
 ghost use Rattle.desktop_session.specs.Lasts.{IsByLastReply};
 ghost use Rattle.desktop_session.specs.Lists.{HasCause, HasCauseIn};
 ghost use Rattle.desktop_session.specs.Requests.{removing};
 ghost use Rattle.mirrors.specs.Asks.{Asks};
 ghost use Rattle.mirrors.specs.News.{PutsAll, as_new, news_of, purge_writes};
+ghost use Rattle.mirrors.specs.WriteInquiries.{adds_each, purges, removes_each, replaces_each, sends_news};
 
 use crate::slow_list::push;
 use conduit_rules::Plan;
@@ -21,6 +24,8 @@ fn replace_all<L: Link>(
 ) -> Result<(), SessionFault>
     ensures same_reference { db.new.linked.ghost_name ≡ db.old.linked.ghost_name }
     ensures same_handle { db.new.handle ≡ db.old.handle }
+    ensures follows { Follows L.Link (replaces_each db.old.handle entries.now) db.old.linked.now.link
+        db.new.linked.now.link result }
     ensures puts { PutsAll L.talk L.since L.fault L.downs db.old.handle entries.now
         (λ given done. Unit {0}) db.old.linked.now db.new.linked.now result }
     ensures last { IfErr result (IsByLastReply (L.talk db.new.linked.now.link)) }
@@ -39,6 +44,9 @@ fn add_all<L: Link>(
 ) -> Result<Vec<RecordId>, SessionFault>
     ensures same_reference { db.new.linked.ghost_name ≡ db.old.linked.ghost_name }
     ensures same_handle { db.new.handle ≡ db.old.handle }
+    ensures follows { Follows L.Link (adds_each db.old.handle contents.now [])
+        db.old.linked.now.link db.new.linked.now.link
+        (mapped (λ ids. ids.items) result) }
     ensures puts { PutsAll L.talk L.since L.fault L.downs db.old.handle (as_new contents.now)
         (λ given ids. ids.items ≡ given) db.old.linked.now db.new.linked.now result }
     ensures last { IfErr result (IsByLastReply (L.talk db.new.linked.now.link)) }
@@ -70,6 +78,9 @@ pub fn send_news<L: Link>(
 ) -> Result<Vec<RecordId>, SessionFault>
     ensures same_reference { db.new.linked.ghost_name ≡ db.old.linked.ghost_name }
     ensures same_handle { db.new.handle ≡ db.old.handle }
+    ensures follows { Follows L.Link (sends_news db.old.handle plan.now)
+        db.old.linked.now.link db.new.linked.now.link
+        (mapped (λ ids. ids.items) result) }
     ensures puts { PutsAll L.talk L.since L.fault L.downs db.old.handle (news_of plan.now)
         (λ given ids. ids.items ≡ drop (length plan.now.replace.items) given)
         db.old.linked.now db.new.linked.now result }
@@ -83,6 +94,8 @@ pub fn send_news<L: Link>(
 fn remove_all<L: Link>(db: &mut OpenDb<'_, L>, ids: &[RecordId]) -> Result<(), SessionFault>
     ensures same_reference { db.new.linked.ghost_name ≡ db.old.linked.ghost_name }
     ensures same_handle { db.new.handle ≡ db.old.handle }
+    ensures follows { Follows L.Link (removes_each db.old.handle ids.now) db.old.linked.now.link
+        db.new.linked.now.link result }
     ensures asks { Asks L.talk L.since L.fault L.downs (map (removing db.old.handle) ids.now)
         db.old.linked.now db.new.linked.now result }
     ensures cause { IfErr result (HasCause (L.fault db.new.linked.now.link)
@@ -100,6 +113,8 @@ fn remove_all<L: Link>(db: &mut OpenDb<'_, L>, ids: &[RecordId]) -> Result<(), S
 pub fn purge_side<L: Link>(db: &mut OpenDb<'_, L>, plan: &Plan) -> Result<(), SessionFault>
     ensures same_reference { db.new.linked.ghost_name ≡ db.old.linked.ghost_name }
     ensures same_handle { db.new.handle ≡ db.old.handle }
+    ensures follows { Follows L.Link (purges db.old.handle plan.now.purge.items) db.old.linked.now.link
+        db.new.linked.now.link result }
     ensures asks { Asks L.talk L.since L.fault L.downs
         (purge_writes db.old.handle plan.now.purge.items)
         db.old.linked.now db.new.linked.now result }

@@ -8,6 +8,8 @@ use Rattle.conduit_rules.specs.declared.view.Seen.{Seen}
 use Rattle.mirrors.specs.Entries.{AreBounded}
 use Rattle.mirrors.specs.Shells.{AreRead, IsRead}
 use Rattle.mirrors.proofs.ChangedLaws.{changed_all, changed_ends, changed_none, changed_on, changed_stop, changed_whole, read_more, shown_all}
+use Rattle.mirrors.proofs.PartFollows.{loop_begins, loop_done, loop_lost, loop_on, loop_stop}
+use Rattle.mirrors.proofs.ReadFollows.{changed-begin, changed-end, changed-next}
 use Rattle.mirrors.proofs.changed.read_changed.Goals as goal
 
 pub loop-request-init : goal.loop-request-init
@@ -18,6 +20,7 @@ loop-request-init g c = record {
       c.new-seen.ensures.items;
   bounded = rw c.new-seen.ensures.items (All-nil (λ (s : Seen). s.id < id_bound));
   read = rw c.new-seen.ensures.items tt;
+  follows = loop_begins g.met.L.Link.heard_none c.args.db.now.linked.now.link (changed-begin c.args.db.now.handle c.args.most c.new-seen.ensures.items);
   none = λ some. absurd (omega arith);
 }
 
@@ -35,6 +38,9 @@ loop-request-preserved g c =
           (subst (λ o. IfSome o (λ (s : Seen). s.id < id_bound)) c.in-Some.is c.in_ok-entry.ensures.bounded));
       read = subst AreRead (sym c.in_ok-push.ensures.items)
           (read_more c.loop-request.seen.items c.in-Some.entry before.read (subst (λ o. IfSome o IsRead) c.in-Some.is c.in_ok-entry.ensures.read));
+      follows = rw c.in_ok-push.ensures.items
+          (loop_on g.met.L.Link.heard_more _ (changed-next c.args.db.now.handle c.loop-request._request c.args.most c.loop-request.seen.items c.loop-request-test.true)
+          before.follows (rw (before.handle, c.in-Some.is) at c.in_ok-entry.ensures.follows));
       none = λ some. c.in_ok-entry.ensures.none;
     }
 
@@ -95,3 +101,32 @@ pub returns-in_err-push-clause-last : goal.returns-in_err-push-clause-last
 returns-in_err-push-clause-last g c =
     let p = err_from_is_err_and c.from_residual-in_err-push.result c.from_residual-in_err-push.ensures.1 in
     rw (p.1, p.2) (rw c.in_err-push.ensures.memory tt)
+
+pub returns-in_err-entry-clause-follows : goal.returns-in_err-entry-clause-follows
+returns-in_err-entry-clause-follows g c =
+    let p = err_from_is_err_and c.from_residual.result c.from_residual.ensures.1 in
+    let before = c.loop-request.invariant in
+    rw (p.1, p.2)
+    (loop_stop g.met.L.Link.heard_more _ (changed-next c.args.db.now.handle c.loop-request._request c.args.most c.loop-request.seen.items c.loop-request-test.true)
+    before.follows (rw before.handle at c.in_err-entry.ensures.follows))
+
+pub returns-in_err-push-clause-follows : goal.returns-in_err-push-clause-follows
+returns-in_err-push-clause-follows g c =
+    let p = err_from_is_err_and c.from_residual-in_err-push.result c.from_residual-in_err-push.ensures.1 in
+    let before = c.loop-request.invariant in
+    rw (p.1, p.2, c.in_err-push.ensures.memory)
+    (loop_lost g.met.L.Link.heard_more _ (changed-next c.args.db.now.handle c.loop-request._request c.args.most c.loop-request.seen.items c.loop-request-test.true)
+    before.follows (rw before.handle at c.in_ok-entry.ensures.follows))
+
+pub returns-in_default-clause-follows : goal.returns-in_default-clause-follows
+returns-in_default-clause-follows g c =
+    let before = c.loop-request.invariant in
+    let none : c.in_ok-entry.field-0 ≡ None = search rules in
+    loop_done refl
+    (loop_on g.met.L.Link.heard_more _ (changed-next c.args.db.now.handle c.loop-request._request c.args.most c.loop-request.seen.items c.loop-request-test.true)
+    before.follows (rw (before.handle, none) at c.in_ok-entry.ensures.follows))
+
+pub returns-clause-follows : goal.returns-clause-follows
+returns-clause-follows g c =
+    loop_done (changed-end c.args.db.now.handle c.loop-request._request c.args.most c.loop-request.seen.items (omega arith))
+    c.loop-request.invariant.follows

@@ -9,6 +9,7 @@ use Rattle.mirrors.specs.Reads.{entries_of}
 use Rattle.mirrors.proofs.ListingLaws.{listing_done, listing_ids, listing_last, listing_stops}
 use Rattle.desktop_session.specs.Answers.{count_of}
 use Rattle.desktop_session.proofs.LastLaws.{last_refused}
+use Rattle.mirrors.proofs.PartFollows.{then_ends, then_goes}
 use Rattle.mirrors.proofs.reading.read_ids.Goals as goal
 
 pub returns-in_err-count-clause-stops : goal.returns-in_err-count-clause-stops
@@ -45,3 +46,13 @@ pub returns-clause-last : goal.returns-clause-last
 returns-clause-last g c =
     listing_last c.ids.new.self.linked.now.link c.ids.result c.in_ok-count.ensures.same_handle c.in_ok-count.ensures.answer c.in_ok-count.ensures.asked
     c.ids.ensures.last
+
+pub returns-in_err-count-clause-follows : goal.returns-in_err-count-clause-follows
+returns-in_err-count-clause-follows g c =
+    let p = err_from_is_err_and c.from_residual.result c.from_residual.ensures.1 in
+    rw (p.1, p.2) (then_ends g.met.L.Link.heard_none g.met.L.Link.heard_more _ c.in_err-count.ensures.follows)
+
+pub returns-clause-follows : goal.returns-clause-follows
+returns-clause-follows g c =
+    then_goes g.met.L.Link.heard_none g.met.L.Link.heard_more _ c.in_ok-count.ensures.follows
+    (rw c.in_ok-count.ensures.same_handle at c.ids.ensures.follows)

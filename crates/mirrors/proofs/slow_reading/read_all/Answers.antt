@@ -5,6 +5,8 @@ use Rattle.std.proofs.lemmas.Result.{err_from_is_err_and}
 use Rattle.conduit_rules.specs.ById.{id_bound}
 use Rattle.conduit_rules.specs.declared.view.Seen.{Seen}
 use Rattle.mirrors.proofs.ReadLaws.{read_none, read_on, read_part, read_stop, seen_begin, seen_grows}
+use Rattle.mirrors.proofs.PartFollows.{loop_begins, loop_done, loop_lost, loop_on, loop_stop}
+use Rattle.mirrors.proofs.ReadFollows.{from-begin, from-end, from-next}
 use Rattle.mirrors.proofs.slow_reading.read_all.Goals as goal
 
 pub loop-index-init : goal.loop-index-init
@@ -14,6 +16,7 @@ loop-index-init g c = record {
   said = read_none g.met.L.Link.since_itself c.args.db.now.handle;
   seen = seen_begin (g.L.Link.talk c.args.db.now.linked.now.link) c.args.db.now.handle c.new-seen.ensures.items;
   bounded = rw c.new-seen.ensures.items (All-nil (λ (s : Seen). s.id < id_bound));
+  follows = loop_begins g.met.L.Link.heard_none c.args.db.now.linked.now.link (from-begin c.args.db.now.handle c.args.count c.new-seen.ensures.items);
 }
 
 pub loop-index-preserved : goal.loop-index-preserved
@@ -34,6 +37,9 @@ loop-index-preserved g c =
           c.in_ok-entry.ensures.seen before.seen c.in_ok-push.ensures.items;
       bounded = rw c.in_ok-push.ensures.items (All-push (λ (s : Seen). s.id < id_bound) c.loop-index.seen.items c.in_ok-entry.entry before.bounded
           c.in_ok-entry.ensures.bounded);
+      follows = rw c.in_ok-push.ensures.items
+          (loop_on g.met.L.Link.heard_more _ (from-next c.args.db.now.handle c.loop-index.index c.args.count c.loop-index.seen.items (omega arith)) before.follows
+          (rw before.handle at c.in_ok-entry.ensures.follows));
     }
 
 pub returns-in_err-entry-clause-asks : goal.returns-in_err-entry-clause-asks
@@ -66,3 +72,23 @@ pub returns-in_err-push-clause-last : goal.returns-in_err-push-clause-last
 returns-in_err-push-clause-last g c =
     let p = err_from_is_err_and c.from_residual-in_err-push.result c.from_residual-in_err-push.ensures.1 in
     rw (p.1, p.2) (rw c.in_err-push.ensures.memory tt)
+
+pub returns-in_err-entry-clause-follows : goal.returns-in_err-entry-clause-follows
+returns-in_err-entry-clause-follows g c =
+    let p = err_from_is_err_and c.from_residual.result c.from_residual.ensures.1 in
+    let before = c.loop-index.invariant in
+    rw (p.1, p.2)
+    (loop_stop g.met.L.Link.heard_more _ (from-next c.args.db.now.handle c.loop-index.index c.args.count c.loop-index.seen.items (omega arith)) before.follows
+    (rw before.handle at c.in_err-entry.ensures.follows))
+
+pub returns-in_err-push-clause-follows : goal.returns-in_err-push-clause-follows
+returns-in_err-push-clause-follows g c =
+    let p = err_from_is_err_and c.from_residual-in_err-push.result c.from_residual-in_err-push.ensures.1 in
+    let before = c.loop-index.invariant in
+    rw (p.1, p.2, c.in_err-push.ensures.memory)
+    (loop_lost g.met.L.Link.heard_more _ (from-next c.args.db.now.handle c.loop-index.index c.args.count c.loop-index.seen.items (omega arith)) before.follows
+    (rw before.handle at c.in_ok-entry.ensures.follows))
+
+pub returns-clause-follows : goal.returns-clause-follows
+returns-clause-follows g c =
+    loop_done (from-end c.args.db.now.handle c.loop-index.index c.args.count c.loop-index.seen.items (omega arith)) c.loop-index.invariant.follows

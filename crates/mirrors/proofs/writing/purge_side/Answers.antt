@@ -7,6 +7,7 @@ use Rattle.desktop_session.specs.Lists.{HasCause}
 use Rattle.mirrors.proofs.NewsLaws.{cleaned_stop, last_cause, purged, purged_stop}
 use Rattle.desktop_session.proofs.LastLaws.{last_answered, last_refused}
 use Rattle.desktop_session.proofs.GreetLaws.{no_fault_said}
+use Rattle.mirrors.proofs.PartFollows.{then_ends, then_goes}
 use Rattle.mirrors.proofs.writing.purge_side.Goals as goal
 
 pub returns-in_err-remove_all-clause-asks : goal.returns-in_err-remove_all-clause-asks
@@ -44,3 +45,22 @@ returns-in_err-clean_up-clause-last g c =
 
 pub returns-clause-last : goal.returns-clause-last
 returns-clause-last g c = last_answered no_more c.reset_flags.result refl c.reset_flags.ensures.asked c.reset_flags.ensures.answer
+
+pub returns-in_err-remove_all-clause-follows : goal.returns-in_err-remove_all-clause-follows
+returns-in_err-remove_all-clause-follows g c =
+    let p = err_from_is_err_and c.from_residual.result c.from_residual.ensures.1 in
+    rw (p.1, p.2)
+    (then_ends g.met.L.Link.heard_none g.met.L.Link.heard_more _ (rw c.deref.ensures.value at c.in_err-remove_all.ensures.follows))
+
+pub returns-in_err-clean_up-clause-follows : goal.returns-in_err-clean_up-clause-follows
+returns-in_err-clean_up-clause-follows g c =
+    let p = err_from_is_err_and c.from_residual-in_err-clean_up.result c.from_residual-in_err-clean_up.ensures.1 in
+    rw (p.1, p.2)
+    (then_goes g.met.L.Link.heard_none g.met.L.Link.heard_more _ (rw c.deref.ensures.value at c.in_ok-remove_all.ensures.follows)
+    (then_ends g.met.L.Link.heard_none g.met.L.Link.heard_more _ (rw c.in_ok-remove_all.ensures.same_handle at c.in_err-clean_up.ensures.follows)))
+
+pub returns-clause-follows : goal.returns-clause-follows
+returns-clause-follows g c =
+    then_goes g.met.L.Link.heard_none g.met.L.Link.heard_more _ (rw c.deref.ensures.value at c.in_ok-remove_all.ensures.follows)
+    (then_goes g.met.L.Link.heard_none g.met.L.Link.heard_more _ (rw c.in_ok-remove_all.ensures.same_handle at c.in_ok-clean_up.ensures.follows)
+    (rw (c.in_ok-clean_up.ensures.same_handle, c.in_ok-remove_all.ensures.same_handle) at c.reset_flags.ensures.follows))
