@@ -1,9 +1,12 @@
 pub mod CauseLaws
 pub mod CloseLaws
+pub mod EachFollows
 pub mod EachLaws
 pub mod HandleLaws
 pub mod LinkWords
 pub mod MeetLaws
+pub mod NamingLaws
 pub mod RestLaws
 pub mod SpanLaws
 pub mod StretchLaws
+pub mod UnderLaws

@@ -49,11 +49,11 @@ module _ {L A : Type 0} {talk : L → Option Talk} {since : L → L → Type 0} 
       }
 
   -- it was not opened
-  pub span_unopened : {C : Type 0} (number : ℕ) {first : Act} (acts : ℕ → List ℕ → List Act) {says : ℕ → List ℕ → A → Type 0} {old new : SessionValue L}
+  pub span_unopened : (More : Type 0) {C : Type 0} (number : ℕ) {first : Act} (acts : ℕ → List ℕ → List Act) {says : ℕ → List ℕ → A → Type 0} {old new : SessionValue L}
       {cause : SessionFault} (r : Result C SessionFault) → number ≡ number_of first → may_find_none first.asks.form ≡ false → r ≡ Err cause → OnErr r (AsksOne talk since fault downs first old new
-      × IfErr r (λ why. ◌≡◌ {A = Result ℕ SessionFault} (Err why) (answer_by (fault new.link) (said_in number handle_of (reply_at number new.reply)))))
+      × IfErr r (λ why. ◌≡◌ {A = Result ℕ SessionFault} (Err why) (answer_by (fault new.link) (said_in number handle_of (reply_at number new.reply)))) × More)
       → Spans talk since fault downs (within first acts) says old new (Err cause)
-  span_unopened number acts {old} {new} {cause} r own none was held =
+  span_unopened More number acts {old} {new} {cause} r own none was held =
       let both = err_case _ r cause was held in
       let asks = asked_part {A = A} talk since fault downs _ (acts 1 [] ++ closing 1 ∷ []) old new cause both.0 in
       record {

@@ -1,8 +1,10 @@
 pub mod Causes
 pub mod Fronts
 pub mod Given
+pub mod Inquiries
 pub mod Leaving
 pub mod Meets
+pub mod Naming
 pub mod Quiet
 pub mod Rests
 pub mod Spans

@@ -1,7 +1,9 @@
 // How both sides of a session meet.
 ghost use Rattle.std.specs.Prelude.{◌≡◌, ◌≤◌, IfErr, false, length};
+ghost use Rattle.desktop_session.specs.Following.{Follows};
 ghost use Rattle.desktop_session.specs.Lasts.{IsByLastReply};
-ghost use Rattle.session_parts.specs.Meets.{Meets, MeetsOrNot};
+ghost use Rattle.session_parts.specs.Inquiries.{meets, met_of};
+ghost use Rattle.session_parts.specs.Meets.{Meets, MeetsOrNot, link_met};
 
 use desktop_session::{Halted, Idle, Linked, UserWish};
 use dlp_commands::Link;
@@ -28,6 +30,7 @@ pub fn meet<L: Link>(
     requires begun { L.begun idle.link ≡ false }
     requires some { 1 ≤ length marks.now }
     requires room { length marks.now ≤ 16 }
+    ensures follows { Follows L.Link (meets marks.now wish.now) idle.link (link_met result) (met_of result) }
     ensures meets { Meets L.talk L.since L.fault L.downs marks.now wish.now idle.link result }
     ensures last { IfErr result (λ halted. IsByLastReply (L.talk halted.link) halted.cause) }
 {
@@ -51,6 +54,7 @@ pub fn meet_over<L: Link>(
     requires begun { L.begun link ≡ false }
     requires some { 1 ≤ length marks.now }
     requires room { length marks.now ≤ 16 }
+    ensures follows { Follows L.Link (meets marks.now wish.now) link (link_met result) (met_of result) }
     ensures meets { MeetsOrNot L.talk L.since L.fault L.downs marks.now wish.now link result }
     ensures last { IfErr result (λ halted. IsByLastReply (L.talk halted.link) halted.cause) }
 {
