@@ -21,6 +21,8 @@ use Rattle.sync_session.specs.Gains.{AreGained}
 use Rattle.sync_session.specs.Phases.{GainsMade}
 use Rattle.mirrors.proofs.AskLaws.{none_said, said_all}
 use Rattle.session_plan.specs.Blocks.{GivenBlocks, block_with_bytes}
+use Rattle.desktop_session.specs.Inquiries.{Ends, Inquiry}
+use Rattle.sync_session.specs.Inquiries.{writes_block}
 use Rattle.sync_session.specs.News.{block_act, block_acts}
 use Rattle.sync_session.proofs.FreeLaws.{NoId}
 use Rattle.desk_journal.proofs.StepLaws.{all-append}
@@ -39,6 +41,17 @@ pub block_some : (writing : ℕ → List ℕ → Act) (handle : ℕ) (bytes : Li
     → block_act writing handle (block_with_bytes (Some bytes)) ≡ writing handle bytes ∷ []
 block_some writing handle [] some = absurd cc
 block_some writing handle (byte ∷ bytes) some = refl
+
+-- the same of what is asked
+pub no_block : (writes : ℕ → List ℕ → Inquiry (Unit {0})) (handle : ℕ) (bytes : List ℕ) → length bytes ≡ 0
+    → writes_block writes handle (block_with_bytes (Some bytes)) ≡ Ends (Ok tt)
+no_block writes handle [] none = refl
+no_block writes handle (byte ∷ bytes) none = absurd (omega (arith, none))
+
+pub some_block : (writes : ℕ → List ℕ → Inquiry (Unit {0})) (handle : ℕ) (bytes : List ℕ) → (length bytes == 0) ≡ false
+    → writes_block writes handle (block_with_bytes (Some bytes)) ≡ writes handle bytes
+some_block writes handle [] some = absurd cc
+some_block writes handle (byte ∷ bytes) some = refl
 
 -- ---- what holds of each request holds of the blocks
 

@@ -9,12 +9,14 @@ pub mod LossLaws
 pub mod MeetJoins
 pub mod MeetingWords
 pub mod MostLaws
+pub mod NamesLaws
 pub mod NewsJoins
 pub mod OnceLaws
 pub mod OutcomeLaws
 pub mod PlannedLaws
 pub mod QuietLaws
 pub mod ReadJoins
+pub mod RepliesLaws
 pub mod RunLaws
 pub mod SaidLaws
 pub mod SeatLaws

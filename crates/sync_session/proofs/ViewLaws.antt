@@ -33,7 +33,7 @@ use Rattle.folder_files.specs.declared.parted.Parted.{Parted}
 -- ---- what goes by jobs and plans
 
 -- a planned database with this view
-abbrev seen_as : View → Planned → Planned
+abbrev pub seen_as : View → Planned → Planned
 seen_as view one = record one { view = view }
 
 seen_as-same : (view : View) (old new : List Planned) → map (λ (one : Planned). one.job) new ≡ map (λ (one : Planned). one.job) old
@@ -47,7 +47,7 @@ seen_as-same view (one ∷ old) (other ∷ new) jobs plans =
 seen_as-same view old new jobs plans = absurd (cc)
 
 -- what is the same of databases with another view is the same where jobs and plans are
-by_plans {ℓ} : {A : Type ℓ} (F : List Planned → A) → ((view : View) (planned : List Planned) → F (map (seen_as view) planned) ≡ F planned)
+pub by_plans {ℓ} : {A : Type ℓ} (F : List Planned → A) → ((view : View) (planned : List Planned) → F (map (seen_as view) planned) ≡ F planned)
     → (old new : List Planned) → SameButViews old new → F new ≡ F old
 by_plans F unseen [] [] same = refl
 by_plans F unseen (one ∷ old) (other ∷ new) same =
@@ -133,12 +133,12 @@ module _ (view : View) where
   parted-seen stranger shelves before (one ∷ planned) =
       ap (with_parting one.job.name (parting_planned stranger shelves before one)) (parted-seen stranger shelves before planned)
 
-  taken_slots-seen : (done : Marks) (user : UserInfo) (planned : List Planned) (ids : List (List ℕ)) (place : ℕ) (slots : List SlotValue)
+  pub taken_slots-seen : (done : Marks) (user : UserInfo) (planned : List Planned) (ids : List (List ℕ)) (place : ℕ) (slots : List SlotValue)
       → taken_slots done user (map (seen_as view) planned) ids place slots ≡ taken_slots done user planned ids place slots
   unfolding taken_slots
   taken_slots-seen done user planned ids place slots = rw (changes_of-seen, parted-seen) refl
 
-  taken_entries-seen : (done : Marks) (user : UserInfo) (planned : List Planned) (ids : List (List ℕ)) (place : ℕ) (slots : List SlotValue)
+  pub taken_entries-seen : (done : Marks) (user : UserInfo) (planned : List Planned) (ids : List (List ℕ)) (place : ℕ) (slots : List SlotValue)
       → taken_entries done user (map (seen_as view) planned) ids place slots ≡ taken_entries done user planned ids place slots
   unfolding taken_entries
   taken_entries-seen done user planned ids place slots = rw (changes_of-seen, taken_slots-seen) refl

@@ -1,8 +1,10 @@
+pub mod ByReplies
 pub mod Courses
 pub mod Endings
 pub mod Fronts
 pub mod Gains
 pub mod Given
+pub mod Inquiries
 pub mod Leaving
 pub mod News
 pub mod Outcomes

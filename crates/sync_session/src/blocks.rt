@@ -1,10 +1,13 @@
 // The blocks of a database that a session makes on the handheld.
 ghost use Rattle.std.specs.Prelude.{◌≡◌, ◌≤◌, IfErr, IfSome, length};
 ghost use Rattle.std.specs.Option.{option_copied};
+ghost use Rattle.desktop_session.specs.Asking as asking;
+ghost use Rattle.desktop_session.specs.Following.{Follows};
 ghost use Rattle.desktop_session.specs.Requests.{writing_app, writing_sort};
 ghost use Rattle.mirrors.specs.Asks.{Asks};
 ghost use Rattle.session_parts.specs.Causes.{IsLater};
 ghost use Rattle.session_plan.specs.Blocks.{block_with_bytes, blocks_of};
+ghost use Rattle.sync_session.specs.Inquiries.{writes_block, writes_blocks};
 ghost use Rattle.sync_session.specs.News.{block_act, block_acts};
 
 use desktop_session::{OpenDb, SessionFault};
@@ -19,6 +22,9 @@ fn write_app<L: Link>(db: &mut OpenDb<'_, L>, block: Option<&[u8]>) -> Result<()
     ensures asks { Asks L.talk L.since L.fault L.downs
         (block_act writing_app db.old.handle (block_with_bytes (option_copied block.entry)))
         db.old.linked.now db.new.linked.now result }
+    ensures follows { Follows L.Link
+        (writes_block asking.writes_app db.old.handle (block_with_bytes (option_copied block.entry)))
+        db.old.linked.now.link db.new.linked.now.link result }
     ensures cause { IfErr result (IsLater (L.talk db.new.linked.now.link)
         (L.fault db.new.linked.now.link)) }
 {
@@ -39,6 +45,9 @@ fn write_sort<L: Link>(db: &mut OpenDb<'_, L>, block: Option<&[u8]>) -> Result<(
     ensures asks { Asks L.talk L.since L.fault L.downs
         (block_act writing_sort db.old.handle (block_with_bytes (option_copied block.entry)))
         db.old.linked.now db.new.linked.now result }
+    ensures follows { Follows L.Link
+        (writes_block asking.writes_sort db.old.handle (block_with_bytes (option_copied block.entry)))
+        db.old.linked.now.link db.new.linked.now.link result }
     ensures cause { IfErr result (IsLater (L.talk db.new.linked.now.link)
         (L.fault db.new.linked.now.link)) }
 {
@@ -62,6 +71,9 @@ pub(crate) fn write_blocks<L: Link>(
     ensures asks { Asks L.talk L.since L.fault L.downs
         (block_acts db.old.handle (blocks_of (option_copied rows.entry)))
         db.old.linked.now db.new.linked.now result }
+    ensures follows { Follows L.Link
+        (writes_blocks db.old.handle (blocks_of (option_copied rows.entry)))
+        db.old.linked.now.link db.new.linked.now.link result }
     ensures cause { IfErr result (IsLater (L.talk db.new.linked.now.link)
         (L.fault db.new.linked.now.link)) }
 {

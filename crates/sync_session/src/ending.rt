@@ -1,7 +1,10 @@
 // The end of a session, once the desktop has committed.
 ghost use Rattle.std.specs.Prelude.{◌≡◌, ◌∷◌, [], false};
+ghost use Rattle.desktop_session.specs.Ends.{end_of, link_ended};
+ghost use Rattle.desktop_session.specs.Following.{Follows};
 ghost use Rattle.desktop_session.specs.Requests.{ending, marking};
 ghost use Rattle.sync_session.specs.Endings.{Ends};
+ghost use Rattle.sync_session.specs.Inquiries.{finishes};
 ghost use Rattle.session_plan.specs.Users as users;
 
 use crate::marking::finish;
@@ -19,9 +22,11 @@ pub fn end_all<L: Link>(
     done: &Marks,
 ) -> Result<Ended<L>, Halted<L>>
     requires { linked.abandoned ≡ false }
-    ensures { Ends L.talk L.since L.fault L.downs planned.now
+    ensures ends { Ends L.talk L.since L.fault L.downs planned.now
         (marking (users.done_user linked.user done.now) 0xF0 ∷ ending ∷ [])
         linked result }
+    ensures follows { Follows L.Link (finishes linked.user done.now planned.now) linked.link
+        (link_ended result) (end_of result) }
 {
     let mut linked = linked;
     match purge_all(&mut linked, planned) {

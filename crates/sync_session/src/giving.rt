@@ -3,10 +3,18 @@ ghost use Rattle.std.specs.Prelude.{◌≡◌, ◌+◌, ◌↔◌, ◌∷◌, �
 ghost use Rattle.std.specs.Option.{option_copied};
 ghost use Rattle.desk_store.specs.Views.{shelves_in};
 ghost use Rattle.desktop_session.specs.declared.fault.SessionFault.TheVariants as session;
+ghost use Rattle.desktop_session.specs.Answers.{mapped};
+ghost use Rattle.desktop_session.specs.Asking.{makes, opens};
+ghost use Rattle.desktop_session.specs.Following.{Follows};
 ghost use Rattle.desktop_session.specs.Requests.{making, marking, opening};
 ghost use Rattle.mirrors.specs.News.{news_of};
+ghost use Rattle.mirrors.specs.WriteInquiries.{sends_news};
+ghost use Rattle.session_parts.specs.Inquiries.{each, under};
 ghost use Rattle.session_plan.specs.Blocks.{blocks_of};
 ghost use Rattle.session_plan.specs.Heads as heads;
+ghost use Rattle.session_plan.specs.Takes.{each_of};
+ghost use Rattle.sync_session.specs.Inquiries as inquiries;
+ghost use Rattle.sync_session.specs.Inquiries.{gives_old, gives_one, sends};
 ghost use Rattle.sync_session.specs.Phases.{Fills, GainsEach, GainsIds, GainsMade, gained, made_within, news_under, news_within, opened_news};
 ghost use Rattle.session_parts.specs.Causes.{IsLater};
 ghost use Rattle.session_parts.specs.Spans.{Spans};
@@ -37,6 +45,8 @@ pub fn give_one<L: Link>(
     ensures spans { Spans L.talk L.since L.fault L.downs (news_within (opening name.now) plan.now)
         (GainsIds (opening name.now) (L.talk linked.old.link) plan.now)
         linked.old linked.new result }
+    ensures follows { Follows L.Link (under (opens 0xD0 name.now) (λ handle. sends_news handle plan.now))
+        linked.old.link linked.new.link (mapped (λ ids. ids.items) result) }
 {
     let mut opened = linked.open(name)?;
     let ids = match send_news(alloc, &mut opened, plan) {
@@ -61,6 +71,9 @@ fn fill<L: Link>(
     ensures same_handle { db.new.handle ≡ db.old.handle }
     ensures fills { Fills L.talk L.since L.fault L.downs db.old.handle
         (blocks_of (option_copied rows.entry)) plan.now db.old.linked.now db.new.linked.now result }
+    ensures follows { Follows L.Link
+        (inquiries.fills db.old.handle (blocks_of (option_copied rows.entry)) plan.now)
+        db.old.linked.now.link db.new.linked.now.link (mapped (λ ids. ids.items) result) }
     ensures cause { IfErr result (IsLater (L.talk db.new.linked.now.link)
         (L.fault db.new.linked.now.link)) }
 {
@@ -82,6 +95,9 @@ pub fn make_one<L: Link>(
         Spans L.talk L.since L.fault L.downs (made_within head.now blocks (news_of plan.now))
         (λ handle given ids. GainsMade head.now blocks (L.talk linked.old.link) plan.now handle given
         ids.items) linked.old linked.new result }
+    ensures follows { let blocks = blocks_of (option_copied rows.entry) in
+        Follows L.Link (under (makes head.now) (λ handle. inquiries.fills handle blocks plan.now))
+        linked.old.link linked.new.link (mapped (λ ids. ids.items) result) }
 {
     let mut opened = linked.create(head)?;
     let ids = match fill(alloc, &mut opened, rows, plan) {
@@ -114,6 +130,8 @@ fn give_old<L: Link>(
         (opened_news name.now (news_of plan.now))
         (GainsIds (opening name.now) (L.talk linked.old.link) plan.now)
         linked.old linked.new result }
+    ensures follows { Follows L.Link (gives_old name.now plan.now (news_of plan.now)) linked.old.link
+        linked.new.link (mapped (λ ids. ids.items) result) }
 {
     if is_nothing(&plan.replace, &plan.adds) {
         return Ok(Vec::new(alloc));
@@ -134,6 +152,8 @@ fn give_planned<L: Link, D: Folder>(
         (λ handle given ids. gained (shelves_in desk.now) (L.talk linked.old.link) one.now handle
         given ids.items)
         linked.old linked.new result }
+    ensures follows { Follows L.Link (gives_one (shelves_in desk.now) one.now) linked.old.link
+        linked.new.link (mapped (λ ids. ids.items) result) }
 {
     match &one.job.skip {
         Some(_) => Ok(Vec::new(alloc)),
@@ -172,6 +192,8 @@ pub fn give_all<L: Link, D: Folder>(
     ensures gives { SpansEach L.talk L.since L.fault L.downs (news_under (shelves_in desk.now))
         (GainsEach (shelves_in desk.now)) planned.now
         (λ made. made.items) linked.old linked.new result }
+    ensures follows { Follows L.Link (each (gives_one (shelves_in desk.now)) [] planned.now)
+        linked.old.link linked.new.link (mapped (λ made. each_of made.items) result) }
 {
     let mut ids = Vec::new(alloc);
     for one in planned {
@@ -193,6 +215,8 @@ pub fn send_all<L: Link, D: Folder>(
         (marking (users.begun_user linked.old.user) 0x40) (news_under (shelves_in desk.now))
         (GainsEach (shelves_in desk.now)) planned.now
         (λ made. made.items) linked.old linked.new result }
+    ensures follows { Follows L.Link (sends (shelves_in desk.now) linked.old.user planned.now)
+        linked.old.link linked.new.link (mapped (λ made. each_of made.items) result) }
 {
     begin(linked)?;
     give_all(alloc, linked, desk, planned)

@@ -3,11 +3,14 @@ ghost use Rattle.std.specs.Prelude.{◌≡◌, ◌∷◌, [], IfErr, IfOk, false
 ghost use Rattle.dlp_replies.specs.ReplyReading.{reply_at};
 ghost use Rattle.desktop_session.specs.Acts.{text};
 ghost use Rattle.desktop_session.specs.Answers.{answer_by, no_more, said_in};
-ghost use Rattle.desktop_session.specs.Ends.{link_ended};
+ghost use Rattle.desktop_session.specs.Asking.{marks};
+ghost use Rattle.desktop_session.specs.Ends.{end_of, link_ended};
+ghost use Rattle.desktop_session.specs.Following.{Follows};
 ghost use Rattle.desktop_session.specs.Requests.{ending, marking};
 ghost use Rattle.desktop_session.specs.Stops.{AsksOne, Does, Stops};
 ghost use Rattle.session_parts.specs.Causes.{IsLater};
 ghost use Rattle.session_plan.specs.Users as users;
+ghost use Rattle.sync_session.specs.Inquiries.{ends_with};
 
 use desktop_session::{Ended, Halted, Linked, SessionFault};
 use dlp_commands::Link;
@@ -21,6 +24,8 @@ pub fn begin<L: Link>(linked: &mut Linked<L>) -> Result<(), SessionFault>
         (marking (users.begun_user linked.old.user) 0x40) linked.old linked.new }
     ensures answer { result ≡ answer_by (L.fault linked.new.link)
         (said_in 0x11 no_more (reply_at 0x11 linked.new.reply)) }
+    ensures follows { Follows L.Link (marks (users.begun_user linked.old.user) 0x40) linked.old.link
+        linked.new.link result }
 {
     let user = begun_user(linked.user());
     linked.mark(&user, 0x40)
@@ -38,6 +43,8 @@ pub fn finish<L: Link>(linked: Linked<L>, done: &Marks) -> Result<Ended<L>, Halt
         linked.link ended.link) }
     ensures cause { IfErr result (λ halted. IsLater (L.talk halted.link) (L.fault halted.link)
         halted.cause) }
+    ensures follows { Follows L.Link (ends_with linked.user done.now) linked.link (link_ended result)
+        (end_of result) }
 {
     let mut linked = linked;
     let user = done_user(linked.user(), done);

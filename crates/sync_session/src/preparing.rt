@@ -1,7 +1,12 @@
 // What a session does before it writes.
 ghost use Rattle.std.specs.Prelude.{◌≡◌, All, OnOk, false};
 ghost use Rattle.desk_store.specs.Views.{marks_in, parted_in, shelves_in};
+ghost use Rattle.desktop_session.specs.Answers.{mapped};
+ghost use Rattle.desktop_session.specs.Following.{Follows};
+ghost use Rattle.sync_session.specs.ByReplies as replies;
+ghost use Rattle.sync_session.specs.ByReplies.{planned_seen};
 ghost use Rattle.sync_session.specs.Courses.{JudgesPlanned, Prepares, ReadsAll};
+ghost use Rattle.sync_session.specs.Inquiries.{reads_all};
 ghost use Rattle.sync_session.specs.Unseen.{HasNoView, SameButViews};
 ghost use Rattle.session_plan.specs.PlannedLosses.{loss_planned};
 ghost use Rattle.sync_session.specs.Stopping.{refusal_by};
@@ -48,6 +53,8 @@ pub fn read_and_plan<L: Link, D: Folder>(
     requires { linked.old.abandoned ≡ false }
     ensures reads { ReadsAll L.talk L.since L.fault L.downs heads.now wishes.now desk.now linked.old
         linked.new result }
+    ensures follows { Follows L.Link (reads_all wishes.now desk.now linked.old.user heads.now)
+        linked.old.link linked.new.link (mapped (λ planned. planned_seen planned.items) result) }
     ensures open { OnOk result (linked.new.abandoned ≡ false) }
 {
     let agree = agree(linked.user(), desk.marks());
@@ -106,6 +113,8 @@ pub fn prepare<L: Link, D: Folder>(
     ensures prepares { Prepares L.talk L.since L.fault L.downs heads.now wishes.now desk.now
         linked.old
         linked.new result }
+    ensures follows { replies.Prepares L.Link wishes.now linked.old.user heads.now linked.old.link
+        linked.new.link desk.now result }
     ensures open { OnOk result (linked.new.abandoned ≡ false) }
 {
     let planned = read_and_plan(alloc, linked, desk, heads, wishes)?;

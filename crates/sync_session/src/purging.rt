@@ -1,7 +1,13 @@
 // What a handheld loses once the desktop has committed.
-ghost use Rattle.std.specs.Prelude.{◌≡◌, false};
+ghost use Rattle.std.specs.Prelude.{◌≡◌, [], false};
+ghost use Rattle.desktop_session.specs.Answers.{mapped};
+ghost use Rattle.desktop_session.specs.Asking.{opens};
+ghost use Rattle.desktop_session.specs.Following.{Follows};
 ghost use Rattle.desktop_session.specs.Requests.{opening};
 ghost use Rattle.mirrors.specs.News.{purge_writes};
+ghost use Rattle.mirrors.specs.WriteInquiries.{purges};
+ghost use Rattle.session_parts.specs.Inquiries.{each, under};
+ghost use Rattle.sync_session.specs.Inquiries.{purges_one};
 ghost use Rattle.sync_session.specs.Phases.{purges_under};
 ghost use Rattle.session_parts.specs.Spans.{Spans, within};
 ghost use Rattle.session_parts.specs.Stretches.{SpansEach, done_each, says_nothing};
@@ -25,6 +31,9 @@ pub fn purge_one<L: Link>(
     ensures spans { Spans L.talk L.since L.fault L.downs
         (within (opening name.now) (λ handle given. purge_writes handle plan.now.purge.items))
         (λ handle given done. Unit {0}) linked.old linked.new result }
+    ensures follows { Follows L.Link
+        (under (opens 0xD0 name.now) (λ handle. purges handle plan.now.purge.items))
+        linked.old.link linked.new.link result }
 {
     let mut opened = linked.open(name)?;
     match purge_side(&mut opened, plan) {
@@ -43,6 +52,7 @@ fn purge_planned<L: Link>(linked: &mut Linked<L>, one: &Planned) -> Result<(), S
     ensures spans { Spans L.talk L.since L.fault L.downs
         (purges_under (L.talk linked.old.link) one.now) (λ handle given done. Unit {0})
         linked.old linked.new result }
+    ensures follows { Follows L.Link (purges_one one.now) linked.old.link linked.new.link result }
 {
     match &one.job.skip {
         Some(_) => Ok(()),
@@ -56,6 +66,8 @@ pub fn purge_all<L: Link>(linked: &mut Linked<L>, planned: &[Planned]) -> Result
     requires { linked.old.abandoned ≡ false }
     ensures purges { SpansEach L.talk L.since L.fault L.downs purges_under says_nothing
         planned.now (done_each planned.now) linked.old linked.new result }
+    ensures follows { Follows L.Link (each purges_one [] planned.now) linked.old.link linked.new.link
+        (mapped (done_each planned.now) result) }
 {
     for one in planned {
         purge_planned(linked, one)?;

@@ -4,6 +4,13 @@ ghost use Rattle.std.specs.Option.{option_copied};
 ghost use Rattle.pdb_values.specs.NamedDatabases.{database_of};
 ghost use Rattle.desk_store.specs.Views.{shelves_in};
 ghost use Rattle.desktop_session.specs.declared.fault.SessionFault.TheVariants as session;
+ghost use Rattle.desktop_session.specs.Answers.{mapped};
+ghost use Rattle.desktop_session.specs.Asking.{opens};
+ghost use Rattle.desktop_session.specs.Following.{Follows};
+ghost use Rattle.mirrors.specs.ReadInquiries.{reads_fast, reads_slowly};
+ghost use Rattle.session_parts.specs.Inquiries.{each, under};
+ghost use Rattle.sync_session.specs.Inquiries as inquiries;
+ghost use Rattle.sync_session.specs.Inquiries.{reads_job, each_seen};
 ghost use Rattle.sync_session.specs.Readings.{ShowsEach, ShowsName, name_reads, reads_under};
 ghost use Rattle.session_parts.specs.Spans.{Spans};
 ghost use Rattle.session_parts.specs.Stretches.{SpansEach};
@@ -30,6 +37,8 @@ pub fn read_one<L: Link>(
     ensures spans { let told = L.talk linked.old.link in
         Spans L.talk L.since L.fault L.downs (name_reads false name.now [] told)
         (ShowsName false name.now [] told) linked.old linked.new result }
+    ensures follows { Follows L.Link (under (opens 0xD0 name.now) reads_slowly) linked.old.link
+        linked.new.link (mapped (λ view. view.seen.items) result) }
 {
     let mut opened = linked.open(name)?;
     let view = match read_slowly(alloc, &mut opened) {
@@ -55,6 +64,8 @@ pub fn read_changed<L: Link>(
     ensures spans { let told = L.talk linked.old.link in
         Spans L.talk L.since L.fault L.downs (name_reads true name.now base.now told)
         (ShowsName true name.now base.now told) linked.old linked.new result }
+    ensures follows { Follows L.Link (under (opens 0xD0 name.now) (reads_fast base.now))
+        linked.old.link linked.new.link (mapped (λ view. view.seen.items) result) }
 {
     let mut opened = linked.open(name)?;
     let view = match mirrors::read_fast(alloc, &mut opened, base) {
@@ -99,6 +110,9 @@ fn read_opened<L: Link>(
     ensures spans { let told = L.talk linked.old.link in
         Spans L.talk L.since L.fault L.downs (name_reads fast name.now base.now told)
         (ShowsName fast name.now base.now told) linked.old linked.new result }
+    ensures follows { Follows L.Link
+        (under (opens 0xD0 name.now) (inquiries.reads_under fast base.now)) linked.old.link
+        linked.new.link (mapped (λ view. view.seen.items) result) }
 {
     if fast {
         read_changed(alloc, linked, name, base)
@@ -118,6 +132,8 @@ fn read_job<L: Link, D: Folder>(
     ensures spans { let told = L.talk linked.old.link in
         Spans L.talk L.since L.fault L.downs (reads_under (shelves_in desk.now) told job.now)
         (ShowsEach (shelves_in desk.now) told job.now) linked.old linked.new result }
+    ensures follows { Follows L.Link (reads_job (shelves_in desk.now) job.now) linked.old.link
+        linked.new.link (mapped (λ view. view.seen.items) result) }
 {
     match &job.skip {
         Some(_) => Ok(no_view(alloc)),
@@ -153,6 +169,8 @@ pub fn read_all<L: Link, D: Folder>(
     ensures reads { SpansEach L.talk L.since L.fault L.downs (reads_under (shelves_in desk.now))
         (ShowsEach (shelves_in desk.now)) jobs.now
         (λ made. made.items) linked.old linked.new result }
+    ensures follows { Follows L.Link (each (reads_job (shelves_in desk.now)) [] jobs.now)
+        linked.old.link linked.new.link (mapped (λ made. each_seen made.items) result) }
 {
     let mut views = Vec::new(alloc);
     for job in jobs {

@@ -5,6 +5,8 @@ ghost use Rattle.desk_store.specs.Shelves.{AreInOrder, marks_of, number_of};
 ghost use Rattle.desk_store.specs.Views.{marks_in, shelves_in};
 ghost use Rattle.pdb_values.specs.Bounds.{most_databases};
 ghost use Rattle.desktop_session.specs.Seats.{seat_for as seat_of};
+ghost use Rattle.sync_session.specs.ByReplies as replies;
+ghost use Rattle.sync_session.specs.ByReplies.{AsksSession, Commits, Finishes, Sends, work_of};
 ghost use Rattle.sync_session.specs.Courses.{Carries, Closes, GoesOn, Runs, Writes, stopped as left_by};
 ghost use Rattle.session_parts.specs.Meets.{IsSeated};
 ghost use Rattle.session_plan.specs.Fits.{AreOfSession, CanTake, IsSeat};
@@ -68,7 +70,9 @@ fn close<L: Link, D: Folder>(
     done: &Marks,
 ) -> Outcome<L, D>
     requires { linked.abandoned ≡ false }
-    ensures { Closes L.talk L.since L.fault L.downs done.now prepared linked desk.folder result }
+    ensures closes { Closes L.talk L.since L.fault L.downs done.now prepared linked desk.folder result }
+    ensures follows { Finishes L.Link (work_of linked.user done.now prepared) linked.link desk.folder
+        result }
 {
     match end_all(linked, &prepared.planned, done) {
         Ok(ended) => Outcome {
@@ -91,8 +95,10 @@ fn commit<L: Link, D: Folder>(
 ) -> Outcome<L, D>
     requires open { linked.abandoned ≡ false }
     requires takes { CanTake done prepared.planned.items (each_of ids.now) desk.picked desk.slots }
-    ensures { Carries L.talk L.since L.fault L.downs D.contents D.moments D.paths D.faults done
+    ensures carries { Carries L.talk L.since L.fault L.downs D.contents D.moments D.paths D.faults done
         prepared (each_of ids.now) linked desk result }
+    ensures follows { Commits L.Link D.Folder (work_of linked.user done prepared) (each_of ids.now)
+        linked.link desk result }
 {
     let told = same_marks(&done);
     match commit_all(alloc, desk, &prepared.planned, ids, linked.user(), done) {
@@ -118,8 +124,9 @@ fn write<L: Link, D: Folder>(
     requires few { length (unskipped prepared.planned.items) ≤ most_databases }
     requires number { done.pc ≡ number_of desk.slots }
     requires seat { IsSeat desk.slots desk.picked done.user }
-    ensures { Writes L.talk L.since L.fault L.downs D.contents D.moments D.paths D.faults done
+    ensures writes { Writes L.talk L.since L.fault L.downs D.contents D.moments D.paths D.faults done
         prepared linked desk result }
+    ensures follows { Sends L.Link D.Folder (work_of linked.user done prepared) linked.link desk result }
 {
     let mut linked = linked;
     let prepared = Prepared {
@@ -147,8 +154,10 @@ fn go_on<L: Link, D: Folder>(
     requires formed { AreSlots (marks_of desk.slots) }
     requires marks { marks.now ≡ marks_of desk.slots }
     requires seated { IsSeated (seat_of marks.now wishes.now.user met.linked.user) }
-    ensures { GoesOn L.talk L.since L.fault L.downs D.contents D.moments D.paths D.faults marks.now
+    ensures goes_on { GoesOn L.talk L.since L.fault L.downs D.contents D.moments D.paths D.faults marks.now
         wishes.now met desk result }
+    ensures follows { replies.GoesOn L.Link D.Folder wishes.now met.linked.user met.heads.items
+        met.linked.link desk result }
 {
     let Met { linked, heads } = met;
     let mut linked = linked;
@@ -170,8 +179,9 @@ fn go_on<L: Link, D: Folder>(
 // A session from its beginning.
 fn run<L: Link, D: Folder>(alloc: Global, link: L, desk: Desk<D>, wishes: &Wishes) -> Outcome<L, D>
     requires { L.begun link ≡ false }
-    ensures { Runs L.talk L.since L.fault L.downs D.contents D.moments D.paths D.faults wishes.now
+    ensures runs { Runs L.talk L.since L.fault L.downs D.contents D.moments D.paths D.faults wishes.now
         link desk result }
+    ensures follows { AsksSession L.Link D.Folder wishes.now link desk result }
 {
     match desk.all_marks(alloc) {
         Ok(marks) => match meet_over(alloc, link, &marks, &wishes.user) {
@@ -196,6 +206,8 @@ pub fn run_session<L: Link, D: Folder>(
     requires { L.begun link ≡ false }
     ensures link { Leaves L.since L.fault L.downs link result.link }
     ensures folder { LeavesFolder D.contents D.moments D.paths D.faults desk.folder result }
+    // Over any link: what was asked by the replies so far, the commit by what they told, and why it ended.
+    ensures follows { AsksSession L.Link D.Folder wishes.now link desk result }
     // Over any link it stops by the link's fault, or where there is none.
     ensures cause { IfErr result.end (IsStopBy (L.fault result.link) (length desk.slots)) }
     // Over a link that tells a handheld on which nothing is open it is the session of both sides.

@@ -5,6 +5,7 @@ use Rattle.std.specs.Option.{option_copied}
 use Rattle.dlp_replies.specs.ReplyReading.{reply_at}
 use Rattle.mirrors.specs.News.{news_of, puts}
 use Rattle.mirrors.proofs.AskLaws.{all_said, asks_part, asks_then}
+use Rattle.mirrors.proofs.PartFollows.{then_ends, then_goes}
 use Rattle.session_parts.proofs.CauseLaws.{later_by}
 use Rattle.session_plan.specs.Blocks.{blocks_of}
 use Rattle.sync_session.specs.News.{block_acts}
@@ -38,3 +39,13 @@ returns-clause-fills g c =
 
 pub returns-clause-cause : goal.returns-clause-cause
 returns-clause-cause g c = later_put g.L.Link.talk g.L.Link.fault c.send_news.new.db.linked.now c.send_news.result c.send_news.ensures.puts.cause c.send_news.ensures.last
+
+pub returns-in_err-write_blocks-clause-follows : goal.returns-in_err-write_blocks-clause-follows
+returns-in_err-write_blocks-clause-follows g c =
+    let p = err_from_is_err_and c.from_residual.result c.from_residual.ensures.1 in
+    rw (p.1, p.2) (then_ends g.met.L.Link.heard_none g.met.L.Link.heard_more _ c.in_err-write_blocks.ensures.follows)
+
+pub returns-clause-follows : goal.returns-clause-follows
+returns-clause-follows g c =
+    then_goes g.met.L.Link.heard_none g.met.L.Link.heard_more _ c.in_ok-write_blocks.ensures.follows
+    (rw c.in_ok-write_blocks.ensures.same_handle at c.send_news.ensures.follows)

@@ -6,6 +6,12 @@ use Rattle.session_parts.proofs.LinkWords.{Talk, opening}
 use Rattle.mirrors.specs.News.{as_new, news_of, puts}
 use Rattle.sync_session.specs.Gains.{AreGained}
 use Rattle.session_parts.specs.Spans.{within}
+use Rattle.std.specs.Prelude.{Ok}
+use Rattle.desktop_session.specs.Asking.{opens}
+use Rattle.mirrors.specs.WriteInquiries.{sends_news}
+use Rattle.mirrors.proofs.PartFollows.{follows_none}
+use Rattle.session_parts.specs.Inquiries.{under}
+use Rattle.sync_session.specs.Inquiries.{gives_old}
 use Rattle.sync_session.proofs.giving.give_old.Goals as goal
 use Rattle.mirrors.proofs.NewsLaws.{free_none}
 
@@ -27,6 +33,17 @@ something_put : (name : List ℕ) (plan : Plan) → (length plan.replace.items +
     → within (opening name) (λ handle given. puts handle given (news_of plan)) ≡ opened_news name (news_of plan)
 something_put name plan some = some_put name plan.replace.items plan.adds.items some
 
+-- the same of what is asked
+some_given : (name : List ℕ) (plan : Plan) (rows : List (ℕ × ContentValue)) (adds : List ContentValue) → (length rows + length adds ≡ 0 → ⊥)
+    → gives_old name plan (rows ++ as_new adds) ≡ under (opens 0xD0 name) (λ handle. sends_news handle plan)
+some_given name plan [] [] some = absurd (some refl)
+some_given name plan [] (c ∷ adds) some = refl
+some_given name plan (r ∷ rows) adds some = refl
+
+something_given : (name : List ℕ) (plan : Plan) → (length plan.replace.items + length plan.adds.items ≡ 0 → ⊥)
+    → gives_old name plan (news_of plan) ≡ under (opens 0xD0 name) (λ handle. sends_news handle plan)
+something_given name plan some = some_given name plan plan.replace.items plan.adds.items some
+
 no_drop : (n : ℕ) → drop {A = ℕ} n [] ≡ []
 no_drop zero = refl
 no_drop (suc n) = refl
@@ -47,10 +64,14 @@ returns-then-is_nothing g c =
     record {
       spans = rw (nothing_put c.args.plan.now none)
           (span_none g.met.L.Link.since_itself (none_gained _ c.args.plan.now 1 _ none c.new.ensures.items));
+      follows = rw (nothing_put c.args.plan.now none, c.new.ensures.items) (follows_none g.met.L.Link.heard_none (Ok []) _ refl);
     }
 
 pub returns : goal.returns
-returns g c = record {
-  spans = rw (← something_put c.args.name.now c.args.plan.now (λ none. absurd (let is = c.if-is_nothing.ensures.1
-      (rw (c.deref.ensures.value, c.deref-2.ensures.value) none) in cc))) c.give_one.ensures.spans;
-}
+returns g c =
+    let some : (length c.args.plan.now.replace.items + length c.args.plan.now.adds.items ≡ 0 → ⊥)
+    = λ none. absurd (let is = c.if-is_nothing.ensures.1 (rw (c.deref.ensures.value, c.deref-2.ensures.value) none) in cc) in
+    record {
+      spans = rw (← something_put c.args.name.now c.args.plan.now some) c.give_one.ensures.spans;
+      follows = rw (something_given c.args.name.now c.args.plan.now some) c.give_one.ensures.follows;
+    }

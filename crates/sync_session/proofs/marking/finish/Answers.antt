@@ -4,6 +4,7 @@ use Rattle.dlp_replies.specs.ReplyReading.{reply_at}
 use Rattle.session_parts.proofs.LinkWords.{text, no_more, said_in, ending}
 use Rattle.desktop_session.proofs.GreetLaws.{no_fault_said}
 use Rattle.desktop_session.proofs.StopLaws.{stops_more, stops_then}
+use Rattle.mirrors.proofs.PartFollows.{then_ends, then_goes}
 use Rattle.session_parts.proofs.CauseLaws.{later_ended, later_refused}
 use Rattle.sync_session.proofs.EndLaws.{does_before}
 use Rattle.sync_session.proofs.marking.finish.Goals as goal
@@ -32,3 +33,12 @@ returns-in-Ok-clause-cause g c =
 pub returns-in-Err-clause-cause : goal.returns-in-Err-clause-cause
 returns-in-Err-clause-cause g c =
     rw (c.halt.ensures.link, c.halt.ensures.cause) (later_refused no_more _ refl c.in-Err.ensures.asked c.in-Err.ensures.answer)
+
+pub returns-in-Ok-clause-follows : goal.returns-in-Ok-clause-follows
+returns-in-Ok-clause-follows g c =
+    then_goes g.met.L.Link.heard_none g.met.L.Link.heard_more _ (rw c.done_user-user.ensures at c.in-Ok.ensures.follows) c.finish.ensures.follows
+
+pub returns-in-Err-clause-follows : goal.returns-in-Err-clause-follows
+returns-in-Err-clause-follows g c =
+    rw (c.halt.ensures.link, c.halt.ensures.cause) (then_ends g.met.L.Link.heard_none g.met.L.Link.heard_more _
+    (rw c.done_user-user.ensures at c.in-Err.ensures.follows))

@@ -5,12 +5,18 @@ use Rattle.dlp_replies.specs.ReplyReading.{reply_at}
 use Rattle.session_parts.proofs.CauseLaws.{later_by_four}
 use Rattle.session_parts.proofs.HandleLaws.{opened_first}
 use Rattle.session_parts.proofs.SpanLaws.{span_done, span_stopped, span_unclosed, span_unopened}
+use Rattle.desktop_session.specs.Asking.{opens}
+use Rattle.session_parts.proofs.UnderLaws.{under_closed, under_stopped, under_unclosed, under_unopened}
+use Rattle.mirrors.specs.ReadInquiries.{reads_fast}
 use Rattle.sync_session.proofs.reading.read_changed.Goals as goal
 
 pub returns-in_err-opened : goal.returns-in_err-opened
 returns-in_err-opened g c =
     let p = err_from_is_err_and c.from_residual.result c.from_residual.ensures.1 in
-    record { spans = rw (p.1, p.2) (span_unopened 0x17 _ _ refl refl c.in_err-opened.was c.open.follows.holds-at-none) }
+    record {
+      spans = rw (p.1, p.2) (span_unopened _ 0x17 _ _ refl refl c.in_err-opened.was c.open.follows.holds-at-none);
+      follows = rw (p.1, p.2) (under_unopened g.met.L.Link.heard_none g.met.L.Link.heard_more (opens 0xD0 c.args.name.now) (reads_fast c.args.base.now) _ _ _ c.in_err-opened.was c.open.follows.holds-at-none);
+    }
 
 pub returns-in-Err : goal.returns-in-Err
 returns-in-Err g c =
@@ -19,6 +25,7 @@ returns-in-Err g c =
     record {
       spans = span_stopped g.met.L.Link.since_more _ [] opened (rw opened.told at c.in-Err.ensures.asks)
           (later_by_four _ _ (reply_at 0x2B reply) (reply_at 0x31 reply) (reply_at 0x1F reply) (reply_at 0x20 reply) _ c.in-Err.ensures.cause c.in-Err.ensures.last) (search rules);
+      follows = under_stopped g.met.L.Link.heard_none g.met.L.Link.heard_more (opens 0xD0 c.args.name.now) (reads_fast c.args.base.now) c.in_ok-opened.ensures.follows c.in-Err.ensures.follows (search rules);
     }
 
 pub returns-in_err-close : goal.returns-in_err-close
@@ -28,6 +35,8 @@ returns-in_err-close g c =
     record {
       spans = rw (p.1, p.2) (span_unclosed g.met.L.Link.since_more _ [] opened (rw opened.told at c.in-Ok.ensures.asks)
           c.in-Ok.ensures.same_handle c.in_err-close.ensures.asked c.in_err-close.ensures.answer (search rules));
+      follows = rw (p.1, p.2) (under_unclosed g.met.L.Link.heard_none g.met.L.Link.heard_more (opens 0xD0 c.args.name.now) (reads_fast c.args.base.now) c.in_ok-opened.ensures.follows c.in-Ok.ensures.follows
+          c.in-Ok.ensures.same_handle c.in_err-close.ensures.follows (search rules));
     }
 
 pub returns : goal.returns
@@ -36,4 +45,6 @@ returns g c =
     record {
       spans = span_done g.met.L.Link.since_more _ [] opened (rw opened.told at c.in-Ok.ensures.asks)
           c.in-Ok.ensures.same_handle c.in_ok-close.ensures.asked c.in_ok-close.ensures.answer (rw opened.told at c.in-Ok.ensures.view) (search rules);
+      follows = under_closed g.met.L.Link.heard_none g.met.L.Link.heard_more (opens 0xD0 c.args.name.now) (reads_fast c.args.base.now) c.in_ok-opened.ensures.follows c.in-Ok.ensures.follows
+          c.in-Ok.ensures.same_handle c.in_ok-close.ensures.follows (search rules);
     }

@@ -7,6 +7,9 @@ use Rattle.mirrors.specs.Reads.{entries_of, slow_reads}
 use Rattle.session_parts.proofs.CauseLaws.{later_by_two}
 use Rattle.session_parts.proofs.HandleLaws.{opened_first}
 use Rattle.session_parts.proofs.SpanLaws.{span_done, span_stopped, span_unclosed, span_unopened}
+use Rattle.desktop_session.specs.Asking.{opens}
+use Rattle.session_parts.proofs.UnderLaws.{under_closed, under_stopped, under_unclosed, under_unopened}
+use Rattle.mirrors.specs.ReadInquiries.{reads_slowly}
 use Rattle.sync_session.proofs.reading.read_one.Goals as goal
 
 pub returns-in_err-opened : goal.returns-in_err-opened
@@ -14,8 +17,9 @@ returns-in_err-opened g c =
     let p = err_from_is_err_and c.from_residual.result c.from_residual.ensures.1 in
     let told = saying (opening c.args.name.now ∷ []) (g.L.Link.talk c.args.linked.now.link) in
     record {
-      spans = rw (p.1, p.2) (span_unopened 0x17 (λ handle given. slow_reads handle (entries_of told handle)) _
+      spans = rw (p.1, p.2) (span_unopened _ 0x17 (λ handle given. slow_reads handle (entries_of told handle)) _
           refl refl c.in_err-opened.was c.open.follows.holds-at-none);
+      follows = rw (p.1, p.2) (under_unopened g.met.L.Link.heard_none g.met.L.Link.heard_more (opens 0xD0 c.args.name.now) reads_slowly _ _ _ c.in_err-opened.was c.open.follows.holds-at-none);
     }
 
 pub returns-in-Err : goal.returns-in-Err
@@ -26,6 +30,7 @@ returns-in-Err g c =
     record {
       spans = span_stopped g.met.L.Link.since_more (λ handle given. slow_reads handle (entries_of told handle)) [] opened
           (rw opened.told at c.in-Err.ensures.asks) (later_by_two _ _ (reply_at 0x2B reply) (reply_at 0x20 reply) _ c.in-Err.ensures.cause c.in-Err.ensures.last) (search rules);
+      follows = under_stopped g.met.L.Link.heard_none g.met.L.Link.heard_more (opens 0xD0 c.args.name.now) reads_slowly c.in_ok-opened.ensures.follows c.in-Err.ensures.follows (search rules);
     }
 
 pub returns-in_err-close : goal.returns-in_err-close
@@ -36,6 +41,8 @@ returns-in_err-close g c =
     record {
       spans = rw (p.1, p.2) (span_unclosed g.met.L.Link.since_more (λ handle given. slow_reads handle (entries_of told handle)) [] opened
           (rw opened.told at c.in-Ok.ensures.asks) c.in-Ok.ensures.same_handle c.in_err-close.ensures.asked c.in_err-close.ensures.answer (search rules));
+      follows = rw (p.1, p.2) (under_unclosed g.met.L.Link.heard_none g.met.L.Link.heard_more (opens 0xD0 c.args.name.now) reads_slowly c.in_ok-opened.ensures.follows c.in-Ok.ensures.follows
+          c.in-Ok.ensures.same_handle c.in_err-close.ensures.follows (search rules));
     }
 
 pub returns : goal.returns
@@ -45,4 +52,6 @@ returns g c =
     record {
       spans = span_done g.met.L.Link.since_more (λ handle given. slow_reads handle (entries_of told handle)) [] opened (rw opened.told at c.in-Ok.ensures.asks)
           c.in-Ok.ensures.same_handle c.in_ok-close.ensures.asked c.in_ok-close.ensures.answer (rw opened.told at c.in-Ok.ensures.view) (search rules);
+      follows = under_closed g.met.L.Link.heard_none g.met.L.Link.heard_more (opens 0xD0 c.args.name.now) reads_slowly c.in_ok-opened.ensures.follows c.in-Ok.ensures.follows
+          c.in-Ok.ensures.same_handle c.in_ok-close.ensures.follows (search rules);
     }

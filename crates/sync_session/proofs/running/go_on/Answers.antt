@@ -8,6 +8,7 @@ use Rattle.sync_session.specs.Courses.{done_for, picked_for}
 use Rattle.sync_session.proofs.FitLaws.{prepared-few, prepared-of-session}
 use Rattle.session_parts.proofs.MeetLaws.{seated_pickable}
 use Rattle.sync_session.proofs.SeatLaws.{seat-picked}
+use Rattle.sync_session.proofs.RepliesLaws.{went_on}
 use Rattle.sync_session.proofs.running.go_on.Goals as goal
 
 pub pick-requires : goal.pick-requires
@@ -41,18 +42,26 @@ returns-in-Ok g c =
     let done : c.done_marks-done.result ≡ done_for wishes user desk
     = ends_so ∙ ap (λ (marks : List Marks). done_marks wishes.date wishes.user.name marks user (marks_in desk)) c.requires.marks in
     record {
-      now = c.prepare.new.linked;
-      answer = Ok c.in-Ok.prepared;
-      prepares = rw (c.deref.ensures.value, picked) at c.in-Ok.ensures.prepares;
-      goes = rw (picked, done) at c.write.ensures;
+      goes_on = record {
+        now = c.prepare.new.linked;
+        answer = Ok c.in-Ok.prepared;
+        prepares = rw (c.deref.ensures.value, picked) at c.in-Ok.ensures.prepares;
+        goes = rw (picked, done) at c.write.ensures.writes;
+      };
+      follows = went_on (rw (c.deref.ensures.value, picked, c.requires.marks) at c.in-Ok.ensures.follows)
+          (rw (picked, done, c.requires.marks, c.in-Ok.ensures.prepares.reads.reads.user) at c.write.ensures.follows);
     }
 
 pub returns : goal.returns
 returns g c =
     let picked = rw (c.seat_for.ensures.slot, c.user.ensures) at c.pick.ensures in
     record {
-      now = c.prepare.new.linked;
-      answer = Err c.in-Err.stop;
-      prepares = rw (c.deref.ensures.value, picked) at c.in-Err.ensures.prepares;
-      goes = rw (c.stopped.ensures, c.link_of.ensures, picked);
+      goes_on = record {
+        now = c.prepare.new.linked;
+        answer = Err c.in-Err.stop;
+        prepares = rw (c.deref.ensures.value, picked) at c.in-Err.ensures.prepares;
+        goes = rw (c.stopped.ensures, c.link_of.ensures, picked);
+      };
+      follows = went_on (rw (c.deref.ensures.value, picked, c.requires.marks) at c.in-Err.ensures.follows)
+          (rw (c.stopped.ensures, c.link_of.ensures, picked, c.requires.marks));
     }

@@ -6,6 +6,9 @@ use Rattle.session_plan.specs.Users.{begun_user}
 use Rattle.session_plan.proofs.FitLaws.{session-rises}
 use Rattle.sync_session.proofs.FitLaws.{session-takes}
 use Rattle.sync_session.proofs.ViewLaws.{length-unskipped_same, of_session-same, writes-same}
+use Rattle.session_plan.specs.Takes.{each_of}
+use Rattle.sync_session.specs.ByReplies.{work_of}
+use Rattle.sync_session.proofs.RepliesLaws.{sent-same}
 use Rattle.sync_session.proofs.running.write.Goals as goal
 
 pub commit-requires-clause-takes : goal.commit-requires-clause-takes
@@ -22,17 +25,33 @@ commit-requires-clause-takes g c =
     })
 
 pub returns-in-Ok : goal.returns-in-Ok
-returns-in-Ok g c = writes-same c.args.prepared c.without_views.result c.without_views.ensures.same (record {
-  now = c.send_all.new.linked;
-  answer = Ok c.in-Ok.ids;
-  sends = rw c.deref.ensures.value at c.in-Ok.ensures.sends;
-  goes = rw c.deref-in-Ok.ensures.value at c.commit.ensures;
-})
+returns-in-Ok g c = record {
+  writes = writes-same c.args.prepared c.without_views.result c.without_views.ensures.same (record {
+    now = c.send_all.new.linked;
+    answer = Ok c.in-Ok.ids;
+    sends = rw c.deref.ensures.value at c.in-Ok.ensures.sends;
+    goes = rw c.deref-in-Ok.ensures.value at c.commit.ensures.carries;
+  });
+  follows = sent-same c.without_views.ensures.same (work_of c.args.linked.user c.args.done c.args.prepared) (record {
+    now = c.send_all.new.linked.link;
+    answer = Ok (each_of c.in-Ok.ids.items);
+    follows = rw c.deref.ensures.value at c.in-Ok.ensures.follows;
+    goes = rw (c.deref-in-Ok.ensures.value, c.in-Ok.ensures.sends.user) at c.commit.ensures.follows;
+  });
+}
 
 pub returns-in-Err : goal.returns-in-Err
-returns-in-Err g c = writes-same c.args.prepared c.without_views.result c.without_views.ensures.same (record {
-  now = c.send_all.new.linked;
-  answer = Err c.in-Err.cause;
-  sends = rw c.deref.ensures.value at c.in-Err.ensures.sends;
-  goes = rw (c.stopped.ensures, c.link_of.ensures);
-})
+returns-in-Err g c = record {
+  writes = writes-same c.args.prepared c.without_views.result c.without_views.ensures.same (record {
+    now = c.send_all.new.linked;
+    answer = Err c.in-Err.cause;
+    sends = rw c.deref.ensures.value at c.in-Err.ensures.sends;
+    goes = rw (c.stopped.ensures, c.link_of.ensures);
+  });
+  follows = sent-same c.without_views.ensures.same (work_of c.args.linked.user c.args.done c.args.prepared) (record {
+    now = c.send_all.new.linked.link;
+    answer = Err c.in-Err.cause;
+    follows = rw c.deref.ensures.value at c.in-Err.ensures.follows;
+    goes = rw (c.stopped.ensures, c.link_of.ensures);
+  });
+}
