@@ -1,6 +1,7 @@
 -- The calls of a link.
-use Rattle.std.proofs.Common.{◌≡◌, ℕ, List, [], ◌∷◌, ◌++◌, refl, sym, subst, ◌∙◌, inl, inr, true}
-use Rattle.std.specs.Prelude.{Option, Some, None, Result}
+use Rattle.std.proofs.Common.{◌≡◌, ℕ, List, [], ◌∷◌, ◌++◌, refl, sym, subst, subst₂, ◌∙◌, inl, inr, true}
+use Rattle.std.specs.Prelude.{Option, Some, None, Result, Ok, Err}
+use Rattle.std.specs.Option.{option_map}
 use Rattle.std.specs.Result.{result_err}
 use Rattle.hs_folders.specs.Causes.{HasCause}
 use Rattle.port_line.specs.declared.port_fault.PortFault.{PortFault}
@@ -10,7 +11,11 @@ use Rattle.port_link.specs.declared.desk.Desk.{Desk}
 use Rattle.port_link.specs.declared.port_cause.PortCause.{PortCause}
 use Rattle.port_link.specs.declared.port_cause.PortCause.TheVariants.{PortFailed}
 use Rattle.port_link.specs.declared.turn.Turn.{Turn}
-use Rattle.port_link.specs.Calls.{Asks, Bears, Call, Converses, Greets, IsCall, LinkValue, Says, SaysHello, Since, is_quiet}
+use Rattle.dlp_commands.specs.declared.link.LinkFault.{LinkFault}
+use Rattle.dlp_commands.specs.Tries.{Try, tries_of}
+use Rattle.port_link.specs.Calls.{AreCalls, Asks, AsksGreeted, Bears, Call, Converses, Exchange, Greets, HailsFirst, Heard, HeardBy, Hello, IsCall, LinkValue, Says, SaysHello, Since, is_quiet, tries_at}
+use Rattle.port_link.specs.Causes.{link_fault}
+use Rattle.port_link.specs.SinceLaws.{heard_none, heard_one}
 use Rattle.port_link.specs.Listening.{Listens}
 use Rattle.port_link.specs.Mended.{heard}
 use Rattle.dlp_commands.specs.DeviceSteps.{first_byte}
@@ -69,10 +74,41 @@ hello-by result old new is begun not_begun id paths greets faults =
       };
     }
 
--- one call was made
-pub since-one : (call : Call) (old new : LinkValue) (cause : Option PortCause) → old.cause ≡ cause → IsCall cause call old new → Since old new
-since-one call old new cause is it =
-    (call ∷ [], (new, subst (λ (cause : Option PortCause). IsCall cause call old new) (sym is) it, refl))
+-- ---- one call was made
+
+pub heard-hello : (old new : LinkValue) → old.cause ≡ None → HailsFirst old new → Heard old [] new
+heard-hello old new none hails = heard_one Hello old new (subst (λ (c : Option PortCause). IsCall c Hello old new) (sym none) hails)
+
+asked-with : (request reply : List ℕ) (old new : LinkValue) (after : Option PortCause) → old.cause ≡ None → new.cause ≡ after
+    → AsksGreeted request reply old new → Heard old (tries_at None (Exchange request reply) after) new
+asked-with request reply old new after none is asks =
+    subst₂ (λ (before after : Option PortCause). Heard old (tries_at before (Exchange request reply) after) new) none is
+    (heard_one (Exchange request reply) old new (subst (λ (c : Option PortCause). IsCall c (Exchange request reply) old new) (sym none) asks))
+
+pub heard-answered : (request reply : List ℕ) (old new : LinkValue) → old.cause ≡ None → new.cause ≡ None → AsksGreeted request reply old new
+    → Heard old (tries_of (option_map link_fault old.cause) request reply (Ok tt)) new
+heard-answered request reply old new none fine asks =
+    subst (λ (c : Option PortCause). Heard old (tries_of (option_map link_fault c) request reply (Ok tt)) new) (sym none)
+    (asked-with request reply old new None none fine asks)
+
+pub heard-left : (request reply : List ℕ) (cause : PortCause) (fault : LinkFault) (old new : LinkValue) → old.cause ≡ None → new.cause ≡ Some cause
+    → AsksGreeted request reply old new → Heard old (tries_of (option_map link_fault old.cause) request reply (Err fault)) new
+heard-left request reply cause fault old new none failed asks =
+    subst (λ (c : Option PortCause). Heard old (tries_of (option_map link_fault c) request reply (Err fault)) new) (sym none)
+    (asked-with request reply old new (Some cause) none failed asks)
+
+pub heard-still : (request reply : List ℕ) (cause : PortCause) (answer : Result (Unit {0}) LinkFault) (old new : LinkValue) → old.cause ≡ Some cause
+    → new ≡ old → Heard old (tries_of (option_map link_fault old.cause) request reply answer) new
+heard-still request reply cause answer old new some same =
+    subst (λ (c : Option PortCause). Heard old (tries_of (option_map link_fault c) request reply answer) new) (sym some)
+    (subst (λ (v : LinkValue). Heard old [] v) (sym same) (heard_none old))
+
+calls-of : (old : LinkValue) (calls : List Call) (tries : List Try) (new : LinkValue) → HeardBy old calls tries new → AreCalls old calls new
+calls-of old [] tries new heard = heard.0
+calls-of old (call ∷ calls) tries new heard = (heard.0, heard.1, calls-of heard.0 calls heard.2 new heard.4)
+
+pub heard-since : (old : LinkValue) (tries : List Try) (new : LinkValue) → Heard old tries new → Since old new
+heard-since old tries new heard = (heard.0, calls-of old heard.0 tries new heard.1)
 
 -- one tick more
 pub bears-then : (ticks : List Scene) (a b c : Scene) (answer : Result Turn PortFault) → Bears ticks a b → is_quiet answer ≡ true → Listens Tick b c answer

@@ -127,9 +127,9 @@ hello-ran from old new none ran hails =
     (hello_told hails.answer old new none hails.first ran.stands says).stands (since-once ran.since (inl met.did))
 
 -- it was answered
-answered-ran : (from : Hand) (request : List ℕ) (old new : LinkValue) → old.cause ≡ None → new.cause ≡ None → RanAt from old
-    → AsksGreeted request old new → RanAt from new
-answered-ran from request old new none fine ran asks =
+answered-ran : (from : Hand) (request reply : List ℕ) (old new : LinkValue) → old.cause ≡ None → new.cause ≡ None → RanAt from old
+    → AsksGreeted request reply old new → RanAt from new
+answered-ran from request reply old new none fine ran asks =
     let was = ran.palm in
     let still = standing_told true old.scene.desk.end old.scene.held old.id was none asks.greeted ran.told_is ran.stands in
     let says = asks.asks.converses.says in
@@ -145,12 +145,12 @@ answered-ran from request old new none fine ran asks =
       replies_are = did.replies_are ∙ taken.replies_are;
     } in
     settled-ran from new palm (λ failed. absurd (failed fine)) taken.stood.told_is
-    (asks_told request asks.reply old new asks.short asks.bytes none asks.greeted ran.stands asks.asks).stands (since-once ran.since (inr one))
+    (asks_told request reply old new asks.short asks.bytes none asks.greeted ran.stands asks.asks).stands (since-once ran.since (inr one))
 
 -- it was left
-left-ran : (from : Hand) (request : List ℕ) (cause : PortCause) (old new : LinkValue) → old.cause ≡ None → new.cause ≡ Some cause → RanAt from old
-    → AsksGreeted request old new → RanAt from new
-left-ran from request cause old new none failed ran asks = go asked.stood.stands.at where
+left-ran : (from : Hand) (request reply : List ℕ) (cause : PortCause) (old new : LinkValue) → old.cause ≡ None → new.cause ≡ Some cause → RanAt from old
+    → AsksGreeted request reply old new → RanAt from new
+left-ran from request reply cause old new none failed ran asks = go asked.stood.stands.at where
   was : Palm
   was = ran.palm
 
@@ -181,7 +181,7 @@ left-ran from request cause old new none failed ran asks = go asked.stood.stands
       ∙ ap (λ (b : Bool). (talk_at (Some cause) b new.id new.scene.desk.end palm).device) (asks.asks.begun ∙ asks.greeted)
 
   stands : Standing new
-  stands = (asks_told request asks.reply old new asks.short asks.bytes none asks.greeted ran.stands asks.asks).stands
+  stands = (asks_told request reply old new asks.short asks.bytes none asks.greeted ran.stands asks.asks).stands
 
   made : DidOnce was.hand palm.hand → Once (talk_by new palm) palm.hand → RanAt from new
   made did once = record {
@@ -215,17 +215,17 @@ left-ran from request cause old new none failed ran asks = go asked.stood.stands
             ∙ ap (λ (es : List Exchange). es ++ exchange ∷ []) (sym (ap (λ (t : Talk). t.exchanges) told));
       }))
 
-asks-ran : (from : Hand) (request : List ℕ) (old new : LinkValue) → old.cause ≡ None → RanAt from old → AsksGreeted request old new → RanAt from new
-asks-ran from request old new none ran asks = go new.cause refl where
+asks-ran : (from : Hand) (request reply : List ℕ) (old new : LinkValue) → old.cause ≡ None → RanAt from old → AsksGreeted request reply old new → RanAt from new
+asks-ran from request reply old new none ran asks = go new.cause refl where
   go : (cause : Option PortCause) → new.cause ≡ cause → RanAt from new
-  go None is = answered-ran from request old new none is ran asks
-  go (Some cause) is = left-ran from request cause old new none is ran asks
+  go None is = answered-ran from request reply old new none is ran asks
+  go (Some cause) is = left-ran from request reply cause old new none is ran asks
 
 call-ran : (from : Hand) (call : Call) (old new : LinkValue) (cause : Option PortCause) → old.cause ≡ cause → RanAt from old → IsCall cause call old new
     → RanAt from new
 call-ran from call old new (Some cause) is ran it = subst (RanAt from) (sym it) ran
 call-ran from Hello old new None is ran it = hello-ran from old new is ran it
-call-ran from (Asking request) old new None is ran it = asks-ran from request old new is ran it
+call-ran from (Asking request reply) old new None is ran it = asks-ran from request reply old new is ran it
 
 pub calls-ran : (from : Hand) (calls : List Call) (old new : LinkValue) → RanAt from old → AreCalls old calls new → RanAt from new
 calls-ran from [] old new ran it = subst (RanAt from) (sym it) ran

@@ -1,9 +1,10 @@
 -- What a link over a port does at each call.
-use Rattle.std.specs.Prelude.{◌≡◌, ◌⊎◌, ◌<◌, ◌≤◌, ◌^◌, get_or, length, ℕ, Bool, true, false, List, [], ◌∷◌, Option, Some, None, Result, Ok, Err}
+use Rattle.std.specs.Prelude.{◌≡◌, ◌⊎◌, ◌<◌, ◌≤◌, ◌^◌, get_or, length, ℕ, Bool, true, false, List, [], ◌∷◌, ◌++◌, Option, Some, None, Result, Ok, Err}
 use Rattle.std.specs.Option.{option_map, unwrap_or}
 use Rattle.std.specs.Result.{result_err}
 use Rattle.dlp_commands.specs.declared.link.LinkFault.{LinkFault}
 use Rattle.dlp_commands.specs.DeviceSteps.{first_byte}
+use Rattle.dlp_commands.specs.Tries.{Answered, Try, Unanswered}
 use Rattle.hs_folders.specs.Causes.{HasCause}
 use Rattle.padp_link.specs.Receivers.{whole_of}
 use Rattle.port_laws.specs.Palms.{Palm}
@@ -140,10 +141,10 @@ first_link given taken palm paths faults = record {
   cause = None;
 }
 
--- it waits for a handheld's wake, or asks a request
+-- it waits for a handheld's wake, or asks a request, and takes this for the reply where one comes
 pub data Call : Type 0 where
   Hello : Call
-  Exchange : List ℕ → Call
+  Exchange : List ℕ → List ℕ → Call
 
 -- how the port and the count of its faults go on at a call
 pub record GoesOn (old new : LinkValue) : Type 0 where
@@ -194,18 +195,17 @@ pub record HailsFirst (old new : LinkValue) : Type 0 where
   pub says : SaysHello answer old new
 
 -- a request of at most 65,535 bytes is said to a handheld that was greeted
-pub record AsksGreeted (request : List ℕ) (old new : LinkValue) : Type 0 where
+pub record AsksGreeted (request reply : List ℕ) (old new : LinkValue) : Type 0 where
   pub greeted : old.begun ≡ true
   pub short : length request ≤ 65535
   pub bytes : (i : ℕ) → get_or request i 0 < 2 ^ 8
-  pub reply : List ℕ
   pub asks : Asks request reply old new
 
 -- the same of any call
 abbrev pub IsCall : Option PortCause → Call → LinkValue → LinkValue → Type 0
 IsCall (Some cause) call old new = new ≡ old
 IsCall None Hello old new = HailsFirst old new
-IsCall None (Exchange request) old new = AsksGreeted request old new
+IsCall None (Exchange request reply) old new = AsksGreeted request reply old new
 
 abbrev pub AreCalls : LinkValue → List Call → LinkValue → Type 0
 AreCalls old [] new = new ≡ old
@@ -215,6 +215,23 @@ AreCalls old (call ∷ calls) new =
 -- these calls were made since
 abbrev pub Since : LinkValue → LinkValue → Type 0
 Since old new = (calls : List Call) × AreCalls old calls new
+
+-- what a call asked, and what was replied, by why the link answered no more before it and behind it
+abbrev pub tries_at : Option PortCause → Call → Option PortCause → List Try
+tries_at before Hello after = []
+tries_at (Some cause) (Exchange request reply) after = []
+tries_at None (Exchange request reply) None = Answered request reply ∷ []
+tries_at None (Exchange request reply) (Some cause) = Unanswered request ∷ []
+
+-- calls were made since, and these are what they asked and what was replied
+abbrev pub HeardBy : LinkValue → List Call → List Try → LinkValue → Type 0
+HeardBy old [] tries new = (new ≡ old) × (tries ≡ [])
+HeardBy old (call ∷ calls) tries new =
+    (between : LinkValue) × IsCall old.cause call old between × (later : List Try)
+    × (tries ≡ tries_at old.cause call between.cause ++ later) × HeardBy between calls later new
+
+abbrev pub Heard : LinkValue → List Try → LinkValue → Type 0
+Heard old tries new = (calls : List Call) × HeardBy old calls tries new
 
 -- what is left of a link: where a handheld was greeted and nothing went wrong it lingers
 abbrev pub LeavesWith : Bool → Option PortCause → Scene → Option (List (List ℕ))

@@ -1,9 +1,10 @@
 //! A link over a port as a link.
-ghost use Rattle.std.specs.Prelude.{◌≡◌, ◌<◌, ◌^◌, ℕ, false, get_or, true, Err, IfSome, IsErrOf, OnErr, OnOk};
+ghost use Rattle.std.specs.Prelude.{◌≡◌, ◌<◌, ◌^◌, [], ℕ, false, get_or, true, Err, IfSome, IsErrOf, OnErr, OnOk};
 ghost use Rattle.std.specs.Result.{result_err};
 ghost use Rattle.dlp_commands.specs.DeviceSteps.{first_byte};
 ghost use Rattle.dlp_commands.specs.Links.{MayExchange, WentDown, first_fault};
 ghost use Rattle.dlp_commands.specs.Talks.{HasAnswer, LacksAnswer};
+ghost use Rattle.dlp_commands.specs.Tries.{tries_of};
 ghost use Rattle.port_link.specs.Calls.{AnswersExchange, AnswersHello};
 
 use crate::greeting::id_of_next;
@@ -26,9 +27,9 @@ fn function_of(request: &[u8]) -> u8
 // Beside the trait's clauses each method says what the machine of a desktop's end did at the port.
 impl<P: Port> Link for PortLink<P> {
     ghost use Rattle.std.specs.Option.{option_map};
-    ghost use Rattle.port_link.specs.Calls.{Since};
+    ghost use Rattle.port_link.specs.Calls.{Heard, Since};
     ghost use Rattle.port_link.specs.Causes.{downs_of, link_fault};
-    ghost use Rattle.port_link.specs.SinceLaws.{since_itself, since_more};
+    ghost use Rattle.port_link.specs.SinceLaws.{heard_more, heard_none, since_itself, since_more};
     ghost use Rattle.port_link.specs.Standing.{talk_of};
 
     ghost downs = { λ link. downs_of (option_map link_fault link.cause) };
@@ -40,6 +41,8 @@ impl<P: Port> Link for PortLink<P> {
     ghost talk = { λ link. talk_of link };
 
     ghost since = { λ first last. Since first last };
+
+    ghost heard = { λ first tries last. Heard first tries last };
 
     fn hello(&mut self) -> Result<u32, LinkFault>
         requires { ⟦<Self as Link>⟧.begun self.old ≡ false }
@@ -53,6 +56,7 @@ impl<P: Port> Link for PortLink<P> {
             (⟦<Self as Link>⟧.downs self.old) (⟦<Self as Link>⟧.downs self.new)
             (IsErrOf result LinkFault.Down) }
         ensures since { ⟦<Self as Link>⟧.since self.old self.new }
+        ensures heard { ⟦<Self as Link>⟧.heard self.old [] self.new }
 
         ensures answers { AnswersHello self.old.cause self.old self.new result }
     {
@@ -87,6 +91,8 @@ impl<P: Port> Link for PortLink<P> {
             (⟦<Self as Link>⟧.downs self.old) (⟦<Self as Link>⟧.downs self.new)
             (IsErrOf result LinkFault.Down) }
         ensures since { ⟦<Self as Link>⟧.since self.old self.new }
+        ensures heard { ⟦<Self as Link>⟧.heard self.old (tries_of
+            (⟦<Self as Link>⟧.fault self.old) request.now reply.new result) self.new }
 
         ensures answers { AnswersExchange self.old.cause request.now reply.new
             self.old self.new (result_err result) }
@@ -111,4 +117,8 @@ impl<P: Port> Link for PortLink<P> {
     ghost since_itself = { since_itself };
 
     ghost since_more = { since_more };
+
+    ghost heard_none = { heard_none };
+
+    ghost heard_more = { heard_more };
 }

@@ -1,5 +1,5 @@
 use Rattle.std.proofs.Common.{◌<◌, List, ℕ, get_or, refl, subst, sym, ap, arith}
-use Rattle.std.specs.Prelude.{Option, Some, None}
+use Rattle.std.specs.Prelude.{Option, Some, None, Ok, Err}
 use Rattle.std.specs.Option.{option_map}
 use Rattle.dlp_commands.specs.Links.{MayExchange}
 use Rattle.dlp_commands.specs.Talks.{HasAnswer, LacksAnswer}
@@ -7,16 +7,17 @@ use Rattle.port_link.specs.Causes.{link_fault}
 use Rattle.port_link.specs.declared.port_cause.PortCause.{PortCause}
 use Rattle.port_link.specs.Standing.{talk_of}
 use Rattle.port_link.proofs.LinkLaws.{asks_told, begun_is}
-use Rattle.port_link.specs.Calls.{Exchange, LinkValue, Since}
+use Rattle.dlp_commands.specs.Tries.{tries_of}
+use Rattle.port_link.specs.Calls.{Heard, LinkValue}
 use Rattle.port_link.specs.Courses.{scene}
 use Rattle.port_link.specs.Logs.{log_entries}
-use Rattle.port_link.proofs.CallLaws.{asks-by, since-one}
+use Rattle.port_link.proofs.CallLaws.{asks-by, heard-answered, heard-left, heard-since}
 use Rattle.port_link.proofs.MendedLaws.{bytes-of, heard-of}
 use Rattle.port_link.specs.Calls.{AnswersExchange}
 use Rattle.port_link.proofs.link.PortLinkLink.exchange.Goals as goal
 
-pub returns-in-Ok-clause-since : goal.returns-in-Ok-clause-since
-returns-in-Ok-clause-since g c =
+pub returns-in-Ok-clause-heard : goal.returns-in-Ok-clause-heard
+returns-in-Ok-clause-heard g c =
     let w = c.self.inside in
     let old : LinkValue = record {
       scene = scene (g.P.Port.given w.cable.port) (g.P.Port.taken w.cable.port) (g.P.Port.palm w.cable.port) w.reader.held w.cable.desk (log_entries w.cable.log.entries);
@@ -36,18 +37,17 @@ returns-in-Ok-clause-since g c =
       cause = w.cause;
     } in
     let may = subst (λ (value : LinkValue). MayExchange value.begun (option_map link_fault value.cause)) (sym c.self.view_is) c.requires in
-    subst (λ (value : LinkValue). Since value new) c.self.view_is
-    (since-one (Exchange c.args.request.now) old new None c.in_default.is (record {
+    subst (λ (value : LinkValue). Heard value (tries_of (option_map link_fault value.cause) c.args.request.now c.mend.new.reply (Ok tt)) new) c.self.view_is
+    (heard-answered c.args.request.now c.mend.new.reply old new c.in_default.is c.in_default.is (record {
       greeted = begun_is old.begun old.cause c.in_default.is may;
       short = c.converse.ensures.short;
       bytes = bytes-of c.bytes.ensures.bytes c.function_of-function.ensures.bytes;
-      reply = c.mend.new.reply;
       asks = asks-by c.args.request.now v.reply c.mend.new.reply old new None c.in_default.is c.id_of_next-self-inside.ensures refl c.converse.ensures.paths
           c.in-Ok.ensures.converses (λ fine. heard-of c.converse.new.reply c.mend.ensures c.function_of-function.ensures.function c.bytes.ensures.bytes) c.in-Ok.ensures.cause;
     }))
 
-pub returns-in-Err-clause-since : goal.returns-in-Err-clause-since
-returns-in-Err-clause-since g c =
+pub returns-in-Err-clause-heard : goal.returns-in-Err-clause-heard
+returns-in-Err-clause-heard g c =
     let w = c.self.inside in
     let old : LinkValue = record {
       scene = scene (g.P.Port.given w.cable.port) (g.P.Port.taken w.cable.port) (g.P.Port.palm w.cable.port) w.reader.held w.cable.desk (log_entries w.cable.log.entries);
@@ -67,15 +67,21 @@ returns-in-Err-clause-since g c =
       cause = Some c.in-Err.cause;
     } in
     let may = subst (λ (value : LinkValue). MayExchange value.begun (option_map link_fault value.cause)) (sym c.self.view_is) c.requires in
-    subst (λ (value : LinkValue). Since value new) c.self.view_is
-    (since-one (Exchange c.args.request.now) old new None c.in_default.is (record {
+    subst (λ (value : LinkValue). Heard value (tries_of (option_map link_fault value.cause) c.args.request.now v.reply (Err c.fault_of-in-Err.result)) new)
+    c.self.view_is
+    (heard-left c.args.request.now v.reply c.in-Err.cause c.fault_of-in-Err.result old new c.in_default.is refl (record {
       greeted = begun_is old.begun old.cause c.in_default.is may;
       short = c.converse.ensures.short;
       bytes = bytes-of c.bytes.ensures.bytes c.function_of-function.ensures.bytes;
-      reply = v.reply;
       asks = asks-by c.args.request.now v.reply v.reply old new (Some c.in-Err.cause) refl c.id_of_next-self-inside.ensures refl c.converse.ensures.paths
           c.in-Err.ensures.converses (λ fine. absurd cc) c.in-Err.ensures.cause;
     }))
+
+pub returns-in-Ok-clause-since : goal.returns-in-Ok-clause-since
+returns-in-Ok-clause-since g c = heard-since _ _ _ (returns-in-Ok-clause-heard g c)
+
+pub returns-in-Err-clause-since : goal.returns-in-Err-clause-since
+returns-in-Err-clause-since g c = heard-since _ _ _ (returns-in-Err-clause-heard g c)
 
 pub returns-in-Ok-clause-answered : goal.returns-in-Ok-clause-answered
 returns-in-Ok-clause-answered g c =
