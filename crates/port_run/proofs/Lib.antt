@@ -4,9 +4,11 @@ pub mod LogLaws
 pub mod CloseLaws
 pub mod TalkedLaws
 pub mod LeftLaws
+pub mod AskedLaws
 pub mod BehindLaws
 pub mod TalkLaws
 pub mod PrintedLaws
 pub mod SyncLaws
 pub mod EqualLaws
+pub mod NamesLaws
 pub mod UnreadLaws

@@ -17,7 +17,7 @@ calls-still (call ∷ calls) cause old new is it =
 
 call-goes : (call : Call) (old new : LinkValue) → old.cause ≡ None → IsCall old.cause call old new → GoesOn old new
 call-goes Hello old new is it = (subst (λ (o : Option PortCause). IsCall o Hello old new) is it).says.goes_on
-call-goes (Exchange request) old new is it = (subst (λ (o : Option PortCause). IsCall o (Exchange request) old new) is it).asks.goes_on
+call-goes (Exchange request reply) old new is it = (subst (λ (o : Option PortCause). IsCall o (Exchange request reply) old new) is it).asks.goes_on
 
 goes-same : (old : LinkValue) → old.cause ≡ None → GoesOn old old
 goes-same old none = record { paths = refl; faults = record { later = omega arith; rose = λ e. absurd cc; still = λ no. refl } }

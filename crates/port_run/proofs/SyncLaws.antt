@@ -35,6 +35,7 @@ use Rattle.call_parts.specs.declared.report.SessionEnd.{SessionEnd}
 use Rattle.call_parts.specs.declared.report.SessionEnd.TheVariants.{NotStarted, Ended, Stopped}
 use Rattle.call_parts.proofs.RetoldLaws.{by_end_both, by_end_then}
 use Rattle.call_parts.proofs.TraceLaws.{traced_from}
+use Rattle.port_run.proofs.AskedLaws.{asks_over}
 use Rattle.port_run.specs.Causes.{stop_status}
 use Rattle.port_run.specs.Ends.{BothLeft, LeftFor, SessionLeft}
 use Rattle.port_run.specs.Links.{Answered, answered, link_over}
@@ -181,6 +182,7 @@ module _ {cable : Cable} {slots : List SlotValue} (before after : SyncTold) {por
     slots = slots;
     slots_are = opened.slots_are;
     why = had.why;
+    asked = asks_over opened.finished_is refl refl had.asked;
     traced = traced_from before.trace opened.trace_taken opened.trace_later talk.traces.traced_is;
     both = subst (λ (told : Option Palm). IfSome told (λ (palm : Palm). IsAtRest palm.hand.device
         → BothLeft cable palm.hand.device after.port.palm before.desk after.desk (answered (link_over port) had.link.last had.answer) report)) opened.unsaid.palm

@@ -32,6 +32,7 @@ use Rattle.call_parts.proofs.SpokeLaws.{by_left, ended_ok}
 use Rattle.cmd_status.specs.declared.status.Status.{Status}
 use Rattle.cmd_status.specs.declared.status.Status.TheVariants.{NoMemory}
 use Rattle.front_laws.specs.Sound.{AreSoundWishes}
+use Rattle.port_run.specs.Asking.{AsksCable}
 use Rattle.port_run.specs.Ends.{LeftFor}
 use Rattle.port_link.specs.Causes.{link_fault}
 use Rattle.sync_session.specs.StopCauses.{IsStopBy}
@@ -42,6 +43,7 @@ use Rattle.port_run.specs.Told.{PortTold}
 use Rattle.port_run.specs.declared.closing.Closed.{Closed}
 use Rattle.port_run.specs.declared.synced.CableReport.{CableReport}
 use Rattle.port_run.specs.Wishes.{AsksFor}
+use Rattle.port_run.proofs.AskedLaws.{asks_over}
 use Rattle.port_run.proofs.BehindLaws.{fresh-told, left_for}
 use Rattle.port_run.proofs.CloseLaws.{Closing}
 use Rattle.port_run.proofs.LeftLaws.{EndsOver}
@@ -116,11 +118,12 @@ pub has_talked : {D : Type 0} {contents : D → Option FileMap} {moments : D →
     → EndsOver fault_of_link downs (meeting_of told.device slots wishes) link outcome.link (folder_told contents moments paths faults folder)
     (folder_told contents moments paths faults outcome.folder) outcome.end)
     → IfErr outcome.end (IsStopBy (option_map link_fault report.cause) (length slots))
+    → AsksCable cable slots (contents folder) link outcome.link (folder_told contents moments paths faults outcome.folder) outcome.end
     → Closing report.cause outcome.end closed → report.end ≡ closed.end → report.databases.items ≡ closed.databases.items
     → HasTalked cable slots (port_of link) after (folder_told contents moments paths faults folder)
     (folder_told contents moments paths faults outcome.folder) closed.status report
 has_talked {contents = contents} {moments} {paths} {faults} downs {cable} {wishes} slots {folder} link {outcome} {after} {closed} {report}
-    was first asked bounded date went left ends why closing is databases =
+    was first asked bounded date went left ends why asks closing is databases =
     let ran = went.0 in
     let before = folder_told contents moments paths faults folder in
     let later = folder_told contents moments paths faults outcome.folder in
@@ -131,6 +134,7 @@ has_talked {contents = contents} {moments} {paths} {faults} downs {cable} {wishe
         answer = outcome.end;
         over = subst (λ end. IsOver outcome.end end report.cause closed.status) (sym is) closing.over;
         why = why;
+        asked = asks_over refl was (sym went.1) asks;
         both = both_left downs slots link outcome.link after before later report outcome.end was first asked bounded date (is ∙ closing.end)
             (databases ∙ closing.databases) ends ran went.1;
       });

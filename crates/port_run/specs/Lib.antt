@@ -1,3 +1,4 @@
+pub mod Asking
 pub mod Causes
 pub mod Refusals
 pub mod Reports
@@ -6,6 +7,7 @@ pub mod DockSystems
 pub mod DockTalks
 pub mod Docks
 pub mod LogTexts
+pub mod Names
 pub mod Told
 pub mod Links
 pub mod Ends

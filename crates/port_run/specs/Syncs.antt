@@ -29,6 +29,7 @@ use Rattle.call_parts.specs.Stays.{StandsAsItDid}
 use Rattle.call_parts.specs.Stays.{StaysAsItWas}
 use Rattle.call_parts.specs.Traces.{TakesTrace, TracesFrames}
 use Rattle.call_parts.specs.declared.report.SessionEnd.{SessionEnd}
+use Rattle.port_run.specs.Asking.{AsksCable}
 use Rattle.port_run.specs.Ends.{BothLeft}
 use Rattle.port_run.specs.Links.{LinkRan, answered, link_over}
 use Rattle.port_run.specs.LogTexts.{cable_text}
@@ -61,9 +62,9 @@ pub record TellsSession (answer : Result (Vec DbReport) Stop) (report : CableRep
   pub traced : IsTracedStatus said status
 
 -- What was said over the port once it was opened, what became of the desktop's folder, what the
--- session answered, whose status is told, why it stopped, where it did, and what the trace took; and
--- where the port tells a handheld on which nothing
--- is open, what is left of both sides.
+-- session answered, whose status is told, why it stopped, where it did, what was asked, by the
+-- replies, and what the trace took; and where the port tells a handheld on which nothing is open,
+-- what is left of both sides.
 pub record SessionRan (cable : Cable) (before after : SyncTold) (status : Status)
     (report : CableReport) : Type 0 where
   pub desktop : HasDesktop before.desk.contents
@@ -77,6 +78,8 @@ pub record SessionRan (cable : Cable) (before after : SyncTold) (status : Status
   pub slots : List SlotValue
   pub slots_are : IsDesk (option_map finished before.desk.contents) slots
   pub why : IfErr answer (IsStopBy (option_map link_fault report.cause) (length slots))
+  pub asked : AsksCable cable slots (option_map finished before.desk.contents) (link_over opened)
+      link.last after.desk answer
   pub traced : TakesTrace cable.trace (cable_text (log_entries report.log)) before.trace after.trace
       status
   pub both : IfSome before.port.palm (λ (palm : Palm). IsAtRest palm.hand.device

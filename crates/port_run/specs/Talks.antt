@@ -20,6 +20,7 @@ use Rattle.call_parts.specs.Causes.{ByEnd}
 use Rattle.call_parts.specs.Told.{FolderTold}
 use Rattle.call_parts.specs.declared.report.SessionEnd.{SessionEnd}
 use Rattle.call_parts.specs.declared.report.SessionEnd.TheVariants.{Ended}
+use Rattle.port_run.specs.Asking.{AsksCable}
 use Rattle.port_run.specs.Ends.{LeftFor}
 use Rattle.port_run.specs.Links.{LinkRan, answered, link_over}
 use Rattle.port_link.specs.Causes.{link_fault}
@@ -63,7 +64,8 @@ pub record KeptSilent (before after : PortTold) (desk desk_after : FolderTold) (
   pub desktop : desk_after ≡ desk
 
 -- What was said and heard, what became of the desktop's folder, what the session answered, and the
--- status, which is that of this answer; why it stopped, where it did; and where the port tells a handheld on which nothing is open, what is left of both sides.
+-- status, which is that of this answer; why it stopped, where it did; what was asked, by the
+-- replies; and where the port tells a handheld on which nothing is open, what is left of both sides.
 pub record PortSession (cable : Cable) (slots : List SlotValue) (before after : PortTold)
     (desk desk_after : FolderTold) (status : Status) (report : CableReport) : Type 0 where
   pub link : LinkRan before after report.cause (log_entries report.log)
@@ -71,6 +73,7 @@ pub record PortSession (cable : Cable) (slots : List SlotValue) (before after : 
   pub answer : Result (Vec DbReport) Stop
   pub over : IsOver answer report.end report.cause status
   pub why : IfErr answer (IsStopBy (option_map link_fault report.cause) (length slots))
+  pub asked : AsksCable cable slots desk.contents (link_over before) link.last desk_after answer
   pub both : IfSome before.palm (λ (palm : Palm). IsAtRest palm.hand.device
       → LeftFor cable palm.hand.device slots after.palm desk desk_after
       (answered (link_over before) link.last answer) report)

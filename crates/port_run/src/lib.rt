@@ -27,7 +27,10 @@ mod wishes;
 pub use dock_program::{asks_docking, serve_on_system};
 pub use dock_report::{DockReport, Docked};
 pub use docking::serve_port;
-pub use laws::an_ended_session_over_a_cable_leaves_both_sides_equal;
+pub use laws::{
+    a_session_over_a_cable_names_no_other_database,
+    an_ended_session_over_a_cable_leaves_both_sides_equal,
+};
 pub use program::{asks_sync, sync_on_system};
 pub use synced::{CableReport, Synced};
 pub use syncing::sync;
