@@ -13,7 +13,7 @@ returns-in_err-opened g c =
     let p = err_from_is_err_and c.from_residual.result c.from_residual.ensures.1 in
     let told = saying (opening c.args.name.now ∷ []) (g.L.Link.talk c.args.linked.now.link) in
     record {
-      spans = rw (p.1, p.2) (span_unopened 0x17 (λ handle given. filed_under (option_copied c.args.rows_app) told handle) _
+      spans = rw (p.1, p.2) (span_unopened _ 0x17 (λ handle given. filed_under (option_copied c.args.rows_app) told handle) _
           refl refl c.in_err-opened.was c.open.follows.holds-at-none);
     }
 

@@ -17,7 +17,7 @@ unfolding backups_under
 returns-in_err-opened g c =
     let p = err_from_is_err_and c.from_residual.result c.from_residual.ensures.1 in
     let told = saying (opening_to_read c.args.head.now.name ∷ []) (g.L.Link.talk c.args.linked.now.link) in
-    record { spans = rw (p.1, p.2) (span_unopened 0x17 (λ handle given. backup_under (holds_resources c.args.head.now.attributes) (entries_of told handle) handle) _ refl refl c.in_err-opened.was c.open_read.follows.holds-at-none) }
+    record { spans = rw (p.1, p.2) (span_unopened _ 0x17 (λ handle given. backup_under (holds_resources c.args.head.now.attributes) (entries_of told handle) handle) _ refl refl c.in_err-opened.was c.open_read.follows.holds-at-none) }
 
 pub returns-in-Err : goal.returns-in-Err
 unfolding backups_under

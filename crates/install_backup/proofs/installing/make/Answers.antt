@@ -15,7 +15,7 @@ use Rattle.install_backup.proofs.installing.make.Goals as goal
 pub returns-in-Err-clause-spans : goal.returns-in-Err-clause-spans
 returns-in-Err-clause-spans g c =
     let held = rw (c.made_head.ensures, c.head.ensures.head) at c.create.follows.holds-at-none in
-    rw (c.not_made.ensures, fault_at) (span_unopened 0x18 (fill_acts c.args.database.now) _ refl refl c.in-Err.is held)
+    rw (c.not_made.ensures, fault_at) (span_unopened _ 0x18 (fill_acts c.args.database.now) _ refl refl c.in-Err.is held)
 
 pub returns-in-Err-clause-full : goal.returns-in-Err-clause-full
 returns-in-Err-clause-full g c =
