@@ -377,3 +377,60 @@ class Handheld:
             first = 0
         ids = [record.number for record in self.open[data[0]].records][first:first + most]
         return 0, len(ids).to_bytes(2, "big") + b"".join(it.to_bytes(4, "big") for it in ids)
+
+
+# The greeting of net: what the handheld says first, and how its second and third message begin.
+GREETING = (bytes.fromhex("900100000000000000200000000800000000000000").ljust(22, b"\0"), b"\x92\1".ljust(50, b"\0"), b"\x93".ljust(8, b"\0"))
+OF_NET = ("none", "tickles", "in_single_bytes", "handle_0", "indices_with_gaps", "a_hundred_databases")
+
+
+class NetHandheld(Handheld):
+    """The same behind USB or TCP: its messages are whole, each behind a head of six bytes, and none is acknowledged."""
+
+    def put(self, kind, transaction, message):
+        said = bytes([kind, transaction]) + len(message).to_bytes(4, "big") + message
+        for piece in (said[n:n + 1] for n in range(len(said))) if self.has("in_single_bytes") else (said,):
+            os.write(self.master, piece)
+
+    def answer(self, transaction, reply):
+        self.put(1, transaction, reply)
+
+    def take(self, seconds=0.05):
+        """The next message, its transaction and its bytes, or None where none comes within this time."""
+        if select.select([self.master], [], [], seconds)[0]:
+            try:
+                came = os.read(self.master, 65536)
+            except OSError:
+                came = b""
+            self.over = not came
+            self.held += came
+        size = 6 + int.from_bytes(self.held[2:6], "big")
+        if len(self.held) < max(size, 6):
+            return None
+        whole, self.held = self.held[:size], self.held[size:]
+        return whole[1], whole[6:]
+
+    def serve(self, done, seconds=60, behind=None):
+        """Serves until the desktop's end is done, or behind so many messages the port is pulled."""
+        until, asked = time.monotonic() + seconds, 0
+        self.put(1, 255, GREETING[0])
+        greeted = 1
+        while not done() and time.monotonic() < until and not self.over:
+            came = self.take()
+            if not came:
+                continue
+            asked += 1
+            if behind is not None and asked > behind:
+                return
+            transaction, message = came
+            if transaction == 255 and greeted < 3:
+                self.put(1, 255, GREETING[greeted])
+                greeted += 1
+            elif transaction != 255:
+                self.perform(transaction, message)
+
+    def perform(self, transaction, request):
+        self.heard += 1
+        if self.has("tickles"):
+            self.put(2, transaction, b"")
+        self.answer(transaction, self.reply(request))
