@@ -91,9 +91,10 @@ added_properties source kind app wanted item =
 abbrev pub IsSaid : Kind → Option (List ℕ) → Privacy → Record → Type 0
 IsSaid kind app wanted item = is_exported wanted item ≡ true → IsItem kind (item_of kind app item)
 
--- the record of this number is the first one that is exported and out of the form of its kind,
--- broken at this place, and such records are not kept
+-- the database is of the kind, the record of this number is the first one that is exported and out
+-- of the form of its kind, broken at this place, and such records are not kept
 abbrev pub IsRefusedAt : Kind → Privacy → BrokenRecords → DatabaseValue → ℕ → ℕ → Type 0
 IsRefusedAt kind wanted how database index place =
-    (how ≡ broken.Refused) × (first_bad (fault_of kind) wanted 0 database.records
+    (is_of_kind kind database.head ≡ true) × (how ≡ broken.Refused)
+    × (first_bad (fault_of kind) wanted 0 database.records
     ≡ Some (record { index = index; place = place }))

@@ -52,7 +52,7 @@ pub fn tasks_text(
     ensures kind { IsErrOf result ExportFault.CannotExport
         ↔ (is_of_kind Tasks database.now.head ≡ false) }
     ensures bad { (index place : ℕ) → IsErrOf result (ExportFault.BadRecord index place)
-        → IsRefusedAt Tasks privacy broken database.now index place }
+        ↔ IsRefusedAt Tasks privacy broken database.now index place }
     ensures read { IfOk result (λ _. broken ≡ Refused
         → first_bad (fault_of Tasks) privacy 0 database.now.records ≡ None) }
 {
@@ -83,7 +83,7 @@ pub fn dates_text(
     ensures kind { IsErrOf result ExportFault.CannotExport
         ↔ (is_of_kind Dates database.now.head ≡ false) }
     ensures bad { (index place : ℕ) → IsErrOf result (ExportFault.BadRecord index place)
-        → IsRefusedAt Dates privacy broken database.now index place }
+        ↔ IsRefusedAt Dates privacy broken database.now index place }
     ensures read { IfOk result (λ _. broken ≡ Refused
         → first_bad (fault_of Dates) privacy 0 database.now.records ≡ None) }
 {
