@@ -1,9 +1,9 @@
 """The page of the definitions that the promises cite: a chapter for each promise, which is a law of
-crates/hotsync_run/src/promises.rt, and a last one for the contracts of the calls.
+crates/run_promises/src/promises.rt, and a last one for the contracts of the calls.
 
-A chapter has the law, the definitions of that crate, of the crates of the commands and of
-call_parts that the law cites, in full,
-and a row for each further one that these cite and no chapter before it has. Each sentence is the
+A chapter has the law, the definitions of that crate, of the top call, of the crates of the commands
+and of call_parts that the law cites, in full, and a row for each further one that these cite and no
+chapter before it has. Each sentence is the
 one above the definition in its file.
 """
 import glob
@@ -12,13 +12,14 @@ import re
 
 from sources import TOP, read
 
+LAWS_CRATE = "run_promises"
 TOP_CRATE = "hotsync_run"
 # The crates whose definitions are shown in full where a law cites them.
-ON_TOP = (TOP_CRATE, "cmd_session", "cmd_files", "call_parts")
-PROMISES = f"crates/{TOP_CRATE}/src/promises.rt"
+ON_TOP = (LAWS_CRATE, TOP_CRATE, "cmd_session", "cmd_files", "call_parts")
+PROMISES = f"crates/{LAWS_CRATE}/src/promises.rt"
 CALLS = [f"crates/{TOP_CRATE}/src/{name}.rt" for name in ("command", "program")]
 # The sentences aren't looked for behind these, and what the contracts say comes last.
-STOPS = {(f"{TOP_CRATE}.{where}", name) for where, name in (
+STOPS = {(f"{LAWS_CRATE}.{where}", name) for where, name in (
     ("Headline", "Headline"), ("Headline", "IsAnsweredRun"), ("Calls", "IsAnsweredCall"))}
 NAMES_TAKEN = re.compile(r"use Rattle\.(\w+)\.specs\.(\w+)\.\{(.*)\}$")
 MODULE_TAKEN = re.compile(r"use Rattle\.(\w+)\.specs\.(\w+)(?: as (\w+))?$")
@@ -28,13 +29,12 @@ CITED = re.compile(r"([^\W\d][\w'-]*)((?:\.[^\W\d][\w'-]*)*)")
 HEAD = """\
 # Definitions
 
-What the promises stand on. Each is a law, a chapter here: the law, the definitions of the top
-crate, of the crates of the commands and of `call_parts` that it cites, in full, and a row for each
-further definition that these
-cite and no chapter before it has, down to the layouts of bytes. These are what a reader has to
-believe. A proof says that the program meets them, and no proof says that they are the ones that
-were meant. A file is whole where all of its definitions are in some chapter, and part where
-others stand beside them.
+What the promises stand on. Each is a law, a chapter here: the law, the definitions of its crate, of
+the top call, of the crates of the commands and of `call_parts` that it cites, in full, and a row
+for each further definition that these cite and no chapter before it has, down to the layouts of
+bytes. These are what a reader has to believe. A proof says that the program meets them, and no
+proof says that they are the ones that were meant. A file is whole where all of its definitions are
+in some chapter, and part where others stand beside them.
 
 In a contract a byte or a number is a natural number, a text or a slice is a list, and a type with
 private fields is seen as plain data: a name as its bytes, an id as its number, a date as its

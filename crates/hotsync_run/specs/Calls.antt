@@ -90,18 +90,6 @@ IsCall (Some (Categories words)) before after out out_after err err_after status
 IsCall (Some (Help topic)) before after out out_after err err_after status report =
     IsHelped topic out out_after err err_after status
 
--- a call: what its words ask for, its objects before and after it, and what it answered
-pub record Call : Type 0 where
-  pub task : Option WordTask
-  pub before : CallTold
-  pub after : CallTold
-  pub out : SinkTold
-  pub out_after : SinkTold
-  pub err : SinkTold
-  pub err_after : SinkTold
-  pub status : Status
-  pub report : Report
-
 -- What is known of a call holds of its objects before it and after it, as the members of their
 -- traits tell them, standard output and standard error behind the others, and of what it answered.
 abbrev pub OfProgram : (CallTold → CallTold → SinkTold → SinkTold → SinkTold → SinkTold → Status
@@ -114,12 +102,6 @@ OfProgram Fact palms desks sources traces outs errs palm desk source trace out e
     (call_told palms desks sources traces answer.device answer.desk read written)
     (sink_told outs out) (sink_told outs said) (sink_told errs err) (sink_told errs told)
     answer.status answer.report
-
--- what the contract of the program says of it
-abbrev pub IsAnsweredCall : Call → Type 0
-IsAnsweredCall call =
-    IsCall call.task call.before call.after call.out call.out_after call.err call.err_after
-    call.status call.report
 
 -- the words ask for a session: for a run, a dry one too, for one between made folders, for an
 -- install, a backup, a restore or categories; or for a handheld's end of one, over captured bytes

@@ -1,10 +1,2 @@
-pub mod Again
 pub mod Calls
-pub mod Clean
-pub mod Equal
-pub mod FilingCalls
-pub mod Headline
-pub mod Kept
-pub mod Lives
-pub mod Promises
 pub mod Systems

@@ -3,8 +3,8 @@
 //!
 //! The words say which command it is. What `cmd_session` has brings a handheld's folder and a desktop's together; what
 //! `cmd_files` has moves databases between a handheld and files, or is a handheld alone; what `hotsync_looks` has only looks, or
-//! helps. Above the call stand the program, which makes it over the system, and the promises, which are laws over what
-//! its contract says.
+//! helps. Above the call stands the program, which makes it over the system. What is promised of calls follows from what the
+//! contract says, and stands in `run_promises`.
 #![tactic(auto)]
 
 mod command;
@@ -12,7 +12,6 @@ mod counted_folder;
 mod hints;
 mod path_hints;
 mod program;
-pub mod promises;
 
 pub use call_parts::{Answer, Report, SessionEnd};
 pub use cmd_status::{FileSide, Status};

@@ -1,7 +1,0 @@
-use Rattle.hotsync_run.proofs.DryPromises.{dry_asked}
-use Rattle.hotsync_run.proofs.promises.a_dry_run_changes_nothing.Goals as goal
-
-pub returns : goal.returns
-returns c call run is asked =
-    let dry = dry_asked call run is asked in
-    (dry.handheld.stays, dry.desktop.stays)

@@ -1,5 +1,0 @@
-use Rattle.hotsync_run.proofs.CleanLaws.{goes_through_whole}
-use Rattle.hotsync_run.proofs.promises.a_line_without_harm_repeats_nothing.Goals as goal
-
-pub returns : goal.returns
-returns c call without is = goes_through_whole without is.ran

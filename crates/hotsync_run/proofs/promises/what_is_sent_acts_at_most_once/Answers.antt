@@ -1,5 +1,0 @@
-use Rattle.hotsync_run.proofs.HeadlineLaws.{acts-once}
-use Rattle.hotsync_run.proofs.promises.what_is_sent_acts_at_most_once.Goals as goal
-
-pub returns : goal.returns
-returns c = acts-once
