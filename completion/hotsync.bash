@@ -15,40 +15,74 @@ _hotsync_options() {
     fi
 }
 
+# The stems of the databases in the folders that the words name, a line for each.
+_hotsync_stems() {
+    local named file
+    for named in "${COMP_WORDS[@]:2}"; do
+        named=${named//[\'\"\\]/}
+        for file in "${named/#\~\//$HOME/}"/*.pdb; do
+            if [ -n "$named" ] && [ -f "$file" ]; then
+                file=${file##*/}
+                printf '%s\n' "${file%.pdb}"
+            fi
+        done
+    done | sort -u
+}
+
+# Answers with a list whose last item is one of these lines, with this behind it. What stands in front of the item stays.
+_hotsync_items() {
+    local IFS=$'\n' before=
+    if [ "${word%,*}" != "$word" ]; then before=${word%,*},; fi
+    mapfile -t COMPREPLY < <(compgen -P "$before" -S "$2" -W "$1" -- "${word##*,}")
+    compopt -o nospace
+}
+
+# The option whose value is being written. The shell parts it from its value at the equals sign, and an action from its
+# database at the colon.
+_hotsync_option() {
+    local at=$COMP_CWORD
+    while [ "$at" -gt 2 ]; do
+        case ${COMP_WORDS[at]} in [=:]) ;; *)
+            case ${COMP_WORDS[at - 1]} in [=:]) ;; *) break ;; esac
+            ;;
+        esac
+        at=$((at - 1))
+    done
+    if [ "$at" -lt "$COMP_CWORD" ]; then printf '%s' "${COMP_WORDS[at]#[\'\"]}"; fi
+}
+
 _hotsync() {
     local word=${COMP_WORDS[COMP_CWORD]}
     local commands='run check show export import verify picture packet install backup restore device categories sync make'
-    local option=
+    local option
     COMPREPLY=()
     if [ "$COMP_CWORD" -eq 1 ]; then
         _hotsync_words "$commands help --help --version"
         return
     fi
 
-    # The shell parts an option from its value at the equals sign.
-    if [ "$word" = = ]; then
-        option=${COMP_WORDS[COMP_CWORD - 1]}
+    option=$(_hotsync_option)
+    local sign=${COMP_WORDS[COMP_CWORD - 1]}
+    case $word in [=:])
+        sign=$word
         word=
-    elif [ "${COMP_WORDS[COMP_CWORD - 1]}" = = ]; then
-        option=${COMP_WORDS[COMP_CWORD - 2]}
-    fi
-    case ${COMP_WORDS[1]}$option in
-    import--as) _hotsync_words txt ;;
-    *--as) _hotsync_words 'txt vcf csv ics' ;;
-    *--date) _hotsync_words now ;;
-    *--script | *--trace | *--in | *--out | *--port | *--like) _hotsync_files -f ;;
+        ;;
+    esac
+    case ${COMP_WORDS[1]}$option$sign in
+    import--as=) _hotsync_words txt ;;
+    *--as=) _hotsync_words 'txt vcf csv ics' ;;
+    *--date=) _hotsync_words now ;;
+    *--script= | *--trace= | *--in= | *--out= | *--port= | *--like=) _hotsync_files -f ;;
+    *--only=) _hotsync_items "$(_hotsync_stems)" '' ;;
+    *--actions=) _hotsync_items "$(_hotsync_stems)"$'\n*' : ;;
+    *--actions:)
+        case $word in
+        *,*) _hotsync_items "$(_hotsync_stems)"$'\n*' : ;;
+        *) _hotsync_words 'sync both handheld desktop nothing' ;;
+        esac
+        ;;
     esac
     if [ -n "$option" ]; then return; fi
-
-    # And an action from its database at the colon.
-    if [ "$word" = : ]; then
-        word=
-        _hotsync_words 'sync both handheld desktop nothing'
-        return
-    elif [ "${COMP_WORDS[COMP_CWORD - 1]}" = : ]; then
-        _hotsync_words 'sync both handheld desktop nothing'
-        return
-    fi
 
     case ${COMP_WORDS[1]} in
     run)

@@ -7,6 +7,31 @@ end
 function __hotsync_option
     __hotsync_command $argv; and string match -q -- '-*' (commandline -ct)
 end
+# The stems of the databases in the folders that the words name.
+function __hotsync_stems
+    for named in (commandline -opc)[3..]
+        string match -q -- '-*' $named; and continue
+        for file in $named/*.pdb
+            test -f $file; and string replace -r '.*/(.*)\.pdb$' '$1' -- $file
+        end
+    end | sort -u
+end
+# What stands of an option's value in front of its last item.
+function __hotsync_before
+    string replace -r '[^=,]*$' '' -- (commandline -ct)
+end
+function __hotsync_only
+    printf '%s\n' (__hotsync_before)(__hotsync_stems)
+end
+function __hotsync_actions
+    for stem in (__hotsync_stems) '*'
+        printf '%s\n' (__hotsync_before)$stem:{sync,both,handheld,desktop,nothing}
+    end
+end
+# An option's value is being written.
+function __hotsync_value
+    __hotsync_command $argv[2..]; and string match -q -- "$argv[1]=*" (commandline -ct)
+end
 complete -c hotsync -n 'test (count (commandline -opc)) -eq 1' -f -a run -d 'synchronise two folders'
 complete -c hotsync -n 'test (count (commandline -opc)) -eq 1' -f -a check -d 'read a database file and count its entries'
 complete -c hotsync -n 'test (count (commandline -opc)) -eq 1' -f -a show -d 'print what a database file holds'
@@ -56,3 +81,5 @@ complete -c hotsync -n '__hotsync_command sync' -f -l slow -d 'read all records'
 complete -c hotsync -n '__hotsync_option sync' -a '--actions=\t"what is done with each database"'
 complete -c hotsync -n '__hotsync_option sync' -a '"--actions=*:both"\t"keep what is live on either side"'
 complete -c hotsync -n '__hotsync_command sync' -f -l add-user -d 'give the handheld a user of its own on the desktop'
+complete -c hotsync -n '__hotsync_value --only run sync' -f -a '(__hotsync_only)' -d 'the databases that are touched'
+complete -c hotsync -n '__hotsync_value --actions run sync' -f -a '(__hotsync_actions)' -d 'what is done with each database'

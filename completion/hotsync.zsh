@@ -1,5 +1,27 @@
 #compdef hotsync
 # Completion of hotsync's words for zsh: put it as _hotsync into a folder of $fpath.
+
+# The stems of the databases in the folders that the words name.
+_hotsync_stems() {
+    local named
+    stems=()
+    for named in ${(Q)words[2,-1]}; do
+        stems+=(${~named/#\~\//$HOME/}/*.pdb(N.:t:r))
+    done
+    stems=(${(u)stems})
+}
+_hotsync_only() {
+    local -a stems
+    _hotsync_stems
+    _values -s , 'database' $stems
+}
+_hotsync_actions() {
+    local -a stems
+    _hotsync_stems
+    _values -s , -S : 'database' ${^stems}':action:(sync both handheld desktop nothing)' \
+        '*:action:(sync both handheld desktop nothing)'
+}
+
 _hotsync() {
     local -a commands
     commands=(
@@ -32,8 +54,8 @@ _hotsync() {
     run)
         _arguments '1:handheld:_files -/' '2:desktop:_files -/' \
             '--date=-[the date of the session]:date:(now)' '--script=-[the line script]:file:_files' \
-            '--trace=-[the file for the trace]:file:_files' '--only=-[the databases that are touched]:stems:' \
-            '--slow[read all records]' '--actions=-[what is done with each database]:actions:(*\:sync *\:both *\:handheld *\:desktop)' \
+            '--trace=-[the file for the trace]:file:_files' '--only=-[the databases that are touched]:stems:_hotsync_only' \
+            '--slow[read all records]' '--actions=-[what is done with each database]:actions:_hotsync_actions' \
             '--user=-[the name of the handheld'\''s user]:name:' \
             '--add-user[give the handheld a user of its own on the desktop]' \
             '--dry-run[print what the run would do, and change neither folder]'
@@ -56,9 +78,9 @@ _hotsync() {
     device) _arguments '1:handheld:_files -/' '--in=-[the captured bytes]:file:_files' '--out=-[the file for what is said]:file:_files' '--port=-[the port that it stands at]:port:_files' '--trace=-[the file for the trace]:file:_files' ;;
     sync)
         _arguments '1:port:_files' '2:desktop:_files -/' \
-            '--date=-[the date of the session]:date:(now)' '--only=-[the databases that are touched]:stems:' \
+            '--date=-[the date of the session]:date:(now)' '--only=-[the databases that are touched]:stems:_hotsync_only' \
             '--trace=-[the file for the trace]:file:_files' '--slow[read all records]' \
-            '--actions=-[what is done with each database]:actions:(*\:sync *\:both *\:handheld *\:desktop)' \
+            '--actions=-[what is done with each database]:actions:_hotsync_actions' \
             '--user=-[the name of the handheld'\''s user]:name:' \
             '--add-user[give the handheld a user of its own on the desktop]'
         ;;
