@@ -20,15 +20,26 @@
 extern "C" {
 #endif
 
-/* Answers below 0. */
+/* Answers below 0: each means the same in all calls. */
 enum {
-    HS_MEMORY = -1, /* memory was refused */
-    HS_FORM = -2,   /* the bytes are not of the form that is read: no database's file, or too many for a trace */
-    HS_ABSENT = -3, /* hs_entry: the database has no such entry */
-    HS_FILES = -10  /* hs_device_new, hs_device_take: no handheld has such files */
+    HS_MEMORY = -1,    /* memory was refused */
+    HS_FORM = -2,      /* the bytes are not of the form that is read: no database's file, or too many for a trace */
+    HS_ABSENT = -3,    /* hs_entry: the database has no such entry */
+    HS_FULL = -4,      /* hs_merge: more than 65,535 records on the handheld, rows, base rows, or entries of the archive */
+    HS_RESOURCES = -5, /* hs_merge, as the next four, which leave the database as it is: the handheld's holds resources */
+    HS_READ_ONLY = -6, /* attribute 0x0002, on either side */
+    HS_STREAM = -7,    /* attribute 0x0080, on either side */
+    HS_DIFFERS = -8,   /* its type or its creator differs between the sides */
+    HS_MISSING = -9,   /* the side that the action goes by lacks it, or the handheld lost what both had */
+    HS_FILES = -10,    /* hs_device_new, hs_device_take: no handheld has such files */
+    HS_LINE = -100     /* hs_verify, hs_picture: HS_LINE - N where line N, from 1 on, is the first that is none of a trace */
 };
 
-/* The version of the library: 0x00MMmmpp for MAJOR.MINOR.PATCH. */
+/* The sentence that says what an answer below 0 means; of length 0 where no call has that answer. */
+int64_t hs_why(int64_t answer, uint8_t *room, size_t n);
+
+/* The version that this header is of, and that of the library: 0x00MMmmpp for MAJOR.MINOR.PATCH. */
+#define HS_VERSION 0x000900u
 uint32_t hs_version(void);
 
 /* ---- the file of one database (PDB or PRC) ---- */
@@ -81,12 +92,19 @@ struct hs_entry {
     uint32_t size;       /* how many bytes it has */
 };
 
+/* All entries: what stands in front of each, and in the room the bytes of all of them, one behind the other, as hs_build
+   takes them. The answer is how many entries there are, and `size` says how many bytes: both rooms are written, or where one
+   is too small neither, and the call is made again with more. An answer below 0 leaves `size` as it was. The file is read
+   once. */
+int64_t hs_entries(const uint8_t *file, size_t len, struct hs_entry *entries, size_t count, uint8_t *room, size_t n,
+                   uint64_t *size);
+
 /* The entry of this index, from 0 on; in the room its bytes. An answer below 0 leaves `entry` as it was. Each call reads
-   the whole file. */
+   the whole file: for all entries hs_entries is the one to call. */
 int64_t hs_entry(const uint8_t *file, size_t len, uint32_t index, struct hs_entry *entry, uint8_t *room, size_t n);
 
 /* The file of a database of these parts: `bytes` are the name, the app block, the sort block and the bytes of all entries,
-   one behind the other, as hs_head and hs_entry put them into a room; `head->entries` is not looked at. HS_FORM where there
+   one behind the other, as hs_head and hs_entries put them into a room; `head->entries` is not looked at. HS_FORM where there
    is no database of them: a number or a name that has no place in a file, an entry of more than 65,500 bytes, or more or
    fewer bytes than the parts have. */
 int64_t hs_build(const struct hs_head *head, const struct hs_entry *entries, size_t count, const uint8_t *bytes,
@@ -114,16 +132,6 @@ struct hs_ends {
     uint64_t rows;
     uint64_t base;
     uint64_t archive;
-};
-
-/* More answers of hs_merge below 0. From HS_RESOURCES on a session leaves the database as it is. */
-enum {
-    HS_FULL = -4,      /* more than 65,535 records on the handheld, rows, base rows, or entries of the archive */
-    HS_RESOURCES = -5, /* the handheld's holds resources */
-    HS_READ_ONLY = -6, /* attribute 0x0002, on either side */
-    HS_STREAM = -7,    /* attribute 0x0080, on either side */
-    HS_DIFFERS = -8,   /* its type or its creator differs between the sides */
-    HS_MISSING = -9    /* the side that the action goes by lacks it, or the handheld lost what both had */
 };
 
 /* What `hotsync run --slow` leaves of one database whose files these are: the handheld's `NAME.pdb`, and the desktop's
@@ -186,8 +194,8 @@ int64_t hs_device_files(const uint8_t *state, size_t len, uint8_t *room, size_t 
 int64_t hs_packets(const uint8_t *bytes, size_t len, uint8_t *room, size_t n);
 
 /* Judges the text of a trace: 0 for a proper one, whose whole requests and replies are counted then; 'A' to 'G' for the
-   first rule that it breaks; -2 - N where line N, from 1 on, is the first that is none of a trace; HS_FORM for more than
-   67,108,864 bytes. The counts are 0 in all other cases than the first. */
+   first rule that it breaks; HS_LINE - N where line N, from 1 on, is the first that is none of a trace; HS_FORM for more
+   than 67,108,864 bytes. The counts are 0 in all other cases than the first. */
 int64_t hs_verify(const uint8_t *trace, size_t len, uint32_t *requests, uint32_t *replies);
 
 /* The page of `hotsync picture` for such a text. Answers below 0 are those of hs_verify. */

@@ -165,18 +165,77 @@ static void parts(const uint8_t *pdb, size_t pdb_size, const uint8_t *prc, size_
 static struct hs_entry entries[2];
 static size_t entry_count;
 
+/* All entries at once, in rooms for so many of them and so many bytes: both are written, or neither. */
+static void listed(const char *what, const uint8_t *file, size_t size, size_t count, const char *text, size_t length)
+{
+    for (size_t room = 0; room <= count + 1; room++)
+        for (size_t more = 0; more < 3; more++) {
+            struct hs_entry found[3];
+            uint8_t bytes[20];
+            uint64_t told = 77;
+            size_t n = length + more - 1;
+            memset(found, 0xAA, sizeof found);
+            memset(bytes, 0xAA, sizeof bytes);
+            expect(what, hs_entries(file, size, found, room, bytes, n, &told), (int64_t)count);
+            expect(what, (int64_t)told, (int64_t)length);
+            int whole = room >= count && n >= length;
+            expect(what, memcmp(bytes, text, length) == 0, whole);
+            expect(what, bytes[whole ? length : 0], 0xAA);
+            for (size_t place = 0; place < count; place++) {
+                struct hs_entry one;
+                uint8_t left[20];
+                hs_entry(file, size, (uint32_t)place, &one, left, sizeof left);
+                expect(what, memcmp(&found[place], &one, sizeof one) == 0, whole);
+            }
+            expect(what, found[whole ? count : 0].id, 0xAAAAAAAA);
+        }
+    uint64_t told = 77;
+    uint8_t none[1] = {0};
+    expect(what, hs_entries(file, size - 44, entries, 0, none, 0, &told), HS_FORM);
+    expect(what, hs_entries(file, 0, entries, 0, none, 0, &told), HS_FORM);
+    expect(what, (int64_t)told, 77);
+}
+
+static int64_t why_of(const uint8_t *answer, size_t len, uint8_t *room, size_t n)
+{
+    return hs_why(len == 0 ? 0 : -(int64_t)*answer, room, n);
+}
+
+static void reasons(void)
+{
+    static const char *const texts[] = {
+        "", "memory was refused", "the bytes are not of the form that is read", "the database has no such entry",
+        "a side has more than 65,535 records", "the database holds resources", "the database is read-only",
+        "the database is a stream", "the type or the creator differs between the sides", "a side lacks the database",
+        "no handheld has such files", "",
+    };
+    for (uint8_t number = 0; number < sizeof texts / sizeof *texts; number++)
+        in_rooms("hs_why", why_of, &number, 1, texts[number], strlen(texts[number]));
+    static const char line[] = "a line is none of a trace: its number is -100 less the answer";
+    uint8_t last = 100;
+    in_rooms("hs_why of -100", why_of, &last, 1, "", 0);
+    last = 101;
+    in_rooms("hs_why of a line", why_of, &last, 1, line, sizeof line - 1);
+    uint8_t room[1] = {0xAA};
+    expect("hs_why of an answer", hs_why(7, room, 1), 0);
+    expect("hs_why of the largest line", hs_why(INT64_MIN, room, 0), sizeof line - 1);
+    expect("the header's version", HS_VERSION, hs_version());
+}
+
 static int64_t file_of(const uint8_t *bytes, size_t len, uint8_t *room, size_t n)
 {
     return hs_build(&head, entries, entry_count, bytes, len, room, n);
 }
 
-/* What hs_head and hs_entry say of a canonical file gives this file again. */
+/* What hs_head and hs_entries say of a canonical file gives this file again. */
 static void built(const char *what, const uint8_t *file, size_t size, size_t count)
 {
     uint8_t bytes[200], none[1] = {0};
     size_t length = (size_t)hs_head(file, size, &head, bytes, sizeof bytes);
-    for (entry_count = 0; entry_count < count; entry_count++)
-        length += (size_t)hs_entry(file, size, (uint32_t)entry_count, &entries[entry_count], bytes + length, sizeof bytes - length);
+    uint64_t more = 0;
+    entry_count = (size_t)hs_entries(file, size, entries, 2, bytes + length, sizeof bytes - length, &more);
+    expect(what, (int64_t)entry_count, (int64_t)count);
+    length += (size_t)more;
     in_rooms(what, file_of, bytes, length, (const char *)file, size);
     refused("hs_build of a byte too few", file_of, bytes, length - 1, HS_FORM);
     refused("hs_build of a byte too many", file_of, bytes, length + 1, HS_FORM);
@@ -200,6 +259,8 @@ static void files(void)
     check("hs_check of nothing", pdb, 0, HS_FORM, HS_SHORT, 0);
     check("hs_check of a header alone", pdb, 78, HS_FORM, HS_SHORT, 78);
     texts(pdb, pdb_size, prc, prc_size);
+    listed("hs_entries of records", pdb, pdb_size, 2, "HiBye!", 6);
+    listed("hs_entries of resources", prc, prc_size, 1, "\xff\0\xff", 3);
     built("hs_build of records", pdb, pdb_size, 2);
     built("hs_build of resources", prc, prc_size, 1);
     parts(pdb, pdb_size, prc, prc_size);
@@ -491,8 +552,8 @@ static void lines(void)
     judge("1 H ok + " WAKE "2 H ok + " WAKE, 'D', 0, 0);
     judge(GREETED "4 D ok + " READ, 'E', 0, 0);
     judge("1 H lost - " WAKE "2 D ok + " ACK, 'G', 0, 0);
-    judge("1\n", -3, 0, 0);
-    judge("1 H ok + " WAKE "2 D ok + ", -4, 0, 0);
+    judge("1\n", HS_LINE - 1, 0, 0);
+    judge("1 H ok + " WAKE "2 D ok + ", HS_LINE - 2, 0, 0);
 }
 
 static void pictures(void)
@@ -509,7 +570,7 @@ static void pictures(void)
     expect("hs_picture", hs_picture(bytes, sizeof trace - 1, page, (size_t)wanted), wanted);
     expect("hs_picture begins", memcmp(page, "<!doctype html>", 15), 0);
     in_rooms("hs_picture", hs_picture, bytes, sizeof trace - 1, (const char *)page, (size_t)wanted);
-    refused("hs_picture of a bad line", hs_picture, (const uint8_t *)"1\n", 2, -3);
+    refused("hs_picture of a bad line", hs_picture, (const uint8_t *)"1\n", 2, HS_LINE - 1);
     free(page);
 }
 
@@ -648,6 +709,7 @@ int main(void)
 #ifdef WANTED_VERSION
     expect("hs_version", hs_version(), WANTED_VERSION);
 #endif
+    reasons();
     files();
     large();
     merges();

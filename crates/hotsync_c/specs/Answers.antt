@@ -1,16 +1,16 @@
 -- What a call answers that puts a text into a room.
-use Rattle.std.specs.Prelude.{◌≡◌, ◌⊎◌, ℕ, suc, ℤ, negsuc, List}
+use Rattle.std.specs.Prelude.{◌≡◌, ◌⊎◌, ◌+◌, ℕ, ℤ, negsuc, List}
 use Rattle.pdb_files.specs.declared.fault.FileFault.{FileFault}
 use Rattle.pdb_files.specs.declared.fault.FileFault.TheVariants.{NoMemory}
 use Rattle.hotsync_c.specs.declared.refusal.Refusal.{Refusal}
 use Rattle.hotsync_c.specs.declared.refusal.Refusal.TheVariants.{Memory, Form, BadLine, Absent}
 use Rattle.hotsync_c.specs.Rooms.{PutsIn}
 
--- the number that C gets for a refusal: -1, -2, -2 - N for line N, and -3
+-- the number that C gets for a refusal: -1, -2, -100 - N for line N, and -3
 abbrev pub answer_of : Refusal → ℤ
 answer_of Memory = negsuc 0
 answer_of Form = negsuc 1
-answer_of (BadLine line) = negsuc (suc line)
+answer_of (BadLine line) = negsuc (99 + line)
 answer_of Absent = negsuc 2
 
 -- the refusal of a file

@@ -1,5 +1,5 @@
 -- A handheld in its caller's memory: what the calls answer.
-use Rattle.std.specs.Prelude.{◌≡◌, ◌⊎◌, ◌&&◌, MatchBool, ℕ, Bool, true, false, nat_le, List, ◌++◌, drop, length, take, ℤ, pos, negsuc, Option, None, Some, Result, Ok, Err, if◌then◌else◌}
+use Rattle.std.specs.Prelude.{◌≡◌, ◌⊎◌, ◌&&◌, MatchBool, ℕ, Bool, true, false, nat_le, List, length, take, ℤ, pos, negsuc, Option, None, Some, Result, Ok, Err, if◌then◌else◌}
 use Rattle.device_state.specs.Calls.{Begins, GoesOn}
 use Rattle.device_state.specs.Refusals.{RefusesState}
 use Rattle.device_state.specs.declared.calls.Step.{Step}
@@ -7,6 +7,7 @@ use Rattle.device_state.specs.declared.fault.StateFault.{StateFault}
 use Rattle.device_state.specs.declared.fault.StateFault.TheVariants.{Form, BadFiles, NoMemory}
 use Rattle.device_stream.specs.declared.talk_end.TalkEnd.{TalkEnd}
 use Rattle.device_stream.specs.declared.talk_end.TalkEnd.TheVariants.{Ended, Aborted, BadHello}
+use Rattle.hotsync_c.specs.Rooms.{put_first}
 use Rattle.hotsync_c.specs.declared.handheld.HsTold.{HsTold}
 
 -- the number that C gets for a refusal: -2, -10 and -1
@@ -38,10 +39,6 @@ rooms_of state said told = record { state = state; said = said; told = told }
 abbrev pub have_room : List ℕ → List ℕ → Rooms → Bool
 have_room state said rooms =
     nat_le (length state) (length rooms.state) && nat_le (length said) (length rooms.said)
-
--- a text at the front of a room, and what stood behind it
-abbrev pub put_first : List ℕ → List ℕ → List ℕ
-put_first text room = text ++ drop (length text) room
 
 -- Both texts stand at the front of their rooms, or where one has no room neither does. The answer
 -- and what is told say how long they are, in either case.

@@ -1,5 +1,6 @@
 pub mod Answers
 pub mod Building
+pub mod Entries
 pub mod Files
 pub mod Handhelds
 pub mod Merges
@@ -7,3 +8,4 @@ pub mod Parts
 pub mod Rooms
 pub mod Texts
 pub mod Traces
+pub mod Whys

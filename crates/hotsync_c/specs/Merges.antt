@@ -199,7 +199,7 @@ RefusesAll handheld rows base archive how ends ends_after refusal =
 -- the whole text and behind it what stood there before; where it doesn't fit all stays
 abbrev pub filled_whole : List ℕ → List ℕ → List ℕ
 filled_whole text room =
-    if nat_le (length text) (length room) then text ++ drop (length text) room else room
+    if nat_le (length text) (length room) then put_first text room else room
 
 -- the answer is how long the text is, and the room has all of it, or nothing
 pub record PutsWhole (text room room_after : List ℕ) (answer : ℤ) : Type 0 where

@@ -9,3 +9,7 @@ filled text room = take (length room) text ++ drop (length text) room
 pub record PutsIn (text room room_after : List ℕ) (answer : ℤ) : Type 0 where
   pub length_is : answer ≡ pos (length text)
   pub room_is : room_after ≡ filled text room
+
+-- a list at the front of a room, and what stood behind it
+abbrev pub put_first : {A : Type 0} → List A → List A → List A
+put_first list room = list ++ drop (length list) room

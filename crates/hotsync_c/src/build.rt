@@ -31,7 +31,7 @@ const SECRET: u8 = 0x10;
 const CATEGORY: u8 = 0x0F;
 
 /// Puts the file of a database into the room: of this head, with the name, the blocks and the bytes of the entries one
-/// behind the other in `packed`, as `hs_head` and `hs_entry` give them. How many entries `head` says is not looked at.
+/// behind the other in `packed`, as `hs_head` and `hs_entries` give them. How many entries `head` says is not looked at.
 ///
 /// The answer is how long the file is; or -2 where there is no database of these parts, or -1 where memory was refused.
 #[unsafe(no_mangle)]

@@ -83,7 +83,7 @@ fn found_at(database: &Database, index: usize) -> Result<HsEntry, Refusal>
 }
 
 // The database of a file.
-fn read_file(alloc: Global, file: &[u8]) -> Result<Database, Refusal>
+pub(crate) fn read_file(alloc: Global, file: &[u8]) -> Result<Database, Refusal>
     ensures read { IfOk result (λ database. IsFileText database file.now) }
     ensures refused { IfErr result (RefusesFile file.now) }
 {
@@ -189,7 +189,7 @@ fn bytes_at(database: &Database, index: usize) -> Option<&[u8]>
 }
 
 // What stands in front of a record.
-fn record_entry(item: &Record) -> HsEntry
+pub(crate) fn record_entry(item: &Record) -> HsEntry
     ensures { result ≡ record_entry item.now }
 {
     HsEntry {
@@ -201,7 +201,7 @@ fn record_entry(item: &Record) -> HsEntry
 }
 
 // What stands in front of a resource.
-fn resource_entry(resource: &Resource) -> HsEntry
+pub(crate) fn resource_entry(resource: &Resource) -> HsEntry
     requires { length resource.now.bytes ≤ 65500 }
     ensures { result ≡ resource_entry resource.now }
 {

@@ -6,8 +6,8 @@ ghost use Rattle.pdb_files.specs.Files.{IsFileText, canonical, data_of};
 ghost use Rattle.hotsync_c.specs.Building.{IsBuilt};
 ghost use Rattle.hotsync_c.specs.Parts.{bytes_at, entries_of, entry_at, head_of, packed_of};
 
-/// What `hs_build` makes of what `hs_head` and `hs_entry` say of a file, with the bytes that they put into their rooms one
-/// behind the other, is the canonical file of the same database.
+/// What `hs_build` makes of what `hs_head` and `hs_entries` say of a file, with the bytes that they put into their rooms one
+/// behind the other, is the canonical file of the same database; and so of what `hs_entry` says of each index.
 pub fn parts_build_the_same_file()
     ensures built { (bytes : List ℕ) (database : DatabaseValue) → All (λ byte. byte < 256) bytes
         → IsFileText database bytes

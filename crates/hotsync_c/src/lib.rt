@@ -7,6 +7,7 @@
 #![tactic(auto)]
 
 mod build;
+mod entries;
 mod entry;
 mod file;
 mod fit;
@@ -21,8 +22,10 @@ mod room;
 mod sides;
 mod trace;
 mod version;
+mod why;
 
 pub use build::hs_build;
+pub use entries::hs_entries;
 pub use entry::{hs_entry, hs_head};
 pub use file::{hs_check, hs_show};
 pub use handheld::{HsTold, hs_device_files, hs_device_new, hs_device_take};
@@ -32,3 +35,4 @@ pub use packets::hs_packets;
 pub use parts::{HsEntry, HsHead};
 pub use trace::{hs_picture, hs_verify};
 pub use version::hs_version;
+pub use why::hs_why;

@@ -28,7 +28,7 @@ impl Refusal {
         match self {
             Refusal::Memory => -1,
             Refusal::Form => -2,
-            Refusal::BadLine(line) => -2 - i64::from(line),
+            Refusal::BadLine(line) => -100 - i64::from(line),
             Refusal::Absent => -3,
         }
     }

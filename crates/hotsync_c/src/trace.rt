@@ -16,8 +16,8 @@ use trace_text::Frame;
 /// Judges the text of a trace.
 ///
 /// The answer is 0 for a proper trace: then `requests` and `replies` are its whole requests and replies. It is the letter
-/// of the first rule that the trace breaks, 65 for A to 71 for G; -2 - N where line N, counted from 1, is the first that is
-/// none of a trace; -2 for more than 67,108,864 bytes; -1 where memory was refused. In all of these cases `requests` and
+/// of the first rule that the trace breaks, 65 for A to 71 for G; -100 - N where line N, counted from 1, is the first that
+/// is none of a trace; -2 for more than 67,108,864 bytes; -1 where memory was refused. In all of these cases `requests` and
 /// `replies` are 0.
 #[unsafe(no_mangle)]
 pub extern "C" fn hs_verify(
