@@ -6,19 +6,8 @@ import ctypes
 import os
 import sys
 
-from hotsync import FORM, Ends, How, Told, call, check
-
-
-class Head(ctypes.Structure):
-    """What hs_head says: its numbers in the order of hotsync.h, how many entries there are the tenth."""
-
-    _fields_ = [(f"number{place}", ctypes.c_uint32) for place in range(13)]
-
-
-class Entry(ctypes.Structure):
-    """What hs_entry says."""
-
-    _fields_ = [(name, ctypes.c_uint32) for name in ("type", "id", "attributes", "size")]
+from hotsync import BadFile, check
+from hotsync._library import FORM, Ends, Entry, Head, How, Told, call
 
 
 def expect(what, found, wanted):
@@ -53,18 +42,31 @@ def texts(name, data):
 
 def files(data):
     """A file, what it holds, and the file that is built of that again."""
-    count, fault = check(data)
-    expect("hs_check", fault, None)
-    expect("hs_check of nothing", check(b""), (None, (1, 0)))
+    count = check(data)
+    try:
+        check(b"")
+    except BadFile as fault:
+        expect("hs_check of nothing", (fault.kind, fault.place), ("short", 0))
     texts("hs_show", data)
     refused("hs_show of nothing", lambda room: call("hs_show", b"", room), FORM)
     head, entries = Head(), (Entry * count)()
     parts = in_rooms("hs_head", lambda room: call("hs_head", data, ctypes.byref(head), room))
     refused("hs_head of nothing", lambda room: call("hs_head", b"", ctypes.byref(head), room), FORM)
+    all_entries, size = (Entry * count)(), ctypes.c_uint64(0)
+    made = lambda room: call("hs_entries", data, all_entries, room, ctypes.byref(size))
+    expect("hs_entries, how many", made((ctypes.c_ubyte * 0)()), count)
+    room = (ctypes.c_ubyte * size.value)()
+    expect("hs_entries", made(room), count)
+    packed = bytes(room)
+    expect("hs_entries of nothing", call("hs_entries", b"", all_entries, room, ctypes.byref(size)), FORM)
+    one_by_one = b""
     for place, entry in enumerate(entries):
         at = ctypes.c_uint32(place)
-        parts += in_rooms("hs_entry", lambda room: call("hs_entry", data, at, ctypes.byref(entry), room))
+        one_by_one += in_rooms("hs_entry", lambda room: call("hs_entry", data, at, ctypes.byref(entry), room))
+        expect("hs_entries and hs_entry", bytes(all_entries[place]), bytes(entry))
         refused("hs_entry of nothing", lambda room: call("hs_entry", b"", at, ctypes.byref(entry), room), FORM)
+    expect("hs_entries, their bytes", packed, one_by_one)
+    parts += packed
     many = ctypes.c_size_t(count)
     made = lambda parts: lambda room: call("hs_build", ctypes.byref(head), ctypes.byref(entries), many, parts, room)
     built = in_rooms("hs_build", made(parts))

@@ -47,7 +47,12 @@ fi
 build show "$scratch/show" || fail "show.c was not built"
 program=$top/crates/hotsync_cli/out/hotsync_cli
 python=
-if command -v python3 >/dev/null; then python=yes; else echo "library: python3 is not here: hotsync.py was not run"; fi
+if command -v python3 >/dev/null; then python=yes; else echo "library: python3 is not here: the package was not tried"; fi
+# Runs a program over the package in this checkout.
+python() {
+    HOTSYNC_LIBRARY=$scratch/lib/libhotsync.so PYTHONPATH=$top/python python3 -B "$@"
+}
+[ -z "$python" ] || python -m unittest -q python/tests/test_hotsync.py || fail "the tests of the package"
 count=0
 for file in $(find demo examples -name '*.pdb' -o -name '*.prc' | sort); do
     "$scratch/show" "$file" >"$scratch/shown" 2>/dev/null
@@ -58,9 +63,9 @@ for file in $(find demo examples -name '*.pdb' -o -name '*.prc' | sort); do
         [ "$wanted" = 1 ] || cmp "$scratch/shown" "$scratch/wanted" || fail "show.c prints something else than hotsync show $file"
     fi
     if [ -n "$python" ] && [ "$status" = 0 ]; then
-        HOTSYNC_LIBRARY=$scratch/lib/libhotsync.so python3 -B examples/library/hotsync.py "$file" >"$scratch/read" ||
-            fail "hotsync.py fails over $file"
-        cmp "$scratch/shown" "$scratch/read" || fail "hotsync.py prints something else than show.c of $file"
+        python examples/library/palm.py "$file" >"$scratch/read" ||
+            fail "palm.py fails over $file"
+        cmp "$scratch/shown" "$scratch/read" || fail "palm.py prints something else than show.c of $file"
     fi
     count=$((count + 1))
 done
@@ -79,13 +84,12 @@ merges() {
         # 2001-09-09T01:46:40
         (cd "$scratch/c" && ../merge handheld desktop "$name" 3082844800 ${3-}) || fail "merge.c fails over $1"
         if [ -n "$python" ]; then
-            (cd "$scratch/python" && HOTSYNC_LIBRARY=$scratch/lib/libhotsync.so \
-                python3 -B "$top/examples/library/hotsync.py" merge handheld desktop "$name" 3082844800 ${3-}) ||
-                fail "hotsync.py fails over $1"
+            (cd "$scratch/python" && python "$top/examples/library/palm.py" merge handheld desktop "$name" 3082844800 ${3-}) ||
+                fail "palm.py fails over $1"
         fi
     done
     if [ -n "$python" ]; then
-        diff -r "$scratch/c" "$scratch/python" || fail "hotsync.py leaves other files than merge.c of $1"
+        diff -r "$scratch/c" "$scratch/python" || fail "palm.py leaves other files than merge.c of $1"
     fi
     if [ -x "$program" ]; then
         (cd "$scratch/ran" && "$program" run handheld desktop --date=2001-09-09T01:46:40 --slow >/dev/null 2>&1) || fail "no run over $1"
@@ -108,15 +112,26 @@ if [ -x "$program" ]; then
         cp -r examples/conflict "$scratch/conflict"
         "$program" run "$scratch/conflict/handheld" "$scratch/conflict/desktop" --date=2001-09-09T01:46:40 \
             "--trace=$scratch/trace" >/dev/null 2>&1
-        HOTSYNC_LIBRARY=$scratch/lib/libhotsync.so python3 -B examples/library/each.py \
-            "$scratch/conflict/handheld/MemoDB.pdb" "$scratch/trace" || fail "each.py: not as wanted"
+        python examples/library/each.py "$scratch/conflict/handheld/MemoDB.pdb" "$scratch/trace" ||
+            fail "each.py: not as wanted"
         DEVICE=$scratch/device scripts/device-sessions >"$scratch/sessions" || fail "device.c isn't what hotsync device is"
         sessions=$(sed 's/^device-sessions: \([0-9]*\) .*/\1/' "$scratch/sessions")
-        HOTSYNC_LIBRARY=$scratch/lib/libhotsync.so DEVICE="python3 -B $top/examples/library/hotsync.py device" \
-            scripts/device-sessions examples >/dev/null || fail "hotsync.py isn't what hotsync device is"
+        HOTSYNC_LIBRARY=$scratch/lib/libhotsync.so PYTHONPATH=$top/python \
+            DEVICE="python3 -B $top/examples/library/palm.py device" \
+            scripts/device-sessions examples >/dev/null || fail "palm.py isn't what hotsync device is"
     fi
 else
     sessions=0
     echo "library: the program was not built: what the library shows, merges and answers was not compared with it"
+fi
+# The wheel holds all that the package wants, and is the same twice.
+if [ -n "$python" ]; then
+    for way in one two; do
+        mkdir -p "$scratch/wheel/$way"
+        python3 -B scripts/parts/wheel.py "$scratch/lib/libhotsync.so.0" "$scratch/wheel/$way" >/dev/null || fail "no wheel"
+    done
+    cmp "$scratch"/wheel/one/*.whl "$scratch"/wheel/two/*.whl || fail "two wheels of the same sources differ"
+    python3 -m zipfile -e "$scratch"/wheel/one/*.whl "$scratch/wheel/installed"
+    PYTHONPATH=$scratch/wheel/installed python3 -B -m unittest -q python/tests/test_hotsync.py || fail "the tests over the wheel"
 fi
 echo "library: as its callers want it, over $count files, $merges pairs of folders and $sessions sessions"

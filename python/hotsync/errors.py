@@ -1,0 +1,50 @@
+"""Why a call gives nothing: an exception for each kind, with the sentence and the place that the library gives."""
+
+from __future__ import annotations
+
+
+class HotSyncError(Exception):
+    """Any refusal of the library; `answer` is the number that a function of C gives."""
+
+    def __init__(self, answer: int, why: str) -> None:
+        super().__init__(why)
+        self.answer, self.why = answer, why
+
+
+class BadForm(HotSyncError, ValueError):
+    """Bytes that are not of the form that is read."""
+
+
+class BadFile(BadForm):
+    """Bytes that are no database's file: the first rule that they break, and where."""
+
+    #: What each rule is about, as `docs/FORMATS.md` has them.
+    RULES = ("", "short", "name", "chained", "offset", "large")
+
+    def __init__(self, answer: int, kind: int, place: int) -> None:
+        super().__init__(answer, f"no database's file: {self.RULES[kind]} {place}")
+        self.kind, self.place = self.RULES[kind], place
+
+
+class BadLine(BadForm):
+    """A text whose line `line`, from 1 on, is none of a trace."""
+
+    def __init__(self, answer: int, why: str, line: int) -> None:
+        super().__init__(answer, f"{why}: line {line}")
+        self.line = line
+
+
+class NoSuchEntry(HotSyncError, IndexError):
+    """A database has no such entry."""
+
+
+class NotMerged(HotSyncError):
+    """A session would leave the database as it is, or a side would pass a limit."""
+
+
+class BadFiles(HotSyncError, ValueError):
+    """No handheld has such files."""
+
+
+class MemoryRefused(HotSyncError, MemoryError):
+    """Memory was refused."""
