@@ -72,7 +72,8 @@ call() {
     for file in demo/handheld/*.pdb; do
         "$scratch/deb/usr/bin/hotsync" show "$file" >"$scratch/wanted"
         "$scratch/show" "$file" | cmp - "$scratch/wanted"
-        HOTSYNC_LIBRARY=$scratch/libhotsync.so python3 -B "$examples/hotsync.py" "$file" | cmp - "$scratch/wanted"
+        HOTSYNC_LIBRARY=$scratch/libhotsync.so PYTHONPATH=$usr/lib/python3/dist-packages \
+            python3 -B "$examples/palm.py" "$file" | cmp - "$scratch/wanted"
     done
 }
 if command -v cc >/dev/null; then
