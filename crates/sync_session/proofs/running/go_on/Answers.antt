@@ -4,7 +4,7 @@ use Rattle.pdb_values.specs.declared.user.Marks.{Marks}
 use Rattle.desk_store.specs.Desks.{place_of}
 use Rattle.desk_store.specs.Views.{marks_in}
 use Rattle.session_plan.specs.Users.{done_marks}
-use Rattle.sync_session.specs.Courses.{done_for, picked_for}
+use Rattle.sync_session.specs.Courses.{done_for, picked_for, stopped}
 use Rattle.sync_session.proofs.FitLaws.{prepared-few, prepared-of-session}
 use Rattle.session_parts.proofs.MeetLaws.{seated_pickable}
 use Rattle.sync_session.proofs.SeatLaws.{seat-picked}
@@ -55,13 +55,13 @@ returns-in-Ok g c =
 pub returns : goal.returns
 returns g c =
     let picked = rw (c.seat_for.ensures.slot, c.user.ensures) at c.pick.ensures in
+    let left : c.stopped.result ≡ stopped c.prepare.new.linked.link c.args.desk.folder c.in-Err.stop = rw (c.stopped.ensures, c.link_of.ensures, picked) in
     record {
       goes_on = record {
         now = c.prepare.new.linked;
         answer = Err c.in-Err.stop;
         prepares = rw (c.deref.ensures.value, picked) at c.in-Err.ensures.prepares;
-        goes = rw (c.stopped.ensures, c.link_of.ensures, picked);
+        goes = left;
       };
-      follows = went_on (rw (c.deref.ensures.value, picked, c.requires.marks) at c.in-Err.ensures.follows)
-          (rw (c.stopped.ensures, c.link_of.ensures, picked, c.requires.marks));
+      follows = went_on (rw (c.deref.ensures.value, picked, c.requires.marks) at c.in-Err.ensures.follows) left;
     }
