@@ -1,11 +1,11 @@
 -- The blocks of a database that is made: how they are written, and that they ask for no id and open nothing.
-use Rattle.std.proofs.Common.{◌≡◌, ◌∙◌, ◌==◌, ap, subst, refl, true, false, rules, ℕ, List, [], ◌∷◌, ◌++◌, length, map, arith, Option, Some, None, Result, Ok, Err, IfErr, IfOk, IfSome, OnOk, drop}
+use Rattle.std.proofs.Common.{◌≡◌, ◌∙◌, ◌==◌, ap, subst, refl, false, ℕ, List, [], ◌∷◌, length, arith, Option, Some, None, Result, Ok, Err, IfErr, IfOk, drop}
 use Rattle.std.specs.List.{AllByRecursion}
 use Rattle.std.specs.Global.{Vec}
 use Rattle.dlp_commands.specs.DeviceSteps.{tried}
 use Rattle.dlp_commands.specs.Writings as writing
 use Rattle.desktop_session.specs.Requests.{writing_app, writing_sort}
-use Rattle.session_parts.proofs.LinkWords.{LinkFault, Talk, Act, SessionFault, SessionValue, acted, making, saying, text}
+use Rattle.session_parts.proofs.LinkWords.{LinkFault, Talk, Act, SessionFault, SessionValue, acted, making, saying}
 use Rattle.session_parts.proofs.CloseLaws.{KeepsHandles, writes_keep}
 use Rattle.mirrors.specs.Asks.{Asks}
 use Rattle.mirrors.specs.News.{PutsAll, news_of}

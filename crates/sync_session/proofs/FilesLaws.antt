@@ -7,13 +7,12 @@ use Rattle.desk_journal.specs.Entries.{EntryValue}
 use Rattle.desk_journal.proofs.StepLaws.{all-append}
 use Rattle.desk_store.specs.Changes.{archive_entries, db_entries, slots_entry}
 use Rattle.desk_store.specs.DeskFiles.{slot_file}
-use Rattle.desk_store.specs.Shelves.{marks_of, infos_of}
+use Rattle.desk_store.specs.Shelves.{infos_of}
 use Rattle.desk_store.specs.declared.change.DbChange.{DbChange}
 use Rattle.desk_store.specs.declared.role.Role.{Role}
 use Rattle.desk_store.specs.declared.role.Role.TheVariants.{Archive, Base, Rows}
 use Rattle.sync_session.proofs.MeetingWords.{AreEachPlannedFor, ArePlannedFor, DatabaseValue, Meeting, Plan, Planned, Skip, names, slot_of, skip_of, task_of, tasks}
 use Rattle.pdb_values.specs.declared.record.Record.{Record}
-use Rattle.pdb_values.specs.declared.user.Marks.{Marks}
 use Rattle.sync_session.specs.Outcomes.{IsCommitFile}
 use Rattle.session_plan.specs.Takes.{change_from, change_unless, changes_of, taken_entries, taken_slots}
 use Rattle.session_plan.specs.Users.{done_of}

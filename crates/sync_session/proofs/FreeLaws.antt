@@ -3,7 +3,6 @@ use Rattle.std.proofs.Common.{refl, ℕ, List, [], ◌∷◌, ◌++◌, map}
 use Rattle.std.specs.List.{AllByRecursion}
 use Rattle.sync_session.proofs.MeetingWords.{ContentValue, purged_ids, choice, seen_held, before_writes, Meeting, Task}
 use Rattle.palm_device.specs.Devices.{Device}
-use Rattle.dlp_requests.specs.Forms as form
 use Rattle.dlp_commands.specs.DeviceSteps.{FormMayGive}
 use Rattle.session_parts.proofs.LinkWords.{Act, AsksNoId, acted, closing, removing, cleaning, resetting, putting, device_after}
 use Rattle.mirrors.specs.News.{AreFreeFor, AreIdsOf, purge_writes, puts}

@@ -2,7 +2,6 @@
 use Rattle.std.proofs.Common.{◌≡◌, ◌++◌, ℕ, Bool, true, false, List, [], ◌∷◌, map, inl, inr, refl, subst, sym, ap}
 use Rattle.std.specs.Prelude.{IfSome, Option, None, Some, Result, Ok, Err, is_some}
 use Rattle.std.specs.List.{AllByRecursion}
-use Rattle.std.specs.Option.{option_map}
 use Rattle.hs_folders.specs.declared.folder.Folder.{Ghosts as FolderMembers}
 use Rattle.pdb_values.specs.Contents.{ContentValue}
 use Rattle.pdb_values.specs.Databases.{DatabaseValue}
@@ -21,9 +20,9 @@ use Rattle.desk_store.specs.Shelves.{ShelvesValue, marks_of}
 use Rattle.desk_store.specs.Views.{DeskValue, shelves_in}
 use Rattle.desk_store.specs.declared.fault.CommitFault.{CommitFault}
 use Rattle.desktop_session.specs.declared.fault.SessionFault.{SessionFault}
-use Rattle.desktop_session.specs.Asking.{ends, makes, marks, opens, writes_app, writes_sort}
+use Rattle.desktop_session.specs.Asking.{makes, marks, opens, writes_app, writes_sort}
 use Rattle.desktop_session.specs.Following.{Follows}
-use Rattle.desktop_session.specs.Inquiries.{Ends, Inquiry, ◌>>=◌}
+use Rattle.desktop_session.specs.Inquiries.{Inquiry}
 use Rattle.mirrors.specs.News.{news_of}
 use Rattle.run_words.specs.Actions.{action_for}
 use Rattle.session_parts.specs.Inquiries.{each, meets}
@@ -43,9 +42,9 @@ use Rattle.session_plan.specs.declared.job.Job.{Job}
 use Rattle.session_plan.specs.declared.planned.Planned.{Planned}
 use Rattle.session_plan.specs.declared.wishes.Wishes.{Wishes}
 use Rattle.std.specs.Global.{Vec}
-use Rattle.sync_session.specs.ByReplies.{AfterCommit, AfterJudging, AfterLearning, AfterNews, AsksSession, Commits, Decides, Finishes, IsJudged, Sends, Work}
-use Rattle.sync_session.specs.Courses.{done_for, jobs_met, picked_for, stopped}
-use Rattle.sync_session.specs.Inquiries.{Learnt, ends_with, fills, finishes, gives_by, gives_made, gives_old, gives_one, learns, purges_by, purges_one, reads_all, reads_by, reads_job, reads_under, sends, writes_block, writes_blocks}
+use Rattle.sync_session.specs.ByReplies.{AfterCommit, AfterJudging, AfterLearning, AfterNews, AsksSession, Finishes, Sends, Work}
+use Rattle.sync_session.specs.Courses.{jobs_met, picked_for, stopped}
+use Rattle.sync_session.specs.Inquiries.{Learnt, fills, finishes, gives_by, gives_made, gives_old, gives_one, learns, purges_by, purges_one, reads_all, reads_by, reads_job, reads_under, sends, writes_block, writes_blocks}
 use Rattle.sync_session.specs.Phases.{blocks_at}
 
 -- ---- what holds of each of a list

@@ -13,7 +13,7 @@ use Rattle.desk_journal.specs.Entries.{EntryValue}
 use Rattle.desk_journal.specs.Overlays.{FinishesAs, finished, put_all}
 use Rattle.desk_journal.proofs.FinishLaws.{plain_finished}
 use Rattle.desk_store.specs.Desks.{IsDesk}
-use Rattle.sync_session.proofs.MeetingWords.{AreInOrder, SlotValue, DeskValue, marks_in, shelves_in, ArePlannedFor, IsAtRest, adds_of, after_commit, before_writes, Meeting}
+use Rattle.sync_session.proofs.MeetingWords.{AreInOrder, SlotValue, DeskValue, shelves_in, ArePlannedFor, IsAtRest, adds_of, after_commit, before_writes, Meeting}
 use Rattle.sync_session.proofs.MeetingWords.{slot_of, gained, news_under, SpansBehind}
 use Rattle.desk_store.specs.declared.fault.CommitFault.{CommitFault}
 use Rattle.desk_store.specs.declared.fault.CommitFault.TheVariants as commit

@@ -1,5 +1,5 @@
 -- What holds of each request of a reading holds of all that is said before the first write.
-use Rattle.std.proofs.Common.{ℕ, zero, suc, ◌+◌, ◌*◌, Bool, true, false, List, [], ◌∷◌, ◌++◌, length}
+use Rattle.std.proofs.Common.{ℕ, zero, suc, ◌*◌, Bool, true, false, List, [], ◌∷◌, ◌++◌, length}
 use Rattle.std.specs.Prelude.{Option, Some, None, filter, flat_map, replicate, is_none, max, if◌then◌else◌}
 use Rattle.std.specs.List.{AllByRecursion}
 use Rattle.pdb_values.specs.declared.record.Record.{Record}

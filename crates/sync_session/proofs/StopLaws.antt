@@ -1,6 +1,6 @@
 -- Why a session stops over any link, by how it went.
-use Rattle.std.proofs.Common.{◌≡◌, ◌∙◌, ◌≤◌, refl, sym, ap, subst, inl, inr, ℕ, Bool, true, false, List, length, map, arith, rules, Option, None, Some, Result, Ok, Err}
-use Rattle.std.specs.Prelude.{◌⊎◌, ◌==◌, IfErr, nat_lt, if◌then◌else◌}
+use Rattle.std.proofs.Common.{◌≡◌, ◌≤◌, refl, sym, subst, inl, inr, ℕ, Bool, true, false, List, length, arith, Option, None, Some, Result, Ok, Err}
+use Rattle.std.specs.Prelude.{◌⊎◌, IfErr, if◌then◌else◌}
 use Rattle.std.specs.Global.{Vec}
 use Rattle.std.proofs.lemmas.Grind.{common_steps}
 use Rattle.std.proofs.lemmas.List.{length-map}
@@ -29,7 +29,6 @@ use Rattle.desktop_session.specs.declared.ending.Halted.{Halted}
 use Rattle.desktop_session.specs.declared.fault.SessionFault.{SessionFault}
 use Rattle.desktop_session.specs.declared.fault.SessionFault.TheVariants as session
 use Rattle.desktop_session.specs.Answers.{answer_by, no_more, said_in, user_of}
-use Rattle.desktop_session.specs.Faults.{fault_of}
 use Rattle.desktop_session.specs.Greetings.{AnswersGreeting, begun_by, greeted, user_by, user_with}
 use Rattle.desktop_session.specs.Lists.{HasCause}
 use Rattle.desktop_session.specs.Seats.{is_nobody, is_other_user, numbers_of, place_known, seat_for}

@@ -12,7 +12,7 @@ use Rattle.hs_folders.specs.Moments.{Moments}
 use Rattle.pdb_values.specs.declared.user.Marks.{Marks}
 use Rattle.conduit_rules.specs.declared.view.View.{View}
 use Rattle.session_parts.proofs.LinkWords.{LinkFault, Talk, SessionValue, Act, saying, marking, Ended, Halted, SessionFault}
-use Rattle.sync_session.proofs.MeetingWords.{ShelvesValue, DeskValue, marks_in, shelves_in, Job, Plan, Planned, Skip, gained, news_under, purges_under}
+use Rattle.sync_session.proofs.MeetingWords.{ShelvesValue, DeskValue, shelves_in, Job, Plan, Planned, Skip, gained, news_under, purges_under}
 use Rattle.sync_session.proofs.MeetingWords.{AreFirst, EachSays, IsFirst, Stretch, done_each, each_acts, says_nothing}
 use Rattle.desk_store.specs.declared.fault.CommitFault.{CommitFault}
 use Rattle.desk_store.specs.Shelves.{SlotValue}

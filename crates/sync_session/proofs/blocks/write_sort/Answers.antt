@@ -1,5 +1,5 @@
 -- No block, or one of no bytes, is not written.
-use Rattle.std.proofs.Common.{◌∙◌, ◌≡◌, sym, refl, length, arith}
+use Rattle.std.proofs.Common.{◌∙◌, sym, refl}
 use Rattle.std.proofs.lemmas.Bool.{eqb-true}
 use Rattle.desktop_session.specs.Asking.{writes_sort}
 use Rattle.desktop_session.specs.Requests.{writing_sort}

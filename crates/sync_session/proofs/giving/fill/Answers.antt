@@ -1,12 +1,10 @@
 -- The blocks, and then the news.
-use Rattle.std.proofs.Common.{[], ◌++◌, refl}
+use Rattle.std.proofs.Common.{[]}
 use Rattle.std.proofs.lemmas.Result.{err_from_is_err_and}
 use Rattle.std.specs.Option.{option_copied}
-use Rattle.dlp_replies.specs.ReplyReading.{reply_at}
 use Rattle.mirrors.specs.News.{news_of, puts}
 use Rattle.mirrors.proofs.AskLaws.{all_said, asks_part, asks_then}
 use Rattle.mirrors.proofs.PartFollows.{then_ends, then_goes}
-use Rattle.session_parts.proofs.CauseLaws.{later_by}
 use Rattle.session_plan.specs.Blocks.{blocks_of}
 use Rattle.sync_session.specs.News.{block_acts}
 use Rattle.sync_session.proofs.BlockLaws.{filled_said, later_put}

@@ -4,9 +4,7 @@ use Rattle.mirrors.proofs.NewsLaws.{split_at}
 use Rattle.std.proofs.Common.{◌∙◌, ap, ℕ}
 use Rattle.std.proofs.lemmas.List.{map-append}
 use Rattle.std.specs.Global.{Vec}
-use Rattle.desk_store.specs.Views.{shelves_in}
 use Rattle.session_plan.specs.Takes.{each_of}
-use Rattle.sync_session.specs.Inquiries.{gives_one}
 use Rattle.session_parts.proofs.EachFollows.{asked_all, asked_lost, asked_next, asked_none, asked_stop}
 use Rattle.session_parts.proofs.EachLaws.{each_lost, each_none, each_on, each_stopped}
 use Rattle.sync_session.proofs.giving.give_all.Goals as goal

@@ -1,5 +1,5 @@
 -- A database is made, given its blocks and its news, and closed.
-use Rattle.std.proofs.Common.{◌++◌, ◌∷◌, [], ap, refl, rules, subst}
+use Rattle.std.proofs.Common.{◌++◌, refl, rules}
 use Rattle.std.proofs.lemmas.Result.{err_from_is_err_and}
 use Rattle.std.specs.Option.{option_copied}
 use Rattle.mirrors.specs.News.{news_of, puts}

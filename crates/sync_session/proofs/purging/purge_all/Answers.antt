@@ -1,12 +1,9 @@
 -- Purges, one database after another.
 use Rattle.std.proofs.lemmas.Result.{err_from_is_err_and}
 use Rattle.mirrors.proofs.NewsLaws.{split_at}
-use Rattle.std.proofs.Common.{ap, refl, subst}
+use Rattle.std.proofs.Common.{refl}
 use Rattle.std.proofs.lemmas.List.{take_all}
-use Rattle.session_plan.specs.declared.planned.Planned.{Planned}
-use Rattle.session_parts.specs.Stretches.{done_each}
-use Rattle.sync_session.specs.Inquiries.{purges_one}
-use Rattle.session_parts.proofs.EachFollows.{EachAsked, asked_all, asked_next, asked_none, asked_stop}
+use Rattle.session_parts.proofs.EachFollows.{asked_all, asked_next, asked_none, asked_stop}
 use Rattle.session_parts.proofs.EachLaws.{done_each-next, each_none, each_on, each_stopped}
 use Rattle.sync_session.proofs.purging.purge_all.Goals as goal
 

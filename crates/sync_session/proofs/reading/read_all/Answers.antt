@@ -4,8 +4,7 @@ use Rattle.mirrors.proofs.NewsLaws.{split_at}
 use Rattle.std.proofs.Common.{◌∙◌, ap}
 use Rattle.std.proofs.lemmas.List.{map-append}
 use Rattle.conduit_rules.specs.declared.view.View.{View}
-use Rattle.desk_store.specs.Views.{shelves_in}
-use Rattle.sync_session.specs.Inquiries.{each_seen, reads_job}
+use Rattle.sync_session.specs.Inquiries.{each_seen}
 use Rattle.session_parts.proofs.EachFollows.{asked_all, asked_lost, asked_next, asked_none, asked_stop}
 use Rattle.session_parts.proofs.EachLaws.{each_lost, each_none, each_on, each_stopped}
 use Rattle.sync_session.proofs.reading.read_all.Goals as goal
