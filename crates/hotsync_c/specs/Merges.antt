@@ -18,6 +18,7 @@ use Rattle.pdb_values.specs.Databases.{DatabaseValue}
 use Rattle.pdb_values.specs.Heads.{holds_resources}
 use Rattle.session_parts.specs.declared.skip.Skip.{Skip}
 use Rattle.session_parts.specs.declared.skip.Skip.TheVariants as skip
+use Rattle.hotsync_c.specs.Rooms.{put_first}
 use Rattle.hotsync_c.specs.declared.merge.HsEnds.{HsEnds}
 use Rattle.hotsync_c.specs.declared.merge.HsHow.{HsHow}
 use Rattle.hotsync_c.specs.declared.merge_refusal.MergeRefusal.{MergeRefusal}
