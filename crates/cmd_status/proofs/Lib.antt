@@ -1,2 +1,3 @@
 pub mod PrintedLaws
 pub mod PrintedNameLaws
+pub mod UsageLaws

@@ -1,9 +1,11 @@
 pub mod Codes
+pub mod Commands
 pub mod FolderFaults
 pub mod Lines
 pub mod Opening
 pub mod Printed
 pub mod PrintedNames
+pub mod Reasons
 pub mod Sources
 pub mod Told
 pub mod Usages

@@ -22,7 +22,8 @@ use Rattle.cmd_status.specs.declared.status.Status.TheVariants.{TraceWrite, OutW
 use Rattle.cmd_status.specs.declared.status.Status.TheVariants.{TooManyUsers, Limit, NewHandheld, WrongSide, InUse, CannotExport, BadRecord, BadText, Overfull, BadTrace, NotProper, BadCategories, CannotInstall, NotBackupFolder, SameDatabase}
 use Rattle.cmd_status.specs.declared.status.Status.TheVariants.{StreamEnded, StreamAborted, BadHello, Refused, BadReply}
 use Rattle.cmd_status.specs.declared.status.Status.TheVariants.{PortFailed, NoHandheld, LineSilent, LineEndless, PeerAborted, PeerBeganAnew}
-use Rattle.cmd_status.specs.Usages.{usage_line, usage_of, way_on}
+use Rattle.cmd_status.specs.Reasons.{reason}
+use Rattle.cmd_status.specs.Usages.{usage_lines, usage_of, way_on}
 use Rattle.run_words.specs.declared.topic.CommandWord.{CommandWord}
 use Rattle.trace_check.specs.declared.rule.Rule.{Rule}
 use Rattle.trace_check.specs.declared.rule.Rule.TheVariants as rule
@@ -46,11 +47,12 @@ fault_words fault.TooFew = codes "too few words behind "
 fault_words fault.BadOption = codes "bad --"
 fault_words fault.BadWord = codes "bad word "
 
--- how a command is called, then the word at fault, and where more is said
+-- how a command is called, then the word at fault with the reason beside it, and where more is said
 unfoldable pub fault_lines : Option CommandWord → FaultKind → List ℕ → List ℕ
 fault_lines command kind word =
     usage_of command
-    ++ (fault_words kind ++ (printed_name word ++ (line_feed ++ way_on command)))
+    ++ (fault_words kind
+    ++ (printed_name word ++ (reason command kind word ++ (line_feed ++ way_on command))))
 
 abbrev pub no_memory_line : List ℕ
 no_memory_line = codes "no memory" ++ line_feed
@@ -152,7 +154,7 @@ rule_word rule.G = codes "g"
 -- the line of each refusal; a sink that failed gets none
 abbrev pub refusal_line : Status → List ℕ
 refusal_line Done = ended_line
-refusal_line Usage = usage_line
+refusal_line Usage = usage_lines
 refusal_line (BadWord command kind word) =
     fault_lines command kind (string_bytes {Z = Global} word)
 refusal_line (BadScript line) = number_line (codes "bad script line ") line

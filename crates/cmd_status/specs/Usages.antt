@@ -1,5 +1,7 @@
 -- How a command is called, where its words ask for nothing.
 use Rattle.std.specs.Prelude.{ℕ, List, [], ◌∷◌, ◌++◌, Option, None, Some, codes}
+use Rattle.std.specs.List.{flat_map}
+use Rattle.cmd_status.specs.Commands.{command_name, command_row, commands}
 use Rattle.run_words.specs.declared.topic.CommandWord.{CommandWord}
 use Rattle.run_words.specs.declared.topic.CommandWord.TheVariants.{Run, Check, Show, Export, Import, Verify, Picture, Packet, Install, Backup, Restore, Device, Categories, Sync, Make}
 
@@ -32,24 +34,6 @@ synopsis Sync =
     ++ codes "[--user=NAME] [--add-user]"
 synopsis Make = codes "hotsync make SEED N"
 
--- how its help is called
-abbrev pub help_call : CommandWord → List ℕ
-help_call Run = codes "hotsync help run"
-help_call Check = codes "hotsync help check"
-help_call Show = codes "hotsync help show"
-help_call Export = codes "hotsync help export"
-help_call Import = codes "hotsync help import"
-help_call Verify = codes "hotsync help verify"
-help_call Picture = codes "hotsync help picture"
-help_call Packet = codes "hotsync help packet"
-help_call Install = codes "hotsync help install"
-help_call Backup = codes "hotsync help backup"
-help_call Restore = codes "hotsync help restore"
-help_call Device = codes "hotsync help device"
-help_call Categories = codes "hotsync help categories"
-help_call Sync = codes "hotsync help sync"
-help_call Make = codes "hotsync help make"
-
 abbrev pub own_usage : CommandWord → List ℕ
 own_usage command = codes "usage: " ++ (synopsis command ++ (10 ∷ []))
 
@@ -61,8 +45,15 @@ usage_of (Some command) = own_usage command
 
 -- the line that says where more is said of it
 abbrev pub more_of : CommandWord → List ℕ
-more_of command = codes "more: " ++ (help_call command ++ (10 ∷ []))
+more_of command = codes "more: hotsync help " ++ (command_name command ++ (10 ∷ []))
 
 unfoldable pub way_on : Option CommandWord → List ℕ
 way_on None = codes "more: hotsync help\n"
 way_on (Some command) = more_of command
+
+-- how the program is called, where no word can be named: the line of `run`, and behind it the
+-- commands
+unfoldable pub usage_lines : List ℕ
+usage_lines =
+    usage_line ++ (codes "commands:\n" ++ (flat_map command_row commands
+    ++ codes "more: hotsync help COMMAND\n"))

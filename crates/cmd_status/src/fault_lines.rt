@@ -3,6 +3,7 @@ ghost use Rattle.std.specs.Prelude.{◌≡◌, IfOk, string_bytes};
 ghost use Rattle.cmd_status.specs.Lines.{fault_lines as lines_of_fault, fault_words as words_of_fault};
 
 use crate::printed_name::push_name;
+use crate::reasons::reason;
 use crate::usage::{push_usage, push_way_on};
 use run_words::{CommandWord, FaultKind};
 use std::alloc::{AllocError, Global};
@@ -25,7 +26,7 @@ fn fault_words(kind: FaultKind) -> &'static str
     }
 }
 
-/// How a command is called, then the word at fault, and where more is said.
+/// How a command is called, then the word at fault with the reason beside it, and where more is said.
 #[tactic(auto, unfolding(crate::specs::Lines::fault_lines))]
 pub(crate) fn fault_lines(
     alloc: Global,
@@ -39,6 +40,7 @@ pub(crate) fn fault_lines(
     push_usage(&mut lines, command)?;
     lines.push_str(fault_words(kind))?;
     push_name(&mut lines, word)?;
+    lines.push_str(reason(command, kind, word))?;
     lines.push_str("\n")?;
     push_way_on(&mut lines, command)?;
     Ok(lines)

@@ -5,15 +5,18 @@
 //! that no name makes a line of its own. The lines and the statuses are this program's own; docs/FORMATS.md lists them.
 #![tactic(auto)]
 
+mod commands;
 mod fault_lines;
 mod printed_name;
 mod printing;
+mod reasons;
 mod refusal_line;
 mod source;
 mod status;
 mod stderr_sink;
 mod usage;
 
+pub use commands::{COMMANDS, summary};
 pub use printed_name::push_name;
 pub use printing::{print_no_memory, print_refusal, print_text};
 pub use source::read_source;

@@ -6,7 +6,7 @@ ghost use Rattle.cmd_status.specs.Lines.{bad_file_line as line_of_bad_file, end_
 use crate::fault_lines::fault_lines;
 use crate::printed_name::push_name;
 use crate::status::{FileSide, Status, Surplus};
-use crate::usage::USAGE;
+use crate::usage::usage_lines;
 use dlp_replies::ErrorCode;
 use pdb_files::BadKind;
 use pdb_values::DbName;
@@ -22,7 +22,7 @@ pub(crate) fn refusal_line(alloc: Global, refusal: &Status) -> Result<String, Al
 {
     match refusal {
         Status::Done => String::from_str(alloc, "ended\n"),
-        Status::Usage => String::from_str(alloc, USAGE),
+        Status::Usage => usage_lines(alloc),
         Status::BadWord {
             command,
             kind,

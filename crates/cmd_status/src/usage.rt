@@ -1,12 +1,13 @@
 // How a command is called, where its words ask for nothing.
-ghost use Rattle.std.specs.Prelude.{◌≡◌, ◌++◌, OnOk, string_bytes};
+ghost use Rattle.std.specs.Prelude.{◌≡◌, ◌++◌, IfOk, OnOk, string_bytes};
 ghost use Rattle.cmd_status.specs.Usages as usages;
 
+use crate::commands::{COMMANDS, command_name, command_rows};
 use run_words::CommandWord;
-use std::alloc::AllocError;
+use std::alloc::{AllocError, Global};
 
 /// How the program is called.
-pub(crate) const USAGE: &str =
+const USAGE: &str =
     "usage: hotsync run HANDHELD DESKTOP --date=D [--script=F] [--trace=F] [--only=L] [--slow] [--actions=L] [--add-user]\n";
 
 /// How a command is called.
@@ -37,29 +38,6 @@ pub fn synopsis(command: CommandWord) -> &'static str
             "hotsync sync PORT DESKTOP --date=D [--only=L] [--trace=F] [--slow] [--actions=L] [--user=NAME] [--add-user]"
         }
         CommandWord::Make => "hotsync make SEED N",
-    }
-}
-
-// How its help is called.
-fn help_call(command: CommandWord) -> &'static str
-    ensures { result.now ≡ usages.help_call command }
-{
-    match command {
-        CommandWord::Run => "hotsync help run",
-        CommandWord::Check => "hotsync help check",
-        CommandWord::Show => "hotsync help show",
-        CommandWord::Export => "hotsync help export",
-        CommandWord::Import => "hotsync help import",
-        CommandWord::Verify => "hotsync help verify",
-        CommandWord::Picture => "hotsync help picture",
-        CommandWord::Packet => "hotsync help packet",
-        CommandWord::Install => "hotsync help install",
-        CommandWord::Backup => "hotsync help backup",
-        CommandWord::Restore => "hotsync help restore",
-        CommandWord::Device => "hotsync help device",
-        CommandWord::Categories => "hotsync help categories",
-        CommandWord::Sync => "hotsync help sync",
-        CommandWord::Make => "hotsync help make",
     }
 }
 
@@ -100,8 +78,21 @@ pub(crate) fn push_way_on(
 fn push_more(lines: &mut String, command: CommandWord) -> Result<(), AllocError>
     ensures { OnOk result (string_bytes lines.new ≡ string_bytes lines.old ++ usages.more_of command) }
 {
-    lines.push_str("more: ")?;
-    lines.push_str(help_call(command))?;
+    lines.push_str("more: hotsync help ")?;
+    lines.push_str(command_name(command))?;
     lines.push_str("\n")?;
     Ok(())
+}
+
+/// How the program is called, where no word can be named: the line of `run`, and behind it the commands.
+#[tactic(auto, unfolding(crate::specs::Usages::usage_lines))]
+pub(crate) fn usage_lines(alloc: Global) -> Result<String, AllocError>
+    ensures { IfOk result (λ text. string_bytes text ≡ usages.usage_lines) }
+{
+    let rows = command_rows(alloc, COMMANDS)?;
+    let mut text = String::from_str(alloc, USAGE)?;
+    text.push_str("commands:\n")?;
+    text.push_str(rows.as_str())?;
+    text.push_str("more: hotsync help COMMAND\n")?;
+    Ok(text)
 }
