@@ -5,34 +5,11 @@ use Rattle.run_words.specs.declared.topic.CommandWord.{CommandWord}
 use Rattle.run_words.specs.declared.topic.CommandWord.TheVariants.{Run, Check, Show, Export, Import, Verify, Picture, Packet, Install, Backup, Restore, Device, Categories, Sync, Make}
 use Rattle.run_words.specs.declared.topic.Topic.{Topic}
 use Rattle.run_words.specs.declared.topic.Topic.TheVariants.{Program, Version, Of}
+use Rattle.cmd_status.specs.Commands.{commands, summary}
 use Rattle.cmd_status.specs.Lines.{line_feed}
 use Rattle.cmd_status.specs.Usages.{synopsis}
 use Rattle.hotsync_looks.specs.declared.help_text.OptionLine.{OptionLine}
 use Rattle.hotsync_looks.specs.declared.help_text.OptionLine.TheVariants.{Date, DateNow, Script, Trace, Input, Output, Port, Slow, Actions, ActionsBoth, Only, User, AddUser, DryRun, AsText, AsCards, AsTable, AsCalendar, WithoutPrivate, KeepBroken, Records, Like}
-
--- the commands, in the order in which help tells them
-abbrev pub commands : List CommandWord
-commands =
-    Run ∷ Check ∷ Show ∷ Export ∷ Import ∷ Verify ∷ Picture ∷ Packet
-    ∷ Install ∷ Backup ∷ Restore ∷ Device ∷ Categories ∷ Sync ∷ Make ∷ []
-
--- what it does, in a sentence
-abbrev pub summary : CommandWord → List ℕ
-summary Run = codes "brings a handheld's folder and a desktop's together"
-summary Check = codes "says whether the file of a database is whole"
-summary Show = codes "says what a database holds"
-summary Export = codes "prints what the records of a database say"
-summary Import = codes "makes a database of a text of memos"
-summary Verify = codes "says whether a trace keeps each rule of the line"
-summary Picture = codes "makes a page of a trace, for a browser"
-summary Packet = codes "shows the packets in hexadecimal bytes"
-summary Install = codes "puts one file onto a handheld"
-summary Backup = codes "copies each database of a handheld into a folder"
-summary Restore = codes "puts the databases of a folder onto a handheld"
-summary Device = codes "is the handheld's end, over captured bytes or at a port"
-summary Categories = codes "brings the categories of both sides together"
-summary Sync = codes "synchronises the handheld at a port"
-summary Make = codes "synchronises two folders that it makes in memory"
 
 -- the options of a command
 abbrev pub options : CommandWord → List OptionLine
@@ -56,19 +33,28 @@ options Make = []
 
 -- what is said of an option
 abbrev pub option_words : OptionLine → List ℕ
-option_words Date = codes "--date=D           the date of the session, from 1904 to 2040"
+option_words Date =
+    codes "--date=D           the date of the session, YYYY-MM-DDTHH:MM:SS from 1904 "
+    ++ codes "to 2040"
 option_words DateNow = codes "--date=now         the date of the system's clock in UTC"
-option_words Script = codes "--script=F         what the line does to each frame"
-option_words Trace = codes "--trace=F          writes each frame that went over the line"
-option_words Input = codes "--in=F             the bytes that a handheld hears"
+option_words Script = codes "--script=F         what the line does to each frame, from the file F"
+option_words Trace =
+    codes "--trace=F          writes each frame that went over the line to the file F"
+option_words Input = codes "--in=F             the bytes that a handheld hears, from the file F"
 option_words Output = codes "--out=F            the file F for the bytes that it says"
 option_words Port = codes "--port=PORT        the port at which device stands"
 option_words Slow = codes "--slow             reads every record of the handheld"
-option_words Actions = codes "--actions=L        what is done with single databases"
+option_words Actions =
+    codes "--actions=L        what is done with single databases, as "
+    ++ codes "STEM:WORD,STEM:WORD.. with WORD one of sync, both, handheld, desktop, "
+    ++ codes "nothing"
 option_words ActionsBoth =
     codes "--actions=*:both   keeps what is live on either side, as if they had never met"
-option_words Only = codes "--only=L           the databases that are touched"
-option_words User = codes "--user=NAME        the name of the handheld's user"
+option_words Only =
+    codes "--only=L           the databases that are touched, as STEM,STEM.., the "
+    ++ codes "names of their files without .pdb"
+option_words User =
+    codes "--user=NAME        the name of the handheld's user, of 1 to 40 characters"
 option_words AddUser =
     codes "--add-user         where the handheld's user is unknown to the desktop, a place of its "
     ++ codes "own is made"
@@ -96,17 +82,64 @@ command_lines command = indented (synopsis command) ++ (codes "    " ++ indented
 abbrev pub option_line : OptionLine → List ℕ
 option_line option = indented (option_words option)
 
+-- how it is called, for example
+abbrev pub first_example : CommandWord → List ℕ
+first_example Run = codes "hotsync run handheld desktop --date=now"
+first_example Check = codes "hotsync check MemoDB.pdb"
+first_example Show = codes "hotsync show MemoDB.pdb"
+first_example Export = codes "hotsync export MemoDB.pdb --as=txt >memos.txt"
+first_example Import = codes "hotsync import memos.txt --as=txt >new.pdb"
+first_example Verify = codes "hotsync verify trace.txt"
+first_example Picture = codes "hotsync picture trace.txt >trace.html"
+first_example Packet = codes "hotsync packet beefed030302000401a702c00002ce11"
+first_example Install = codes "hotsync install handheld Chess.prc"
+first_example Backup = codes "hotsync backup handheld backup"
+first_example Restore = codes "hotsync restore handheld backup"
+first_example Device = codes "hotsync device handheld --in=sent --out=answer"
+first_example Categories = codes "hotsync categories handheld desktop"
+first_example Sync = codes "hotsync-port /dev/ttyUSB0 sync desktop --date=now"
+first_example Make = codes "hotsync make 7 1500"
+
+-- and in another way
+abbrev pub second_example : CommandWord → List ℕ
+second_example Run = codes "hotsync run handheld desktop --date=now --dry-run"
+second_example Check = codes "hotsync check handheld/MemoDB.pdb"
+second_example Show = codes "hotsync show MemoDB.pdb --records"
+second_example Export = codes "hotsync export DatebookDB.pdb --as=ics --date=now >dates.ics"
+second_example Import = codes "hotsync import memos.txt --as=txt --like=MemoDB.pdb >new.pdb"
+second_example Verify =
+    codes "hotsync run handheld desktop --date=now --trace=new.txt && hotsync verify "
+    ++ codes "new.txt"
+second_example Picture =
+    codes "hotsync run handheld desktop --date=now --trace=new.txt && hotsync picture "
+    ++ codes "new.txt >new.html"
+second_example Packet = codes "hotsync packet $(head -c 4096 sent | od -An -v -tx1 | tr -cd 0-9a-f)"
+second_example Install = codes "hotsync install handheld MemoDB.pdb --trace=new.txt"
+second_example Backup = codes "hotsync backup handheld backup --trace=new.txt"
+second_example Restore = codes "hotsync backup handheld backup && hotsync restore other backup"
+second_example Device = codes "hotsync-port /dev/ttyUSB0 device handheld"
+second_example Categories =
+    codes "hotsync categories handheld desktop && hotsync run handheld desktop "
+    ++ codes "--date=now"
+second_example Sync = codes "hotsync-port /dev/ttyUSB0 sync desktop --date=now --only=MemoDB,ToDoDB"
+second_example Make = codes "hotsync make 1 10"
+
+-- both, behind a line of their own
+unfoldable pub examples_text : CommandWord → List ℕ
+examples_text command =
+    codes "examples:\n" ++ (indented (first_example command) ++ indented (second_example command))
+
 -- how the program is called
 unfoldable pub program_help : List ℕ
 program_help =
     codes "usage:\n" ++ flat_map command_lines commands
     ++ codes "  hotsync help [COMMAND]\n" ++ codes "  hotsync --version\n"
 
--- how a command is called, what it does, and its options
+-- how a command is called, what it does, its options, and examples
 unfoldable pub command_help : CommandWord → List ℕ
 command_help command =
     codes "usage: " ++ synopsis command ++ line_feed ++ (summary command ++ line_feed)
-    ++ flat_map option_line (options command)
+    ++ (flat_map option_line (options command) ++ examples_text command)
 
 -- the text of a topic
 abbrev pub help_text : Topic → List ℕ

@@ -1,8 +1,10 @@
 pub mod BadFiles
+pub mod DockingFaults
 pub mod ExportTexts
 pub mod HelpTexts
 pub mod Helped
 pub mod InstallFiles
+pub mod JointFaults
 pub mod LikingSystems
 pub mod Likings
 pub mod LookTexts

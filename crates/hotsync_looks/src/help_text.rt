@@ -3,31 +3,12 @@ ghost use Rattle.std.specs.Prelude.{◌≡◌, IfOk, string_bytes};
 ghost use Rattle.std.specs.List.{flat_map};
 ghost use Rattle.hotsync_looks.specs.HelpTexts as spec;
 
-use cmd_status::synopsis;
+use cmd_status::{COMMANDS, summary, synopsis};
 use run_words::{CommandWord, Topic};
 use std::alloc::{AllocError, Global};
 
 /// The program and its version.
 const VERSION: &str = "hotsync 0.9.0\n";
-
-/// The commands, in the order in which help tells them.
-const COMMANDS: &[CommandWord] = &[
-    CommandWord::Run,
-    CommandWord::Check,
-    CommandWord::Show,
-    CommandWord::Export,
-    CommandWord::Import,
-    CommandWord::Verify,
-    CommandWord::Picture,
-    CommandWord::Packet,
-    CommandWord::Install,
-    CommandWord::Backup,
-    CommandWord::Restore,
-    CommandWord::Device,
-    CommandWord::Categories,
-    CommandWord::Sync,
-    CommandWord::Make,
-];
 
 /// An option in the text of help.
 #[derive(Clone, Copy)]
@@ -76,29 +57,6 @@ pub enum OptionLine {
     Records,
     /// `--like=FILE`.
     Like,
-}
-
-// What a command does, in a sentence.
-fn summary(command: CommandWord) -> &'static str
-    ensures { result.now ≡ spec.summary command }
-{
-    match command {
-        CommandWord::Run => "brings a handheld's folder and a desktop's together",
-        CommandWord::Check => "says whether the file of a database is whole",
-        CommandWord::Show => "says what a database holds",
-        CommandWord::Export => "prints what the records of a database say",
-        CommandWord::Import => "makes a database of a text of memos",
-        CommandWord::Verify => "says whether a trace keeps each rule of the line",
-        CommandWord::Picture => "makes a page of a trace, for a browser",
-        CommandWord::Packet => "shows the packets in hexadecimal bytes",
-        CommandWord::Install => "puts one file onto a handheld",
-        CommandWord::Backup => "copies each database of a handheld into a folder",
-        CommandWord::Restore => "puts the databases of a folder onto a handheld",
-        CommandWord::Device => "is the handheld's end, over captured bytes or at a port",
-        CommandWord::Categories => "brings the categories of both sides together",
-        CommandWord::Sync => "synchronises the handheld at a port",
-        CommandWord::Make => "synchronises two folders that it makes in memory",
-    }
 }
 
 // The options of a command.
@@ -163,20 +121,32 @@ fn option_words(option: OptionLine) -> &'static str
     ensures { result.now ≡ spec.option_words option }
 {
     match option {
-        OptionLine::Date => "--date=D           the date of the session, from 1904 to 2040",
+        OptionLine::Date => {
+            "--date=D           the date of the session, YYYY-MM-DDTHH:MM:SS from 1904 to 2040"
+        }
         OptionLine::DateNow => "--date=now         the date of the system's clock in UTC",
-        OptionLine::Script => "--script=F         what the line does to each frame",
-        OptionLine::Trace => "--trace=F          writes each frame that went over the line",
-        OptionLine::Input => "--in=F             the bytes that a handheld hears",
+        OptionLine::Script => {
+            "--script=F         what the line does to each frame, from the file F"
+        }
+        OptionLine::Trace => {
+            "--trace=F          writes each frame that went over the line to the file F"
+        }
+        OptionLine::Input => "--in=F             the bytes that a handheld hears, from the file F",
         OptionLine::Output => "--out=F            the file F for the bytes that it says",
         OptionLine::Port => "--port=PORT        the port at which device stands",
         OptionLine::Slow => "--slow             reads every record of the handheld",
-        OptionLine::Actions => "--actions=L        what is done with single databases",
+        OptionLine::Actions => {
+            "--actions=L        what is done with single databases, as STEM:WORD,STEM:WORD.. with WORD one of sync, both, handheld, desktop, nothing"
+        }
         OptionLine::ActionsBoth => {
             "--actions=*:both   keeps what is live on either side, as if they had never met"
         }
-        OptionLine::Only => "--only=L           the databases that are touched",
-        OptionLine::User => "--user=NAME        the name of the handheld's user",
+        OptionLine::Only => {
+            "--only=L           the databases that are touched, as STEM,STEM.., the names of their files without .pdb"
+        }
+        OptionLine::User => {
+            "--user=NAME        the name of the handheld's user, of 1 to 40 characters"
+        }
         OptionLine::AddUser => {
             "--add-user         where the handheld's user is unknown to the desktop, a place of its own is made"
         }
@@ -194,6 +164,62 @@ fn option_words(option: OptionLine) -> &'static str
             "--records          the bytes of each entry as text, behind its line"
         }
         OptionLine::Like => "--like=FILE        the categories of the database in FILE",
+    }
+}
+
+// How it is called, for example.
+fn first_example(command: CommandWord) -> &'static str
+    ensures { result.now ≡ spec.first_example command }
+{
+    match command {
+        CommandWord::Run => "hotsync run handheld desktop --date=now",
+        CommandWord::Check => "hotsync check MemoDB.pdb",
+        CommandWord::Show => "hotsync show MemoDB.pdb",
+        CommandWord::Export => "hotsync export MemoDB.pdb --as=txt >memos.txt",
+        CommandWord::Import => "hotsync import memos.txt --as=txt >new.pdb",
+        CommandWord::Verify => "hotsync verify trace.txt",
+        CommandWord::Picture => "hotsync picture trace.txt >trace.html",
+        CommandWord::Packet => "hotsync packet beefed030302000401a702c00002ce11",
+        CommandWord::Install => "hotsync install handheld Chess.prc",
+        CommandWord::Backup => "hotsync backup handheld backup",
+        CommandWord::Restore => "hotsync restore handheld backup",
+        CommandWord::Device => "hotsync device handheld --in=sent --out=answer",
+        CommandWord::Categories => "hotsync categories handheld desktop",
+        CommandWord::Sync => "hotsync-port /dev/ttyUSB0 sync desktop --date=now",
+        CommandWord::Make => "hotsync make 7 1500",
+    }
+}
+
+// And in another way.
+fn second_example(command: CommandWord) -> &'static str
+    ensures { result.now ≡ spec.second_example command }
+{
+    match command {
+        CommandWord::Run => "hotsync run handheld desktop --date=now --dry-run",
+        CommandWord::Check => "hotsync check handheld/MemoDB.pdb",
+        CommandWord::Show => "hotsync show MemoDB.pdb --records",
+        CommandWord::Export => "hotsync export DatebookDB.pdb --as=ics --date=now >dates.ics",
+        CommandWord::Import => "hotsync import memos.txt --as=txt --like=MemoDB.pdb >new.pdb",
+        CommandWord::Verify => {
+            "hotsync run handheld desktop --date=now --trace=new.txt && hotsync verify new.txt"
+        }
+        CommandWord::Picture => {
+            "hotsync run handheld desktop --date=now --trace=new.txt && hotsync picture new.txt >new.html"
+        }
+        CommandWord::Packet => {
+            "hotsync packet $(head -c 4096 sent | od -An -v -tx1 | tr -cd 0-9a-f)"
+        }
+        CommandWord::Install => "hotsync install handheld MemoDB.pdb --trace=new.txt",
+        CommandWord::Backup => "hotsync backup handheld backup --trace=new.txt",
+        CommandWord::Restore => "hotsync backup handheld backup && hotsync restore other backup",
+        CommandWord::Device => "hotsync-port /dev/ttyUSB0 device handheld",
+        CommandWord::Categories => {
+            "hotsync categories handheld desktop && hotsync run handheld desktop --date=now"
+        }
+        CommandWord::Sync => {
+            "hotsync-port /dev/ttyUSB0 sync desktop --date=now --only=MemoDB,ToDoDB"
+        }
+        CommandWord::Make => "hotsync make 1 10",
     }
 }
 
@@ -257,7 +283,20 @@ fn program_text(alloc: Global) -> Result<String, AllocError>
     Ok(text)
 }
 
-// How a command is called, what it does, and its options.
+// The examples of a command, behind a line of their own.
+#[tactic(auto, unfolding(crate::specs::HelpTexts::examples_text))]
+fn examples_text(alloc: Global, command: CommandWord) -> Result<String, AllocError>
+    ensures { IfOk result (λ text. string_bytes text ≡ spec.examples_text command) }
+{
+    let first = indented(alloc, first_example(command))?;
+    let second = indented(alloc, second_example(command))?;
+    let mut text = String::from_str(alloc, "examples:\n")?;
+    text.push_str(first.as_str())?;
+    text.push_str(second.as_str())?;
+    Ok(text)
+}
+
+// How a command is called, what it does, its options, and examples.
 #[tactic(auto, unfolding(crate::specs::HelpTexts::command_help))]
 fn command_text(alloc: Global, command: CommandWord) -> Result<String, AllocError>
     ensures { IfOk result (λ text. string_bytes text ≡ spec.command_help command) }
@@ -269,6 +308,8 @@ fn command_text(alloc: Global, command: CommandWord) -> Result<String, AllocErro
     text.push_str("\n")?;
     let options = options_text(alloc, options(command))?;
     text.push_str(options.as_str())?;
+    let examples = examples_text(alloc, command)?;
+    text.push_str(examples.as_str())?;
     Ok(text)
 }
 

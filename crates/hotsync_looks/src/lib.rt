@@ -4,11 +4,13 @@
 #![tactic(auto)]
 
 mod bad_file;
+mod docking;
 mod exported;
 mod help;
 mod help_text;
 mod imported;
 mod install_file;
+mod joint_fault;
 mod liked;
 mod liked_program;
 mod look;
@@ -17,8 +19,10 @@ mod packets;
 mod served;
 mod traced;
 
+pub use docking::docking_fault;
 pub use help::print_help;
 pub use install_file::read_install_file;
+pub use joint_fault::word_at_fault;
 pub use liked::import_like;
 pub use liked_program::{asks_liking, import_on_system};
 pub use look::look_at;

@@ -4,16 +4,17 @@ ghost use Rattle.hs_folders.specs.Causes.{Rose};
 ghost use Rattle.pdb_values.specs.Heads.{holds_resources};
 ghost use Rattle.cmd_status.specs.Opening.{Opens, OpensAtMost};
 ghost use Rattle.cmd_status.specs.Told.{sink_told, source_told};
+ghost use Rattle.hotsync_looks.specs.JointFaults as faults;
 ghost use Rattle.hotsync_looks.specs.Likings as likings;
 ghost use Rattle.hotsync_looks.specs.Likings.{IsLikedFile, IsLikedIn, IsLiking, IsLikingCall, RefusesLiking, SaysUnlike};
 ghost use Rattle.hotsync_looks.specs.Misuses.{TellsFault};
-ghost use Rattle.run_words.specs.Faults.{fault_of as fault_of_words};
 ghost use Rattle.run_words.specs.Helps.{command_named as named_by_first};
 ghost use Rattle.run_words.specs.Likes.{liking_of};
 ghost use Rattle.run_words.specs.Views.{like_view};
 
 use crate::bad_file::fault_status;
 use crate::imported::imported_database;
+use crate::joint_fault::word_at_fault;
 use crate::misuse::print_misuse;
 use category_tables::{LikeFault, file_like};
 use cmd_status::{FileSide, Status, Surplus, print_refusal, print_text, read_source};
@@ -21,7 +22,7 @@ use hs_folders::{Sink, Source};
 use pdb_files::{read_database, write_database};
 use pdb_values::{Database, DbName};
 use run_clap::{WordsFault, read_liking};
-use run_words::{LikeWords, command_named, fault_of};
+use run_words::{LikeWords, command_named};
 use std::alloc::Global;
 
 /// Reads a text and another file, as the words ask for, and prints the file of the database that the memos of the text make, in
@@ -47,14 +48,14 @@ pub fn import_like<S: Source, L: Source, O: Sink, E: Sink>(
         → (source.new ≡ source.old) × (like.new ≡ like.old) }
     ensures fault { liking_of (map string_bytes words.now) ≡ None
         → TellsFault (named_by_first (map string_bytes words.now))
-        (fault_of_words None (map string_bytes words.now)) result }
+        (faults.word_at_fault None (map string_bytes words.now)) result }
 {
     match read_liking(alloc, words) {
         Ok(words) => import_file(alloc, words, source, like, out, err),
         Err(WordsFault::Usage) => print_misuse(
             alloc,
             command_named(words),
-            fault_of(None, words),
+            word_at_fault(None, words),
             err,
         ),
         Err(WordsFault::NoMemory) => print_refusal(alloc, Status::NoMemory, err),

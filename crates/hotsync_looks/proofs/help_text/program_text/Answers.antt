@@ -1,7 +1,8 @@
 use Rattle.std.proofs.Common.{◌∙◌, ◌++◌, ap, string_bytes}
 use Rattle.std.specs.Prelude.{codes}
 use Rattle.std.specs.List.{flat_map}
-use Rattle.hotsync_looks.specs.HelpTexts.{command_lines, commands, program_help}
+use Rattle.cmd_status.specs.Commands.{commands}
+use Rattle.hotsync_looks.specs.HelpTexts.{command_lines, program_help}
 use Rattle.hotsync_looks.proofs.HelpLaws.{four_parts}
 use Rattle.hotsync_looks.proofs.help_text.program_text.Goals as goal
 
