@@ -32,7 +32,7 @@ heard-then a (call ∷ es) xs b fs ys c first next = (
   first.1,
   first.2 ++ ys,
   ap (λ (tries : List Try). tries ++ ys) first.3
-  ∙ append_assoc (tries_at a.cause call first.0.cause) first.2 ys,
+      ∙ append_assoc (tries_at a.cause call first.0.cause) first.2 ys,
   heard-then first.0 es first.2 b fs ys c first.4 next,
 )
 

@@ -1,4 +1,4 @@
-use Rattle.std.proofs.Common.{◌<◌, List, ℕ, get_or, refl, subst, sym, ap, arith}
+use Rattle.std.proofs.Common.{◌<◌, ◌∙◌, List, ℕ, get_or, refl, subst, sym, ap, arith}
 use Rattle.std.specs.Prelude.{Option, Some, None, Ok, Err}
 use Rattle.std.specs.Option.{option_map}
 use Rattle.dlp_commands.specs.Links.{MayExchange}
@@ -11,10 +11,15 @@ use Rattle.dlp_commands.specs.Tries.{tries_of}
 use Rattle.port_link.specs.Calls.{Heard, LinkValue}
 use Rattle.port_link.specs.Courses.{scene}
 use Rattle.port_link.specs.Logs.{log_entries}
-use Rattle.port_link.proofs.CallLaws.{asks-by, heard-answered, heard-left, heard-since}
+use Rattle.port_link.proofs.CallLaws.{asks-by, heard-answered, heard-left, heard-since, heard-still}
 use Rattle.port_link.proofs.MendedLaws.{bytes-of, heard-of}
 use Rattle.port_link.specs.Calls.{AnswersExchange}
 use Rattle.port_link.proofs.link.PortLinkLink.exchange.Goals as goal
+
+pub returns-in-Some-clause-heard : goal.returns-in-Some-clause-heard
+returns-in-Some-clause-heard g c =
+    heard-still c.args.request.now _ c.in-Some.cause _ c.args.self.now c.args.self.now
+    (sym (ap (λ (value : LinkValue). value.cause) c.self.view_is) ∙ c.in-Some.is) refl
 
 pub returns-in-Ok-clause-heard : goal.returns-in-Ok-clause-heard
 returns-in-Ok-clause-heard g c =

@@ -6,7 +6,11 @@ use Rattle.port_link.specs.Calls.{Heard, LinkValue}
 use Rattle.port_link.specs.Courses.{scene}
 use Rattle.port_link.specs.Logs.{log_entries}
 use Rattle.port_link.proofs.CallLaws.{heard-hello, heard-since, hello-by}
+use Rattle.port_link.specs.SinceLaws.{heard_none}
 use Rattle.port_link.proofs.link.PortLinkLink.hello.Goals as goal
+
+pub returns-in-Some-clause-heard : goal.returns-in-Some-clause-heard
+returns-in-Some-clause-heard g c = heard_none c.args.self.now
 
 pub returns-in-Ok-clause-heard : goal.returns-in-Ok-clause-heard
 returns-in-Ok-clause-heard g c =
