@@ -49,10 +49,10 @@ module _ {L F : Type 0} (link : Ghosts L) (folder : FolderMembers F) where
   finished_told goes =
       record { answer = goes.answer; follows = goes.follows; end_is = goes.end_is; same_folder = ap (desk_told folder) goes.same_folder }
 
-  committed_told : {work : Work} {old : L} {left : Outcome L F} (answer : Result (DeskValue F) (CommitFault × F)) → AfterCommit link work old answer left
-      → AfterCommit link work old (told_answer answer) (told_left left)
-  committed_told (Ok desk) goes = finished_told goes
-  committed_told {left = left} (Err refusal) is = stopped_told left is
+  committed_told : (work : Work) (old : L) (left : Outcome L F) (answer : Result (DeskValue F) (CommitFault × F))
+      → AfterCommit link work old answer left → AfterCommit link work old (told_answer answer) (told_left left)
+  committed_told work old left (Ok desk) goes = finished_told goes
+  committed_told work old left (Err refusal) is = stopped_told left is
 
   module _ {taken : List SlotValue} {entries : List EntryValue} {desk : DeskValue F} where
     slots_told : (answer : Result (DeskValue F) (CommitFault × F)) → CommitsSlots folder.contents folder.moments folder.paths folder.faults taken entries desk answer
@@ -82,46 +82,52 @@ module _ {L F : Type 0} (link : Ghosts L) (folder : FolderMembers F) where
 
   commits_told : {work : Work} {ids : List (List ℕ)} {old : L} {desk : DeskValue F} {left : Outcome L F} → Commits link folder work ids old desk left
       → Commits link folder_members work ids old (told_desk desk) (told_left left)
-  commits_told commits = record {
+  commits_told {work = work} {old = old} {left = left} commits = record {
     answer = told_answer commits.answer;
     commits = slots_told commits.answer commits.commits;
-    goes = committed_told commits.answer commits.goes;
+    goes = committed_told work old left commits.answer commits.goes;
   }
 
   -- ---- what precedes it
 
-  news_told : {work : Work} {now : L} {desk : DeskValue F} {left : Outcome L F} (answer : Result (List (List ℕ)) SessionFault)
+  news_told : (work : Work) (now : L) (desk : DeskValue F) (left : Outcome L F) (answer : Result (List (List ℕ)) SessionFault)
       → AfterNews link folder work now desk answer left → AfterNews link folder_members work now (told_desk desk) answer (told_left left)
-  news_told (Ok ids) goes = commits_told goes
-  news_told {left = left} (Err cause) is = stopped_told left is
+  news_told work now desk left (Ok ids) goes = commits_told goes
+  news_told work now desk left (Err cause) is = stopped_told left is
 
   sent_told : {work : Work} {old : L} {desk : DeskValue F} {left : Outcome L F} → Sends link folder work old desk left
       → Sends link folder_members work old (told_desk desk) (told_left left)
-  sent_told goes = record { now = goes.now; answer = goes.answer; follows = goes.follows; goes = news_told goes.answer goes.goes }
+  sent_told {work = work} {desk = desk} {left = left} goes =
+      record { now = goes.now; answer = goes.answer; follows = goes.follows; goes = news_told work goes.now desk left goes.answer goes.goes }
 
-  judged_told : {wishes : Wishes} {user : UserInfo} {planned : List Planned} {now : L} {desk : DeskValue F} {left : Outcome L F}
+  judged_told : (wishes : Wishes) (user : UserInfo) (planned : List Planned) (now : L) (desk : DeskValue F) (left : Outcome L F)
       (answer : Result (Vec DbReport) Stop) → AfterJudging link folder wishes user planned now desk answer left
       → AfterJudging link folder_members wishes user planned now (told_desk desk) answer (told_left left)
-  judged_told (Ok reports) goes = sent_told goes
-  judged_told {left = left} (Err cause) is = stopped_told left is
+  judged_told wishes user planned now desk left (Ok reports) goes = sent_told goes
+  judged_told wishes user planned now desk left (Err cause) is = stopped_told left is
 
   decided_told : {wishes : Wishes} {learnt : Learnt} {now : L} {desk : DeskValue F} {left : Outcome L F} → Decides link folder wishes learnt now desk left
       → Decides link folder_members wishes learnt now (told_desk desk) (told_left left)
-  decided_told goes = record {
+  decided_told {wishes = wishes} {learnt = learnt} {now = now} {desk = desk} {left = left} goes = record {
     planned = goes.planned;
     answer = goes.answer;
     plans = record { seen = goes.plans.seen; plans = goes.plans.plans; judged = goes.plans.judged };
-    goes = judged_told goes.answer goes.goes;
+    goes = judged_told wishes learnt.user goes.planned now desk left goes.answer goes.goes;
   }
 
-  learnt_told : {wishes : Wishes} {now : L} {desk : DeskValue F} {left : Outcome L F} (answer : Result Learnt SessionFault)
+  learnt_told : (wishes : Wishes) (now : L) (desk : DeskValue F) (left : Outcome L F) (answer : Result Learnt SessionFault)
       → AfterLearning link folder wishes now desk answer left → AfterLearning link folder_members wishes now (told_desk desk) answer (told_left left)
-  learnt_told (Ok learnt) goes = decided_told goes
-  learnt_told {left = left} (Err cause) is = stopped_told left is
+  learnt_told wishes now desk left (Ok learnt) goes = decided_told goes
+  learnt_told wishes now desk left (Err cause) is = stopped_told left is
 
   asked_told : {wishes : Wishes} {old : L} {desk : DeskValue F} {left : Outcome L F} → AsksSession link folder wishes old desk left
       → AsksSession link folder_members wishes old (told_desk desk) (told_left left)
-  asked_told asks = record { now = asks.now; answer = asks.answer; follows = asks.follows; goes = learnt_told asks.answer asks.goes }
+  asked_told {wishes = wishes} {desk = desk} {left = left} asks = record {
+    now = asks.now;
+    answer = asks.answer;
+    follows = asks.follows;
+    goes = learnt_told wishes asks.now desk left asks.answer asks.goes;
+  }
 
 -- so it is over a port
 pub asks_cable : {D : Type 0} (folder : FolderMembers D) {cable : Cable} {wishes : Wishes} {first : LinkValue} {desk : DeskValue D} {left : Outcome LinkValue D}
