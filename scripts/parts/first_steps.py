@@ -3,8 +3,9 @@
 The program is proved, built and installed by the scripts that README names, but for the gate;
 HOTSYNC stands for the program that the kit would build. Then each command in a block of a console
 has to print what stands below it, the files that README names have to lie where it says, and each
-example of a command in README and in docs/MANUAL.md, with names in place of capitals, has to be
-done. Ends with 1 where something is otherwise, or the examples have become few.
+example of a command in README, in docs/MANUAL.md, with names in place of capitals, and in what
+`hotsync help COMMAND` prints, has to be done. Ends with 1 where something is otherwise, or the
+examples have become few.
 """
 import os
 import re
@@ -18,7 +19,7 @@ TOP = os.path.abspath(f"{os.path.dirname(__file__)}/../..")
 BUILT = "crates/hotsync_cli/out/hotsync_cli"
 STEPS = "## The package and the first build"
 MANUAL = "docs/MANUAL.md"
-FEWEST = 29
+FEWEST = 56
 LEFT = ["desktop/MemoDB.pdb", "desktop/MemoDB.base", "desktop/desktop.inf", "handheld/device.inf"]
 # What stands for a name in both pages: capitals, and an option's value of one letter.
 PLACEHOLDER = re.compile(r"\b[A-Z][A-Z-]+\b(?!\.)|=[A-Z]\b|\b[A-Z]\b")
@@ -113,8 +114,9 @@ def prepare(repository, place, surroundings):
     os.makedirs(f"{place}/backup")
     shutil.copytree(f"{repository}/demo/handheld", f"{place}/handheld")
     examples = f"{repository}/examples"
-    for path in [f"{repository}/demo/handheld/MemoDB.pdb", f"{examples}/address-book/AddressDB.pdb",
-                 f"{examples}/address-book/ToDoDB.pdb", f"{examples}/date-book/DatebookDB.pdb"]:
+    for path in [f"{examples}/categories/handheld/MemoDB.pdb",
+                 f"{examples}/address-book/AddressDB.pdb", f"{examples}/address-book/ToDoDB.pdb",
+                 f"{examples}/date-book/DatebookDB.pdb"]:
         shutil.copy(path, place)
     shutil.copy(f"{place}/MemoDB.pdb", f"{place}/backup")
     with open(f"{place}/Chess.prc", "wb") as file:
@@ -128,6 +130,19 @@ def prepare(repository, place, surroundings):
         file.write(b"".join(bytes.fromhex(frame[-1]) for frame in frames if frame[1] == "D"))
 
 
+def examples_of_help(place, surroundings):
+    """The examples that help shows of each command, but for those at a port."""
+    said = must_run("hotsync help", place, surroundings)
+    found = []
+    for command in re.findall(r"^  hotsync ([a-z]+) [^[]", said, re.M):
+        _, _, shown = must_run(f"hotsync help {command}", place, surroundings).partition("examples:\n")
+        examples = [line.strip() for line in shown.splitlines()]
+        if len(examples) != 2:
+            fail(f"`hotsync help {command}` shows {len(examples)} examples")
+        found += [one for one in examples if one.startswith("hotsync ")]
+    return found
+
+
 def try_examples(text, repository, scratch, surroundings):
     """Each example of a command, in a folder of its own."""
     prepare(repository, f"{scratch}/place", surroundings)
@@ -137,6 +152,7 @@ def try_examples(text, repository, scratch, surroundings):
     commands = [one for one in commands if " desktop/" not in one]
     options = quoted(text, "--(?:actions|only)=")
     commands += [f"hotsync run handheld desktop --date=now '{one}'" for one in options]
+    commands += examples_of_help(f"{scratch}/place", surroundings)
     for number, command in enumerate(commands):
         shutil.copytree(f"{scratch}/place", f"{scratch}/{number}")
         must_run(command, f"{scratch}/{number}", surroundings)
@@ -170,8 +186,8 @@ def main():
             fail(f"README and {MANUAL} have {count} examples of commands, and had {FEWEST}")
     if failed:
         sys.exit(1)
-    print(f"README's steps come out as shown, and {count} examples of commands, with the manual's,"
-          " are done")
+    print(f"README's steps come out as shown, and {count} examples of commands, with those of the"
+          " manual and of help, are done")
 
 
 if __name__ == "__main__":
