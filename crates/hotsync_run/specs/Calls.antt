@@ -2,10 +2,11 @@
 use Rattle.std.specs.Prelude.{◌≡◌, ◌⊎◌, ⊤, ℕ, Bool, true, false, List, Option, None, Some, String, map, string_bytes}
 use Rattle.std.specs.declared.alloc.Global.{Global}
 use Rattle.run_words.specs.Commands.{WordTask, Sync, DryRun, LookAt, Scan, Make, Install, Backup, Restore, Emulate, Categories, Help, task_of}
-use Rattle.run_words.specs.Faults.{Fault, fault_of}
+use Rattle.run_words.specs.Faults.{Fault}
 use Rattle.run_words.specs.declared.topic.CommandWord.{CommandWord}
 use Rattle.run_words.specs.declared.topic.CommandWord.TheVariants as word
 use Rattle.hotsync_looks.specs.Helped.{IsHelped}
+use Rattle.hotsync_looks.specs.JointFaults.{word_at_fault}
 use Rattle.hotsync_looks.specs.Looks.{IsLook}
 use Rattle.hotsync_looks.specs.Misuses.{IsMisuse}
 use Rattle.cmd_files.specs.Backups.{backup_command}
@@ -35,7 +36,7 @@ task_in now words = task_of now (map string_bytes words)
 
 -- the word at fault in words that ask for nothing, where it can be named
 abbrev pub fault_in : Option ℕ → List (String Global) → Option Fault
-fault_in now words = fault_of now (map string_bytes words)
+fault_in now words = word_at_fault now (map string_bytes words)
 
 -- a line of a refusal alone, which one of both took
 abbrev pub IsRefused : SinkTold → SinkTold → SinkTold → SinkTold → Status → Type 0

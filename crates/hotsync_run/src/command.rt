@@ -12,10 +12,10 @@ use call_parts::{Answer, SessionEnd};
 use cmd_files::{backup_folder, emulate, install_file, restore_folder};
 use cmd_session::{dry_run_folders, file_categories, run_folders, run_made_folders};
 use cmd_status::{Status, print_refusal};
-use hotsync_looks::{look_at, print_help, print_misuse, print_packets};
+use hotsync_looks::{look_at, print_help, print_misuse, print_packets, word_at_fault};
 use hs_folders::{Folder, Sink, Source};
 use run_clap::{Command, WordsFault, read_command};
-use run_words::{CommandWord, command_named, fault_of};
+use run_words::{CommandWord, command_named};
 use std::alloc::Global;
 
 /// Does what the words ask for, and prints the lines of its status on `out`.
@@ -47,6 +47,12 @@ pub fn hotsync<H: Folder, D: Folder, S: Source, T: Sink, O: Sink, E: Sink>(
     ensures misuse { task_in now words.now ≡ None
         → calls.gives_result (named_by_first (map string_bytes words.now)) ≡ true
         → IsMisuse result.status → out.new ≡ out.old }
+
+    // A session leaves standard error alone, and so do such words of one, or of no command.
+    ensures session { HasSession (task_in now words.now) → err.new ≡ err.old }
+    ensures lines { task_in now words.now ≡ None
+        → calls.gives_result (named_by_first (map string_bytes words.now)) ≡ false
+        → err.new ≡ err.old }
 
     // Nothing goes over a line but in a session.
     ensures report { ¬ HasSession (task_in now words.now) → IsNotStarted result.report }
@@ -131,7 +137,7 @@ fn refuse_words<O: Sink, E: Sink>(
     ensures alone { calls.gives_result (named_by_first (map string_bytes words.now)) ≡ false
         → err.new ≡ err.old }
 {
-    let (command, fault) = (command_named(words), fault_of(now, words));
+    let (command, fault) = (command_named(words), word_at_fault(now, words));
     if gives_result(command) {
         print_misuse(alloc, command, fault, err)
     } else {

@@ -1,5 +1,5 @@
 // What the program does with the words that it was called with.
-ghost use Rattle.std.specs.Prelude.{◌≡◌, ◌↔◌, IfOk, IsErr, IsErrOf, None, drop, map, string_bytes, true};
+ghost use Rattle.std.specs.Prelude.{◌≡◌, ◌↔◌, IfOk, IsErr, IsErrOf, None, drop, false, map, string_bytes, true};
 ghost use Rattle.std.specs.Process.{exit_status};
 ghost use Rattle.hotsync_looks.specs.Misuses.{IsMisuse, TellsFault};
 ghost use Rattle.hotsync_run.specs.Calls.{HasSession, IsCall, OfProgram, ReadsFirst, fault_in, gives_result, paths_of, task_in};
@@ -13,11 +13,14 @@ ghost use Rattle.call_parts.specs.Told.{call_told};
 
 use crate::command::hotsync;
 use crate::counted_folder::CountedFolder;
+use crate::first_day::{hint_swapped, looks_swapped};
 use crate::hints::{hint_folders, hint_words};
+use crate::made_folder::MadeFolder;
 use call_parts::{Answer, SessionEnd, seconds_now};
 use cmd_status::{Status, StderrSink, print_refusal};
 use hs_folders::{DirFolder, FileSink, FileSource, Folder, Sink, Source, StdoutSink};
 use run_clap::WordsFault;
+use run_words::{CommandWord, command_named};
 use std::alloc::Global;
 use std::fs::File;
 use std::io::ErrorKind;
@@ -62,6 +65,12 @@ pub fn run_program<H: Folder, D: Folder, S: Source, T: Sink, O: Sink, E: Sink>(
     ensures misuse { task_in now (drop 1 args.now) ≡ None
         → gives_result (command_named (map string_bytes (drop 1 args.now))) ≡ true
         → IsMisuse result.answer.status → out.new ≡ out.old }
+
+    // A session leaves standard error alone, and so do such words of one, or of no command.
+    ensures session { HasSession (task_in now (drop 1 args.now)) → err.new ≡ err.old }
+    ensures lines { task_in now (drop 1 args.now) ≡ None
+        → gives_result (command_named (map string_bytes (drop 1 args.now))) ≡ false
+        → err.new ≡ err.old }
 
     // Nothing goes over a line but in a session.
     ensures report { ¬ HasSession (task_in now (drop 1 args.now))
@@ -126,7 +135,7 @@ fn run_handed<'r, R: Clock + Files<File = File> + Print + Eprint + AllocGlobal>(
     is_count_wanted: bool,
     now: Option<u32>,
     args: Result<Vec<String>, WordsFault>,
-) -> Ended<CountedFolder<'r, R, DirFolder<'r, R>>, DirFolder<'r, R>>
+) -> Ended<CountedFolder<'r, R, DirFolder<'r, R>>, MadeFolder<'r, R, DirFolder<'r, R>>>
     ensures code { result.code ≡ code_of result.answer.status }
     ensures words { IfOk args (λ args. IsSystemCall (task_in now (drop 1 args.items))
         result.answer.status result.answer.report) }
@@ -147,18 +156,19 @@ fn run_over_files<'r, R: Clock + Files<File = File> + Print + Eprint + AllocGlob
     is_count_wanted: bool,
     now: Option<u32>,
     args: &[String],
-) -> Ended<CountedFolder<'r, R, DirFolder<'r, R>>, DirFolder<'r, R>>
+) -> Ended<CountedFolder<'r, R, DirFolder<'r, R>>, MadeFolder<'r, R, DirFolder<'r, R>>>
     ensures code { result.code ≡ code_of result.answer.status }
     ensures call { IsSystemCall (task_in now (drop 1 args.now))
         result.answer.status result.answer.report }
 {
     let alloc = rt.alloc();
+    let is_swapped = looks_swapped(rt, now, words_of(args));
     let ended = run_untold(
         alloc,
         now,
         args,
         CountedFolder::new(rt, DirFolder::new(rt, alloc), is_count_wanted),
-        DirFolder::new(rt, alloc),
+        MadeFolder::new(rt, DirFolder::new(rt, alloc), is_backup(words_of(args))),
         &mut FileSource::new(rt),
         &mut FileSink::new(rt, alloc),
         &mut StdoutSink::new(rt),
@@ -171,7 +181,15 @@ fn run_over_files<'r, R: Clock + Files<File = File> + Print + Eprint + AllocGlob
         &ended.answer.status,
         &ended.answer.report,
     );
+    if is_swapped && matches!(ended.answer.status, Status::Done) {
+        hint_swapped(rt);
+    }
     ended
+}
+
+// Whether the words ask for a backup, whose folder is made where it isn't there.
+fn is_backup(words: &[String]) -> bool {
+    matches!(command_named(words), Some(CommandWord::Backup))
 }
 
 // The program over objects that tell nothing.
@@ -199,7 +217,7 @@ fn run_untold<H: Folder, D: Folder, S: Source, T: Sink, O: Sink, E: Sink>(
 // A call whose words were not fetched for want of memory.
 fn unread_call<'r, R: Clock + Files<File = File> + Print + Eprint + AllocGlobal>(
     rt: &'r R,
-) -> Ended<CountedFolder<'r, R, DirFolder<'r, R>>, DirFolder<'r, R>>
+) -> Ended<CountedFolder<'r, R, DirFolder<'r, R>>, MadeFolder<'r, R, DirFolder<'r, R>>>
     ensures code { result.code ≡ code_of result.answer.status }
     ensures no_memory { result.answer.status ≡ Status.NoMemory }
     ensures call { IsSystemCall None result.answer.status result.answer.report }
@@ -208,7 +226,7 @@ fn unread_call<'r, R: Clock + Files<File = File> + Print + Eprint + AllocGlobal>
     say_no_memory(
         alloc,
         CountedFolder::new(rt, DirFolder::new(rt, alloc), false),
-        DirFolder::new(rt, alloc),
+        MadeFolder::new(rt, DirFolder::new(rt, alloc), false),
         &mut StdoutSink::new(rt),
     )
 }

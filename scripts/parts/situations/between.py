@@ -4,7 +4,7 @@ import shutil
 
 from situations.categories import categorised
 from situations.rig import (
-    DATE, DIRTY, LATER, LATEST, all_files, blocks_of, call, call_into, memos, pdb, put, records_of, texts, two_sides, want, want_line, want_run, situation,
+    DATE, DIRTY, LATER, LATEST, all_files, blocks_of, call, call_into, memos, mode, pdb, put, records_of, texts, two_sides, want, want_line, want_run, situation,
 )
 
 THREE = [b"one\0", b"three\0", b"two\0"]
@@ -48,6 +48,24 @@ def a_database_that_was_missing_is_empty_when_it_comes_back():
     put("h/MemoDB.pdb", pdb("MemoDB", memos("welcome", attributes=DIRTY)))
     want_run("h", "d", LATEST, "--actions=MemoDB:both")
     want_both(*THREE, b"welcome\0")
+
+
+@situation
+def a_backup_makes_its_folder():
+    """A backup makes the folder that it fills, but none above it. A handheld that is refused makes none, and neither does another command."""
+    two_sides()
+    before = os.umask(0o027)
+    status, lines, hints = call("backup", "h", "b")
+    os.umask(before)
+    want((status, lines[-1], hints), (0, "ended", []), "status, last line and hints")
+    want(texts("b/MemoDB.pdb"), texts("h/MemoDB.pdb"), "texts")
+    want(mode("b"), 0o750, "permissions")
+    want_line(call("backup", "h", "b"), 0, "ended")
+    want_line(call("backup", "h", "none/b"), 4, "desktop folder failed")
+    want_line(call("backup", "nowhere", "c"), 4, "handheld folder failed")
+    want_line(call("restore", "h", "r"), 4, "desktop folder failed")
+    want_line(call("run", "h", "e", LATER), 4, "desktop folder failed")
+    want(sorted(os.listdir(".")), ["b", "d", "h"], "names")
 
 
 @situation

@@ -220,3 +220,17 @@ def what_could_not_be_opened_is_named():
     if os.geteuid():
         os.chmod("h/MemoDB.pdb", 0)
         want(hinted("check", "h/MemoDB.pdb"), ["hint: h/MemoDB.pdb: permission denied"], "a file that may not be read")
+
+
+@situation
+def a_first_run_the_wrong_way_round_is_hinted_at():
+    """Where both folders meet for the first time, and the databases lie on the desktop alone, a hint says which one is named first."""
+    put("h/MemoDB.pdb", pdb("MemoDB", memos("one")))
+    put("d/notes.txt", "none of ours")
+    hinted = lambda *words: call(*words)[2]
+    hint = ["hint: HANDHELD had no database and DESKTOP had some: the handheld's folder is named first"]
+    want(hinted("run", "d", "h", DATE, "--dry-run"), hint, "hints of a dry run")
+    want(hinted("run", "h", "d", DATE, "--dry-run"), [], "hints of the right way")
+    want(hinted("run", "d", "nowhere", DATE), ["hint: nowhere: nothing is there"], "hints of a refusal")
+    want(hinted("run", "d", "h", DATE), hint, "hints of a run")
+    want(hinted("run", "d", "h", LATER), [], "hints of the next run")

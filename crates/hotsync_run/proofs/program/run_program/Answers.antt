@@ -18,3 +18,6 @@ returns-clause-trace g c = λ no. c.hotsync-answer.ensures.trace (rw c.words_of.
 
 pub returns-clause-fault : goal.returns-clause-fault
 returns-clause-fault g c = λ none. rw (sym c.words_of.ensures) (c.hotsync-answer.ensures.fault (rw c.words_of.ensures none))
+
+pub returns-clause-session : goal.returns-clause-session
+returns-clause-session g c = λ asks. c.hotsync-answer.ensures.session (rw c.words_of.ensures asks)
