@@ -16,10 +16,11 @@ use Rattle.run_words.specs.Docks.{Dock}
 use Rattle.trace_text.specs.declared.frame.End.TheVariants as end
 use Rattle.cmd_status.specs.Opening.{OpensAtMost, OpensGivenAtMost}
 use Rattle.cmd_status.specs.Printed.{IsPrinted, IsPrintedStatus}
+use Rattle.hotsync_looks.specs.Misuses.{IsMisuse}
 use Rattle.hotsync_looks.specs.Served.{served_lines}
 use Rattle.cmd_status.specs.Told.{SinkTold}
 use Rattle.cmd_status.specs.declared.status.Status.{Status}
-use Rattle.cmd_status.specs.declared.status.Status.TheVariants.{Done, Usage, PortFailed, HandheldFolder, InUse, LineDown, LineSilent, LineEndless, StreamAborted, BadHello, TraceWrite, NoMemory}
+use Rattle.cmd_status.specs.declared.status.Status.TheVariants.{Done, PortFailed, HandheldFolder, InUse, LineDown, LineSilent, LineEndless, StreamAborted, BadHello, TraceWrite, NoMemory}
 use Rattle.call_parts.specs.Causes.{IsTracedStatus}
 use Rattle.call_parts.specs.Stays.{WentWith}
 use Rattle.call_parts.specs.Refusals.{HandheldRefuses, HasHandheld, TraceRefuses}
@@ -131,10 +132,11 @@ pub record IsDock (dock : Dock) (before after : DockTold) (out out_after : SinkT
   pub printed : IsPrinted (λ text. text ≡ served_lines (length report.performed.items))
       out out_after status
 
--- words out of the form give the usage line, and nothing is done
+-- words out of the form give the usage line, with the word at fault behind it where it is named,
+-- and nothing is done
 pub record IsNoDock (before after : DockTold) (out out_after : SinkTold) (status : Status)
     (report : DockReport) : Type 0 where
-  pub ended : (status ≡ Usage) ⊎ (status ≡ NoMemory)
+  pub ended : IsMisuse status ⊎ (status ≡ NoMemory)
   pub same : after ≡ before
   pub idle : IsIdle report
   pub printed : IsPrinted (λ text. ⊥) out out_after status

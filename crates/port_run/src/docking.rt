@@ -2,12 +2,15 @@
 ghost use Rattle.std.specs.Prelude.{◌≡◌, ◌≢◌, IfSome, None, length, map, string_bytes, true};
 ghost use Rattle.handheld_files.specs.Openings.{Stands, opened_device};
 ghost use Rattle.cmd_status.specs.Printed.{IsPrinted, IsPrintedStatus};
+ghost use Rattle.hotsync_looks.specs.DockingFaults as faults;
+ghost use Rattle.hotsync_looks.specs.Misuses.{TellsFault};
 ghost use Rattle.hotsync_looks.specs.Served.{served_lines};
 ghost use Rattle.cmd_status.specs.Told.{sink_told};
 ghost use Rattle.port_run.specs.DockTalks.{HasDockTalk};
 ghost use Rattle.port_run.specs.Docks.{HasDocked, IsDockCall, dock_status};
 ghost use Rattle.port_run.specs.Told.{OfDock, OfDockCall};
 ghost use Rattle.run_words.specs.Docks.{docking_of};
+ghost use Rattle.run_words.specs.Helps.{command_named as named_by_first};
 ghost use Rattle.run_words.specs.Views.{dock_view};
 
 use crate::dock_report::{DockReport, Docked};
@@ -19,12 +22,12 @@ use device_stream::DeviceReport;
 use dlp_args::MessageText;
 use handheld_server::Server;
 use handheld_store::Store;
-use hotsync_looks::print_served;
+use hotsync_looks::{docking_fault, print_misuse, print_served};
 use hs_folders::{Folder, Sink};
 use port_line::Port;
 use port_link::{AtPort, PortEnd, serve_at_port};
 use run_clap::{WordsFault, read_docking};
-use run_words::DockWords;
+use run_words::{DockWords, command_named};
 use std::alloc::Global;
 use trace_text::End;
 
@@ -49,11 +52,16 @@ pub fn serve_port<H: Folder, P: Port, T: Sink, O: Sink>(
         dock.trace ≡ None → trace.new ≡ trace.old) }
     ensures untouched { docking_of (map string_bytes words.now) ≡ None
         → (result.device ≡ device) × (result.port ≡ port) × (trace.new ≡ trace.old) }
+
+    // Where the words ask for nothing, the status names the word at fault.
+    ensures fault { docking_of (map string_bytes words.now) ≡ None
+        → TellsFault (named_by_first (map string_bytes words.now))
+        (faults.docking_fault (map string_bytes words.now)) result.status }
 {
     let dock = match read_docking(alloc, words) {
         Ok(dock) => dock,
         Err(WordsFault::Usage) => {
-            let status = print_refusal(alloc, Status::Usage, out);
+            let status = print_misuse(alloc, command_named(words), docking_fault(words), out);
             return Docked::not_started(alloc, status, device, port);
         }
         Err(WordsFault::NoMemory) => {

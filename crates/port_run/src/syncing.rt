@@ -4,12 +4,12 @@ ghost use Rattle.desk_store.specs.Bounds.{AreBounded};
 ghost use Rattle.desk_store.specs.Shelves.{AreInOrder};
 ghost use Rattle.cmd_status.specs.Printed.{IsPrinted, IsPrintedStatus};
 ghost use Rattle.cmd_status.specs.Told.{sink_told};
+ghost use Rattle.hotsync_looks.specs.JointFaults as faults;
 ghost use Rattle.hotsync_looks.specs.Misuses.{TellsFault};
 ghost use Rattle.port_laws.specs.Palms.{IsFirstTold};
 ghost use Rattle.port_run.specs.Syncs.{HasSynced, IsSyncCall, TracesTalk, synced_lines};
 ghost use Rattle.port_run.specs.Told.{OfSync, OfSyncCall};
 ghost use Rattle.run_words.specs.Cables.{only_of, sync_of};
-ghost use Rattle.run_words.specs.Faults.{fault_of as fault_in_words};
 ghost use Rattle.run_words.specs.Helps.{command_named as named_by_first};
 ghost use Rattle.run_words.specs.Views.{cable_view};
 
@@ -20,11 +20,11 @@ use crate::tracing::trace_log;
 use call_parts::{open_desktop, open_trace, print_status, print_touched};
 use cmd_status::{Status, print_refusal};
 use desk_store::Desk;
-use hotsync_looks::print_misuse;
+use hotsync_looks::{print_misuse, word_at_fault};
 use hs_folders::{Folder, Sink};
 use port_line::Port;
 use run_clap::{WordsFault, read_sync};
-use run_words::{CableWords, command_named, fault_of};
+use run_words::{CableWords, command_named};
 use session_parts::DbReport;
 use std::alloc::Global;
 
@@ -55,12 +55,12 @@ pub fn sync<P: Port, D: Folder, T: Sink, O: Sink>(
     // Where the words ask for nothing, the status names the word at fault.
     ensures fault { sync_of now (map string_bytes words.now) ≡ None
         → TellsFault (named_by_first (map string_bytes words.now))
-        (fault_in_words now (map string_bytes words.now)) result.status }
+        (faults.word_at_fault now (map string_bytes words.now)) result.status }
 {
     let cable = match read_sync(alloc, now, words) {
         Ok(cable) => cable,
         Err(WordsFault::Usage) => {
-            let status = print_misuse(alloc, command_named(words), fault_of(now, words), out);
+            let status = print_misuse(alloc, command_named(words), word_at_fault(now, words), out);
             return Synced::not_started(alloc, status, port, desk);
         }
         Err(WordsFault::NoMemory) => {
