@@ -1,4 +1,4 @@
-/* hotsync.h: the readers, the merge and the handheld of hotsync for C, over libhotsync.a or libhotsync.so.
+/* hotsync.h: the readers, the texts, the merge and the handheld of hotsync for C, over libhotsync.a or libhotsync.so.
  *
  * Pure functions over bytes. Any thread may call them; nothing that is passed is kept, and nothing is to be freed. No
  * function reaches a file, a terminal or a clock; memory comes from malloc.
@@ -23,7 +23,8 @@ extern "C" {
 /* Answers below 0: each means the same in all calls. */
 enum {
     HS_MEMORY = -1,    /* memory was refused */
-    HS_FORM = -2,      /* the bytes are not of the form that is read: no database's file, or too many for a trace */
+    HS_FORM = -2,      /* the bytes are not of the form that is read: no database's file, or too many for a trace; or what
+                          is asked is none of what can be */
     HS_ABSENT = -3,    /* hs_entry: the database has no such entry */
     HS_FULL = -4,      /* hs_merge: more than 65,535 records on the handheld, rows, base rows, or entries of the archive */
     HS_RESOURCES = -5, /* hs_merge, as the next four, which leave the database as it is: the handheld's holds resources */
@@ -32,7 +33,12 @@ enum {
     HS_DIFFERS = -8,   /* its type or its creator differs between the sides */
     HS_MISSING = -9,   /* the side that the action goes by lacks it, or the handheld lost what both had */
     HS_FILES = -10,    /* hs_device_new, hs_device_take: no handheld has such files */
-    HS_LINE = -100     /* hs_verify, hs_picture: HS_LINE - N where line N, from 1 on, is the first that is none of a trace */
+    HS_NOTHING = -11,  /* hs_export: the database holds nothing of that form */
+    HS_RECORD = -12,   /* hs_export: a record is out of its form */
+    HS_LABELS = -13,   /* hs_import: more than 15 labels */
+    HS_MEMOS = -14,    /* hs_import: more than 65,535 memos */
+    HS_LINE = -100     /* hs_verify, hs_picture, hs_import: HS_LINE - N where line N, from 1 on, is the first that is out of its
+                          form */
 };
 
 /* The sentence that says what an answer below 0 means; of length 0 where no call has that answer. */
@@ -109,6 +115,44 @@ int64_t hs_entry(const uint8_t *file, size_t len, uint32_t index, struct hs_entr
    fewer bytes than the parts have. */
 int64_t hs_build(const struct hs_head *head, const struct hs_entry *entries, size_t count, const uint8_t *bytes,
                  size_t len, uint8_t *room, size_t n);
+
+/* What the file of a database of this name is called, without its ending: letters, digits, '_' and '-' stand for themselves,
+   each other byte is '%' with two hexadecimal digits. HS_FORM for bytes that are no name. */
+int64_t hs_name(const uint8_t *name, size_t len, uint8_t *room, size_t n);
+
+/* ---- what records mean ---- */
+
+/* The form of a text, in UTF-8. */
+enum {
+    HS_TXT = 0, /* memos, as plain text */
+    HS_VCF = 1, /* addresses, as vCards */
+    HS_CSV = 2, /* addresses or tasks, as a table */
+    HS_ICS = 3  /* tasks or dates, as an iCalendar object */
+};
+
+/* Flags, to be added. */
+enum {
+    HS_WITHOUT_PRIVATE = 1, /* private records are left out */
+    HS_KEEP_BROKEN = 2      /* a record that is out of its form stands in the text with its bytes, and refuses nothing */
+};
+
+/* A record that is out of its form. */
+struct hs_bad_record {
+    uint64_t index; /* among all records of the database, from 0 on */
+    uint64_t place; /* the first byte of it, from 0 on, that is out of the form */
+};
+
+/* The text of a database in a form, as `hotsync export` prints it; `made`, in seconds since 1904, is when a calendar is made,
+   and is not looked at for other forms. HS_NOTHING where the database holds nothing of the form; HS_RECORD says in `told`
+   which exported record is the first that is out of its form, and `told` is as it was in all other cases. HS_FORM also where
+   `form` is none of the four, or `flags` has others than these two. */
+int64_t hs_export(const uint8_t *file, size_t len, uint32_t form, uint32_t made, uint32_t flags, uint8_t *room, size_t n,
+                  struct hs_bad_record *told);
+
+/* The file of the database of memos that a text makes, as `hotsync import --as=txt` writes it. HS_LINE - N where line N, from
+   1 on, is the first that is out of its form (any line behind 4,294,967,295 is told as that one), HS_LABELS for more than 15
+   labels, HS_MEMOS for more than 65,535 memos. */
+int64_t hs_import(const uint8_t *text, size_t len, uint8_t *room, size_t n);
 
 /* ---- both sides of one database ---- */
 

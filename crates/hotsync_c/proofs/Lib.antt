@@ -1,3 +1,4 @@
 pub mod BuildLaws
 pub mod CutLaws
+pub mod ExportLaws
 pub mod PartLaws

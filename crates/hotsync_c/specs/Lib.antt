@@ -1,9 +1,12 @@
 pub mod Answers
 pub mod Building
 pub mod Entries
+pub mod Exports
 pub mod Files
 pub mod Handhelds
+pub mod Imports
 pub mod Merges
+pub mod Names
 pub mod Parts
 pub mod Rooms
 pub mod Texts

@@ -13,7 +13,7 @@ use Rattle.hotsync_c.specs.Files.{RefusesFile}
 use Rattle.hotsync_c.specs.declared.parts.HsEntry.{HsEntry}
 use Rattle.hotsync_c.specs.declared.parts.HsHead.{HsHead}
 use Rattle.hotsync_c.specs.declared.refusal.Refusal.{Refusal}
-use Rattle.hotsync_c.specs.declared.refusal.Refusal.TheVariants.{Memory, Form, BadLine, Absent}
+use Rattle.hotsync_c.specs.declared.refusal.Refusal.TheVariants.{Memory, Form, Absent}
 
 -- a type or a creator as a number, the first character in its highest byte
 abbrev pub code_number : FourCc → ℕ
@@ -115,8 +115,8 @@ pub record LacksEntry (bytes : List ℕ) (index : ℕ) : Type 0 where
 abbrev pub RefusesEntry : List ℕ → ℕ → Refusal → Type 0
 RefusesEntry bytes index Memory = ⊤
 RefusesEntry bytes index Form = RefusesFile bytes Form
-RefusesEntry bytes index (BadLine line) = ⊥
 RefusesEntry bytes index Absent = LacksEntry bytes index
+RefusesEntry bytes index _ = ⊥
 
 -- what stands in front of each entry
 abbrev pub entries_of : DatabaseValue → List HsEntry

@@ -10,7 +10,7 @@ use Rattle.trace_check.specs.declared.rule.Verdict.TheVariants.{Proper, Not}
 use Rattle.trace_page.specs.Pages.{page_text}
 use Rattle.hotsync_c.specs.Answers.{answer_of}
 use Rattle.hotsync_c.specs.declared.refusal.Refusal.{Refusal}
-use Rattle.hotsync_c.specs.declared.refusal.Refusal.TheVariants.{Memory, Form, BadLine, Absent}
+use Rattle.hotsync_c.specs.declared.refusal.Refusal.TheVariants.{Memory, Form, BadLine}
 
 -- the most bytes that a trace may have
 abbrev pub trace_limit : ℕ
@@ -43,7 +43,7 @@ abbrev pub RefusesTrace : List ℕ → Refusal → Type 0
 RefusesTrace bytes Memory = ⊤
 RefusesTrace bytes Form = trace_limit < length bytes
 RefusesTrace bytes (BadLine line) = IsBadLine bytes line
-RefusesTrace bytes Absent = ⊥
+RefusesTrace bytes _ = ⊥
 
 -- the bytes are the text of a proper trace with so many whole requests and replies
 pub record IsProperText (bytes : List ℕ) (requests replies : ℕ) (answer : ℤ) : Type 0 where

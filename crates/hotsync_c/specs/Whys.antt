@@ -14,8 +14,12 @@ reason number =
     else if number == 7 then codes "the type or the creator differs between the sides"
     else if number == 8 then codes "a side lacks the database"
     else if number == 9 then codes "no handheld has such files"
+    else if number == 10 then codes "the database holds nothing of that form"
+    else if number == 11 then codes "a record is out of its form"
+    else if number == 12 then codes "the text has more than 15 labels"
+    else if number == 13 then codes "the text has more than 65,535 memos"
     else if nat_le 100 number
-    then codes "a line is none of a trace: its number is -100 less the answer"
+    then codes "a line is out of its form: its number is -100 less the answer"
     else []
 
 -- the sentence of an answer; none where it is no refusal

@@ -18,6 +18,14 @@ pub enum Refusal {
     BadLine(u32),
     /// There is no such part of them.
     Absent,
+    /// The database holds nothing of the form.
+    Nothing,
+    /// The record of this index is out of its form, at this place in it.
+    BadRecord { index: u64, place: u64 },
+    /// The text has more than 15 labels.
+    Labels,
+    /// The text has more than 65,535 memos.
+    Memos,
 }
 
 impl Refusal {
@@ -30,6 +38,10 @@ impl Refusal {
             Refusal::Form => -2,
             Refusal::BadLine(line) => -100 - i64::from(line),
             Refusal::Absent => -3,
+            Refusal::Nothing => -11,
+            Refusal::BadRecord { index: _, place: _ } => -12,
+            Refusal::Labels => -13,
+            Refusal::Memos => -14,
         }
     }
 

@@ -31,7 +31,11 @@ fn reason(answer: i64) -> &'static str
         -8 => "the type or the creator differs between the sides",
         -9 => "a side lacks the database",
         -10 => "no handheld has such files",
-        ..=-101 => "a line is none of a trace: its number is -100 less the answer",
+        -11 => "the database holds nothing of that form",
+        -12 => "a record is out of its form",
+        -13 => "the text has more than 15 labels",
+        -14 => "the text has more than 65,535 memos",
+        ..=-101 => "a line is out of its form: its number is -100 less the answer",
         _ => "",
     }
 }
