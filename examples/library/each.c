@@ -207,11 +207,12 @@ static void reasons(void)
         "", "memory was refused", "the bytes are not of the form that is read", "the database has no such entry",
         "a side has more than 65,535 records", "the database holds resources", "the database is read-only",
         "the database is a stream", "the type or the creator differs between the sides", "a side lacks the database",
-        "no handheld has such files", "",
+        "no handheld has such files", "the database holds nothing of that form", "a record is out of its form",
+        "the text has more than 15 labels", "the text has more than 65,535 memos", "",
     };
     for (uint8_t number = 0; number < sizeof texts / sizeof *texts; number++)
         in_rooms("hs_why", why_of, &number, 1, texts[number], strlen(texts[number]));
-    static const char line[] = "a line is none of a trace: its number is -100 less the answer";
+    static const char line[] = "a line is out of its form: its number is -100 less the answer";
     uint8_t last = 100;
     in_rooms("hs_why of -100", why_of, &last, 1, "", 0);
     last = 101;
@@ -287,6 +288,180 @@ static void large(void)
     pdb[88] = (uint8_t)(begin >> 8), pdb[89] = (uint8_t)begin;
     check("hs_check of a large block", pdb, size, HS_FORM, HS_LARGE, 1);
     free(pdb);
+}
+
+/* ---- what records mean ---- */
+
+/* Two memos and their file without the application block, which begins at 60 and has 11a bytes. */
+static const char MEMOS[] = "--- 000001\nHi\n--- 000002 private Home\nBye\n";
+static const char MEMO_HEAD[] =
+    "4d656d6f44420000000000000000000000000000000000000000000000000000" /* MemoDB */
+    "0008" "0000" "00000000" "00000000" "00000000" "00000000"
+    "00000060" "00000000" "44415441" "6d656d6f" "00000000" "00000000"
+    "0002" "0000017a" "00" "000001" "0000017d" "11" "000002" "0000";
+
+static size_t memo_file(uint8_t *file)
+{
+    size_t size = bytes_of(MEMO_HEAD, file);
+    uint8_t *block = file + size;
+    memset(block, 0, 282);
+    memcpy(block + 2, "Unfiled", 7);
+    memcpy(block + 18, "Home", 4);
+    for (uint8_t number = 0; number < 17; number++)
+        block[258 + number] = number < 16 ? number : 15;
+    memcpy(block + 282, "Hi\0Bye", 7);
+    return size + 289;
+}
+
+/* A file of one record, or two: the name, the creator, how many entries there are, these, the filler, the records. */
+#define RECORDS_OF(NAME, CREATOR, COUNT) \
+    NAME "0000" "0000" "00000000" "00000000" "00000000" "00000000" \
+    "00000000" "00000000" "44415441" CREATOR "00000000" "00000000" COUNT
+
+static const char ADDRESS[] =
+    RECORDS_OF("4164647265737344420000000000000000000000000000000000000000000000", "61646472", "0001") /* AddressDB, addr */
+    "00000058" "00" "3b1002" "0000"
+    "00043215" "00000009" "00" "53746174696f6e00" "3535352d3031393900"; /* main; last name and phone 1; Station, 555-0199 */
+
+/* The second one is private. */
+static const char TASKS[] =
+    RECORDS_OF("546f446f44420000000000000000000000000000000000000000000000000000", "746f646f", "0002") /* ToDoDB, todo */
+    "00000060" "00" "3b1004" "0000006a" "10" "3b1005" "0000"
+    "c2e1" "01" "52656e657700" "00"  /* until 2001-07-01, of priority 1: Renew */
+    "ffff" "85" "4f696c00" "00";     /* done, of priority 5: Oil */
+
+static const char DATE[] =
+    RECORDS_OF("4461746562" "6f6f6b444200000000000000000000000000000000000000000000", "64617465", "0001") /* DatebookDB */
+    "00000058" "00" "3c1003" "0000"
+    "ffffffff" "c32f" "2400" "0400ffff01000000" "52656e7400"; /* 2001-09-15, each month by date: Rent */
+
+#define CARD \
+    "BEGIN:VCARD\r\nVERSION:3.0\r\nPRODID:-//hotsync//Palm address book//EN\r\nUID:3b1002.AddressDB@palm\r\n" \
+    "FN:Station\r\nN:Station;;;;\r\nTEL;TYPE=MAIN,PREF:555-0199\r\nEND:VCARD\r\n"
+#define ADDRESS_ROWS \
+    "id,private,category,last name,first name,company,phone 1 kind,phone 1,phone 2 kind,phone 2,phone 3 kind,phone 3," \
+    "phone 4 kind,phone 4,phone 5 kind,phone 5,address,city,state,zip code,country,title,custom 1,custom 2,custom 3," \
+    "custom 4,note,record\r\n3b1002,,,Station,,,main,555-0199,,,,,,,,,,,,,,,,,,,,\r\n"
+#define ROWS_BEGIN \
+    "id,private,category,due,done,priority,description,note,record\r\n3b1004,,,2001-07-01,,1,Renew,,\r\n"
+#define OBJECT_BEGIN "BEGIN:VCALENDAR\r\nVERSION:2.0\r\nPRODID:-//hotsync//Palm calendar//EN\r\n"
+#define TODO \
+    "BEGIN:VTODO\r\nUID:3b1004.ToDoDB@palm\r\nDTSTAMP:20010909T014640Z\r\nSUMMARY:Renew\r\nDUE;VALUE=DATE:20010701\r\n" \
+    "PRIORITY:1\r\nSTATUS:NEEDS-ACTION\r\nEND:VTODO\r\n"
+#define EVENT \
+    "BEGIN:VEVENT\r\nUID:3c1003.DatebookDB@palm\r\nDTSTAMP:20010909T014640Z\r\nDTSTART;VALUE=DATE:20010915\r\n" \
+    "RRULE:FREQ=MONTHLY;INTERVAL=1\r\nSUMMARY:Rent\r\nEND:VEVENT\r\n"
+#define OBJECT_END "END:VCALENDAR\r\n"
+
+static struct hs_bad_record bad_record;
+static uint32_t asked_form, asked_flags;
+
+/* 2001-09-09T01:46:40 */
+static int64_t export_of(const uint8_t *bytes, size_t len, uint8_t *room, size_t n)
+{
+    return hs_export(bytes, len, asked_form, 3082844800u, asked_flags, room, n, &bad_record);
+}
+
+static void asked(uint32_t form, uint32_t flags)
+{
+    asked_form = form;
+    asked_flags = flags;
+    bad_record.index = bad_record.place = 77;
+}
+
+static void exported(const char *what, const uint8_t *file, size_t size, uint32_t form, uint32_t flags, const char *text)
+{
+    asked(form, flags);
+    in_rooms(what, export_of, file, size, text, strlen(text));
+    expect(what, (int64_t)(bad_record.index + bad_record.place), 2 * 77);
+}
+
+static void unexported(const char *what, const uint8_t *file, size_t size, uint32_t form, uint32_t flags, int64_t answer,
+                       uint64_t index, uint64_t place)
+{
+    asked(form, flags);
+    refused(what, export_of, file, size, answer);
+    expect(what, (int64_t)bad_record.index, (int64_t)index);
+    expect(what, (int64_t)bad_record.place, (int64_t)place);
+}
+
+static void exports(void)
+{
+    uint8_t file[500];
+    size_t size = memo_file(file);
+    exported("hs_export of memos", file, size, HS_TXT, 0, MEMOS);
+    exported("hs_export of memos, kept", file, size, HS_TXT, HS_KEEP_BROKEN, MEMOS);
+    exported("hs_export without private ones", file, size, HS_TXT, HS_WITHOUT_PRIVATE, "--- 000001\nHi\n");
+    for (uint32_t form = HS_VCF; form <= HS_ICS; form++)
+        unexported("hs_export of memos in another form", file, size, form, 0, HS_NOTHING, 77, 77);
+    for (uint32_t form = HS_TXT; form <= HS_ICS; form++)
+        unexported("hs_export of no bytes", file, 0, form, 0, HS_FORM, 77, 77);
+    unexported("hs_export in no form", file, size, 4, 0, HS_FORM, 77, 77);
+    unexported("hs_export with another flag", file, size, HS_TXT, 4, HS_FORM, 77, 77);
+    unexported("hs_export with all flags", file, size, HS_TXT, UINT32_MAX, HS_FORM, 77, 77);
+    unexported("hs_export of resources", file, bytes_of(PRC, file), HS_TXT, 0, HS_NOTHING, 77, 77);
+
+    size = bytes_of(ADDRESS, file);
+    exported("hs_export of an address as a card", file, size, HS_VCF, 0, CARD);
+    exported("hs_export of an address as a row", file, size, HS_CSV, 0, ADDRESS_ROWS);
+    unexported("hs_export of an address as a memo", file, size, HS_TXT, 0, HS_NOTHING, 77, 77);
+    unexported("hs_export of an address as a date", file, size, HS_ICS, 0, HS_NOTHING, 77, 77);
+    /* Field 19. */
+    file[88 + 5] = 8;
+    unexported("hs_export of a bad address as a card", file, size, HS_VCF, 0, HS_RECORD, 0, 4);
+    unexported("hs_export of a bad address as a row", file, size, HS_CSV, 0, HS_RECORD, 0, 4);
+
+    size = bytes_of(DATE, file);
+    exported("hs_export of a date", file, size, HS_ICS, 0, OBJECT_BEGIN EVENT OBJECT_END);
+    unexported("hs_export of a date as a row", file, size, HS_CSV, 0, HS_NOTHING, 77, 77);
+}
+
+static void tasks(void)
+{
+    uint8_t file[500];
+    size_t size = bytes_of(TASKS, file);
+    exported("hs_export of tasks as rows", file, size, HS_CSV, 0, ROWS_BEGIN "3b1005,private,,,done,5,Oil,,\r\n");
+    exported("hs_export of a task", file, size, HS_ICS, HS_WITHOUT_PRIVATE, OBJECT_BEGIN TODO OBJECT_END);
+    unexported("hs_export of a task as a card", file, size, HS_VCF, 0, HS_NOTHING, 77, 77);
+    /* The priority of the second one is 9. */
+    file[108] = 0x89;
+    unexported("hs_export of a bad task as a row", file, size, HS_CSV, 0, HS_RECORD, 1, 2);
+    unexported("hs_export of a bad task", file, size, HS_ICS, 0, HS_RECORD, 1, 2);
+    exported("hs_export of a bad task, private", file, size, HS_CSV, HS_WITHOUT_PRIVATE, ROWS_BEGIN);
+    exported("hs_export of a bad task, kept", file, size, HS_CSV, HS_KEEP_BROKEN,
+             ROWS_BEGIN "3b1005,private,,,,,,,ffff894f696c0000\r\n");
+    exported("hs_export of a bad task, private and kept", file, size, HS_CSV, HS_WITHOUT_PRIVATE | HS_KEEP_BROKEN, ROWS_BEGIN);
+}
+
+static void imports(void)
+{
+    uint8_t file[500];
+    size_t size = memo_file(file);
+    in_rooms("hs_import", hs_import, (const uint8_t *)MEMOS, sizeof MEMOS - 1, (const char *)file, size);
+    expect("hs_import of nothing", hs_import((const uint8_t *)MEMOS, 0, file, 0), 78 + 2 + 282);
+    refused("hs_import of a memo without a head", hs_import, (const uint8_t *)"Hi", 2, HS_LINE - 1);
+    refused("hs_import of a bad head", hs_import, (const uint8_t *)"--- new\nHi\n--- x\n", 17, HS_LINE - 3);
+    static char text[8 * 65536];
+    size_t length = 0;
+    for (int label = 0; label < 16; label++)
+        length += (size_t)sprintf(text + length, "--- new %c\n", 'a' + label);
+    expect("hs_import of 15 labels", hs_import((const uint8_t *)text, length - 10, file, 0), 78 + 15 * 8 + 2 + 282 + 15);
+    refused("hs_import of 16 labels", hs_import, (const uint8_t *)text, length, HS_LABELS);
+    for (size_t place = 0; place < sizeof text; place += 8)
+        memcpy(text + place, "--- new\n", 8);
+    expect("hs_import of the most memos", hs_import((const uint8_t *)text, sizeof text - 8, file, 0), 362 + 65535 * 9);
+    refused("hs_import of too many memos", hs_import, (const uint8_t *)text, sizeof text, HS_MEMOS);
+}
+
+static void names(void)
+{
+    static const char longest[] = "0123456789012345678901234567890";
+    const uint8_t *name = (const uint8_t *)"My Memo/1_-\xff";
+    in_rooms("hs_name", hs_name, name, 12, "My%20Memo%2F1_-%FF", 18);
+    in_rooms("hs_name of 31 bytes", hs_name, (const uint8_t *)longest, 31, longest, 31);
+    refused("hs_name of 32 bytes", hs_name, (const uint8_t *)"01234567890123456789012345678901", 32, HS_FORM);
+    refused("hs_name of nothing", hs_name, name, 0, HS_FORM);
+    refused("hs_name with a zero byte", hs_name, (const uint8_t *)"a\0b", 3, HS_FORM);
 }
 
 /* ---- both sides ---- */
@@ -712,6 +887,10 @@ int main(void)
     reasons();
     files();
     large();
+    exports();
+    tasks();
+    imports();
+    names();
     merges();
     conflict();
     full();

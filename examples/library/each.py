@@ -1,13 +1,13 @@
 """Calls each function of the library from Python: in room that fits, in none, in one byte too few, and over no bytes at all.
 
-each.py FILE.pdb TRACE, of a database of records; it ends with 1 and says why where something is otherwise than wanted."""
+each.py FILE.pdb TRACE, of a database of memos; it ends with 1 and says why where something is otherwise than wanted."""
 
 import ctypes
 import os
 import sys
 
 from hotsync import BadFile, check
-from hotsync._library import FORM, Ends, Entry, Head, How, Told, call
+from hotsync._library import FORM, LINE, NOTHING, BadPlace, Ends, Entry, Head, How, Told, call
 
 
 def expect(what, found, wanted):
@@ -74,6 +74,26 @@ def files(data):
     refused("hs_build of no bytes", made(b""), FORM)
 
 
+def meanings(data):
+    """The text of a database of memos, and the file that is made of that; what a file is called."""
+    told, numbers = BadPlace(77, 77), [ctypes.c_uint32(number) for number in (0, 1, 2, 4)]
+    zero = numbers[0]
+    made = lambda file, form, flags: lambda room: call("hs_export", file, form, zero, flags, room, ctypes.byref(told))
+    text = in_rooms("hs_export", made(data, zero, zero))
+    expect("hs_export, kept", in_rooms("hs_export, kept", made(data, zero, numbers[2])), text)
+    refused("hs_export of nothing", made(b"", zero, zero), FORM)
+    refused("hs_export in no form", made(data, numbers[3], zero), FORM)
+    refused("hs_export with no flag", made(data, zero, numbers[3]), FORM)
+    refused("hs_export of no addresses", made(data, numbers[1], zero), NOTHING)
+    expect("hs_export, as it was", (told.index, told.place), (77, 77))
+    file = in_rooms("hs_import", lambda room: call("hs_import", text, room))
+    expect("hs_import", in_rooms("hs_export of hs_import", made(file, zero, zero)), text)
+    expect("hs_import of nothing", len(in_rooms("hs_import", lambda room: call("hs_import", b"", room))), 362)
+    refused("hs_import of no text", lambda room: call("hs_import", b"Hi", room), LINE - 1)
+    expect("hs_name", in_rooms("hs_name", lambda room: call("hs_name", b"Memo DB", room)), b"Memo%20DB")
+    refused("hs_name of nothing", lambda room: call("hs_name", b"", room), FORM)
+
+
 def merges(data):
     how, ends = How(0, 0, 1), Ends()
     made = lambda file: lambda room: call("hs_merge", file, b"", b"", b"", ctypes.byref(how), room, ctypes.byref(ends))
@@ -136,6 +156,7 @@ if __name__ == "__main__":
     with open(sys.argv[2], "rb") as opened:
         lines(opened.read())
     files(given)
+    meanings(given)
     merges(given)
     handhelds(os.path.basename(sys.argv[1]).encode(), given)
     print("each.py: as wanted")

@@ -6,9 +6,10 @@ import ctypes
 import os
 from typing import Any, Callable
 
-from .errors import BadFiles, BadForm, BadLine, HotSyncError, MemoryRefused, NoSuchEntry, NotMerged
+from .errors import (BadFiles, BadForm, BadLine, HotSyncError, MemoryRefused, NoSuchEntry, NothingOfForm, NotMerged,
+                     Overfull)
 
-FORM, FILES, LINE = -2, -10, -100
+FORM, FILES, NOTHING, RECORD, LINE = -2, -10, -11, -12, -100
 NO_BLOCK = 0xFFFFFFFF
 
 
@@ -36,6 +37,12 @@ class Ends(ctypes.Structure):
     """Where each file of a merge ends."""
 
     _fields_ = [(name, ctypes.c_uint64) for name in ("handheld", "rows", "base", "archive")]
+
+
+class BadPlace(ctypes.Structure):
+    """Which record is out of its form, and where in it."""
+
+    _fields_ = [(name, ctypes.c_uint64) for name in ("index", "place")]
 
 
 class Told(ctypes.Structure):
@@ -82,7 +89,8 @@ def why(answer: int) -> str:
     return bytes(text).decode("ascii")
 
 
-KINDS: dict[int, type[HotSyncError]] = {-1: MemoryRefused, FORM: BadForm, -3: NoSuchEntry, FILES: BadFiles}
+KINDS: dict[int, type[HotSyncError]] = {-1: MemoryRefused, FORM: BadForm, -3: NoSuchEntry, FILES: BadFiles,
+                                        NOTHING: NothingOfForm, -13: Overfull, -14: Overfull}
 
 
 def refusal(answer: int) -> HotSyncError:

@@ -27,7 +27,7 @@ class BadFile(BadForm):
 
 
 class BadLine(BadForm):
-    """A text whose line `line`, from 1 on, is none of a trace."""
+    """A text whose line `line`, from 1 on, is out of its form: that of a trace, or of memos."""
 
     def __init__(self, answer: int, why: str, line: int) -> None:
         super().__init__(answer, f"{why}: line {line}")
@@ -36,6 +36,22 @@ class BadLine(BadForm):
 
 class NoSuchEntry(HotSyncError, IndexError):
     """A database has no such entry."""
+
+
+class NothingOfForm(HotSyncError, ValueError):
+    """A database holds nothing of the form that is asked."""
+
+
+class BadRecord(HotSyncError, ValueError):
+    """The record of this index, from 0 on, is out of its form, at this place in it."""
+
+    def __init__(self, answer: int, why: str, index: int, place: int) -> None:
+        super().__init__(answer, f"{why}: record {index} place {place}")
+        self.index, self.place = index, place
+
+
+class Overfull(HotSyncError, ValueError):
+    """A text has more than 15 labels, or more than 65,535 memos."""
 
 
 class NotMerged(HotSyncError):

@@ -85,6 +85,78 @@ class Databases(unittest.TestCase):
         self.assertEqual(hotsync.seconds(hotsync.date(3082844800)), 3082844800)
 
 
+def printed(example, words):
+    """What a command of an example's transcript prints."""
+    said = read(f"{TOP}/examples/{example}/transcript").decode().split("$ hotsync ")
+    return next(text.split("\n", 1)[1] for text in said if text.split("\n", 1)[0] == words)
+
+
+class Texts(unittest.TestCase):
+    TEXT = "--- 000001\nHi\n--- 000002 private Home\nBye\n"
+    TASKS = [hotsync.Record(0x3B1004, bytes.fromhex("c2e101") + b"Renew\0\0"),
+             hotsync.Record(0x3B1005, bytes.fromhex("ffff89") + b"Oil\0\0", secret=True)]
+
+    def test_what_the_examples_print(self):
+        made = hotsync.seconds(hotsync.date(0).replace(2001, 9, 9, 1, 46, 40))
+        for example, file, words, form, private in (
+                ("address-book", "AddressDB.pdb", "--as=vcf", hotsync.Form.VCF, False),
+                ("address-book", "AddressDB.pdb", "--as=vcf --without-private", hotsync.Form.VCF, True),
+                ("address-book", "AddressDB.pdb", "--as=csv", hotsync.Form.CSV, False),
+                ("address-book", "ToDoDB.pdb", "--as=csv", hotsync.Form.CSV, False),
+                ("address-book", "ToDoDB.pdb", "--as=ics --date=2001-09-09T01:46:40", hotsync.Form.ICS, False),
+                ("date-book", "DatebookDB.pdb", "--as=ics --date=2001-09-09T01:46:40", hotsync.Form.ICS, False)):
+            text = hotsync.export(read(f"{TOP}/examples/{example}/{file}"), form, made, without_private=private)
+            self.assertEqual(text, printed(example, f"export {file} {words}"), words)
+
+    def test_memos_are_their_text_and_back(self):
+        data = hotsync.import_memos(self.TEXT)
+        database = hotsync.Database.from_bytes(data)
+        self.assertEqual((database.name, database.attributes, len(database.app)), (b"MemoDB", 8, 282))
+        self.assertEqual(database.app[:23], b"\0\0Unfiled" + b"\0" * 9 + b"Home\0")
+        self.assertEqual(database.records, [hotsync.Record(1, b"Hi\0"), hotsync.Record(2, b"Bye\0", 1, secret=True)])
+        self.assertEqual(hotsync.export(data, hotsync.Form.TXT), self.TEXT)
+        self.assertEqual(hotsync.export(data, hotsync.Form.TXT, without_private=True), self.TEXT[:14])
+        self.assertEqual(hotsync.export(hotsync.import_memos(""), hotsync.Form.TXT), "")
+
+    def test_a_record_that_is_out_of_its_form_is_told_or_kept(self):
+        data = hotsync.Database(b"ToDoDB", creator=b"todo", records=self.TASKS).to_bytes()
+        rows = "id,private,category,due,done,priority,description,note,record\r\n3b1004,,,2001-07-01,,1,Renew,,\r\n"
+        with self.assertRaises(hotsync.BadRecord) as told:
+            hotsync.export(data, hotsync.Form.CSV)
+        self.assertEqual((told.exception.index, told.exception.place), (1, 2))
+        self.assertEqual(hotsync.export(data, hotsync.Form.CSV, without_private=True), rows)
+        kept = hotsync.export(data, hotsync.Form.CSV, keep_broken=True)
+        self.assertEqual(kept, rows + "3b1005,private,,,,,,,ffff894f696c0000\r\n")
+        self.assertEqual(hotsync.export(data, hotsync.Form.CSV, without_private=True, keep_broken=True), rows)
+
+    def test_what_gives_no_text_says_why(self):
+        with self.assertRaises(hotsync.NothingOfForm):
+            hotsync.export(memo_file(b"one\0"), hotsync.Form.VCF)
+        with self.assertRaises(hotsync.BadForm):
+            hotsync.export(b"", hotsync.Form.TXT)
+        with self.assertRaises(hotsync.BadForm):
+            hotsync.export(memo_file(b"one\0"), 4)
+
+    def test_a_text_that_makes_no_database_says_why(self):
+        for text, line in (("Hi\n", 1), ("--- 000001\nHi\n--- x\n", 3)):
+            with self.assertRaises(hotsync.BadLine) as told:
+                hotsync.import_memos(text)
+            self.assertEqual(told.exception.line, line)
+        labels = [f"--- new {number}\n" for number in range(16)]
+        self.assertEqual(len(hotsync.Database.from_bytes(hotsync.import_memos("".join(labels[1:]))).records), 15)
+        for text in ("".join(labels), "--- new\n" * 65536):
+            with self.assertRaises(hotsync.Overfull):
+                hotsync.import_memos(text)
+
+    def test_file_names(self):
+        self.assertEqual(hotsync.file_name(b"MemoDB"), "MemoDB")
+        self.assertEqual(hotsync.file_name(b"My Memo/1_-\xff"), "My%20Memo%2F1_-%FF")
+        self.assertEqual(hotsync.file_name(b"x" * 31), "x" * 31)
+        for name in (b"", b"x" * 32, b"a\0b"):
+            with self.assertRaises(hotsync.BadForm):
+                hotsync.file_name(name)
+
+
 class Merges(unittest.TestCase):
     def test_a_first_session_takes_the_handhelds_records(self):
         sides = hotsync.merge(hotsync.Sides(handheld=memo_file(b"one\0")), 3082844800)

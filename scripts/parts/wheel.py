@@ -25,7 +25,7 @@ def packed(version, library):
     about = f"""Metadata-Version: 2.1
 Name: hotsync
 Version: {version}
-Summary: Readers of Palm databases, serial packets and traces, the merge of a HotSync, and a handheld in memory
+Summary: Readers of Palm databases, serial packets and traces, texts of records, the merge of a HotSync, and a handheld in memory
 License: MIT
 Requires-Python: >=3.8
 """
