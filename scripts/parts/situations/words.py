@@ -51,15 +51,16 @@ def commands_of_files():
     put("line.txt", "")
     put("Book.pdb", pdb("Book", memos("a")))
     put("from/Book.pdb", pdb("Book", memos("a")))
+    put("memos.pdb", pdb("MemoDB", memos("a"), creator=b"memo"))
     os.makedirs("to", exist_ok=True)
     yield "run", ("run", "h", "d", LATER, "--trace=t", "--script=line.txt")
-    yield "categories", ("categories", "h", "d", LATER, "--trace=t")
-    yield "install", ("install", "Book.pdb", "h", LATER, "--trace=t")
-    yield "restore", ("restore", "from", "h", LATER, "--trace=t")
-    yield "backup", ("backup", "h", "to", LATER, "--trace=t")
+    yield "categories", ("categories", "h", "d", "--trace=t")
+    yield "install", ("install", "h", "Book.pdb", "--trace=t")
+    yield "restore", ("restore", "h", "from", "--trace=t")
+    yield "backup", ("backup", "h", "to", "--trace=t")
     for word in ("check", "show"):
         yield word, (word, "h/MemoDB.pdb")
-    yield "export", ("export", "h/MemoDB.pdb", "--as=txt")
+    yield "export", ("export", "memos.pdb", "--as=txt")
     yield "import", ("import", "memos.txt", "--as=txt")
 
 
@@ -76,6 +77,7 @@ def standard_descriptors_are_closed():
             found.append([(name, call(*words, before=before)[0], all_files(".")) for name, words in commands_of_files()])
             os.chdir("..")
         for usual, other in zip(*found):
+            want(usual[1], 0, f"{usual[0]} with all descriptors")
             want(other, usual, f"{usual[0]} without descriptor {number}")
 
 
