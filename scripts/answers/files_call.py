@@ -5,6 +5,11 @@ import ctypes
 import os
 import struct
 import subprocess
+import sys
+
+# Where the package has the layouts of the library; the package itself wants the library at once.
+sys.path.append(os.path.join(os.path.dirname(os.path.abspath(__file__)), "..", "..", "python", "hotsync"))
+from _layouts import NO_BLOCK, Ends, Entry, Head, How  # noqa: E402
 
 MADE = "2001-09-09T01:46:40"
 MADE_SECONDS = 3082844800
@@ -85,35 +90,6 @@ class Call:
 
 
 # ---- the library for C
-
-
-class Head(ctypes.Structure):
-    """What the header of a database's file says."""
-
-    NAMES = ("attributes", "version", "created", "modified", "backup", "modnum", "seed", "type",
-             "creator", "entries", "name", "app", "sort")
-    _fields_ = [(name, ctypes.c_uint32) for name in NAMES]
-
-
-class Entry(ctypes.Structure):
-    """What stands in front of a record or a resource."""
-
-    _fields_ = [(name, ctypes.c_uint32) for name in ("type", "id", "attributes", "size")]
-
-
-class How(ctypes.Structure):
-    """What is asked of a merge."""
-
-    _fields_ = [(name, ctypes.c_uint32) for name in ("action", "agree", "date")]
-
-
-class Ends(ctypes.Structure):
-    """Where each file of a merge ends."""
-
-    _fields_ = [(name, ctypes.c_uint64) for name in ("handheld", "rows", "base", "archive")]
-
-
-NO_BLOCK = 0xFFFFFFFF
 
 
 def lent(content):
