@@ -21,7 +21,7 @@ use crate::topic::{CommandWord, Topic, command_named, help_of};
 /// A search for packets.
 #[derive(Clone, Copy)]
 pub struct PacketWords<'a> {
-    /// The lower-case hexadecimal of 1 to 4,096 bytes.
+    /// The hexadecimal of 1 to 4,096 bytes.
     pub hex: &'a str,
 }
 
@@ -160,6 +160,7 @@ fn export_in<'a, R: Reading<'a>>(now: Option<u32>, words: &R) -> Option<Export>
         form,
         without_private: words.said("without-private").is_some(),
         keep_broken: words.said("keep-broken").is_some(),
+        raw: words.said("raw").is_some(),
     })
 }
 
