@@ -11,6 +11,7 @@ pub mod Forms
 pub mod Helps
 pub mod Likes
 pub mod Numbers
+pub mod Porteds
 pub mod Runs
 pub mod StemNames
 pub mod Tables
