@@ -63,7 +63,7 @@ extra_reason None word = []
 -- behind `too few words behind COMMAND`: the words that stand there
 abbrev pub few_reason : Option CommandWord → List ℕ
 few_reason None = []
-few_reason (Some Run) = codes ": HANDHELD and DESKTOP"
+few_reason (Some Run) = codes ": HANDHELD or --port=PORT, and DESKTOP"
 few_reason (Some Check) = codes ": FILE"
 few_reason (Some Show) = codes ": FILE"
 few_reason (Some Export) = codes ": FILE"
@@ -72,7 +72,7 @@ few_reason (Some Verify) = codes ": FILE"
 few_reason (Some Picture) = codes ": FILE"
 few_reason (Some Packet) = codes ": HEX"
 few_reason (Some Install) = codes ": HANDHELD and FILE"
-few_reason (Some Backup) = codes ": HANDHELD and FOLDER"
+few_reason (Some Backup) = codes ": HANDHELD or --port=PORT, and FOLDER"
 few_reason (Some Restore) = codes ": HANDHELD and FOLDER"
 few_reason (Some Device) = codes ": HANDHELD"
 few_reason (Some Categories) = codes ": HANDHELD and DESKTOP"

@@ -13,8 +13,8 @@ usage_line = codes "usage: hotsync run HANDHELD DESKTOP --date=D [--script=F] [-
 -- how a command is called
 abbrev pub synopsis : CommandWord → List ℕ
 synopsis Run =
-    codes "hotsync run HANDHELD DESKTOP --date=D [--script=F] [--trace=F] [--only=L] [--slow] "
-    ++ codes "[--actions=L] [--user=NAME] [--add-user] [--dry-run]"
+    codes "hotsync run {HANDHELD [--script=F] [--dry-run] | --port=PORT} DESKTOP --date=D "
+    ++ codes "[--trace=F] [--only=L] [--slow] [--actions=L] [--user=NAME] [--add-user]"
 synopsis Check = codes "hotsync check FILE"
 synopsis Show = codes "hotsync show FILE [--records]"
 synopsis Export =
@@ -24,7 +24,8 @@ synopsis Verify = codes "hotsync verify FILE"
 synopsis Picture = codes "hotsync picture FILE"
 synopsis Packet = codes "hotsync packet HEX"
 synopsis Install = codes "hotsync install HANDHELD FILE [--trace=F]"
-synopsis Backup = codes "hotsync backup HANDHELD FOLDER [--script=F] [--trace=F]"
+synopsis Backup =
+    codes "hotsync backup {HANDHELD [--script=F] | --port=PORT} FOLDER [--trace=F]"
 synopsis Restore = codes "hotsync restore HANDHELD FOLDER [--script=F] [--trace=F]"
 synopsis Device =
     codes "hotsync device HANDHELD {--in=F --out=F | --port=PORT [--trace=F]}"

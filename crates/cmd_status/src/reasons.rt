@@ -97,7 +97,7 @@ fn few_reason(command: Option<CommandWord>) -> &'static str
         return "";
     };
     match command {
-        CommandWord::Run => ": HANDHELD and DESKTOP",
+        CommandWord::Run => ": HANDHELD or --port=PORT, and DESKTOP",
         CommandWord::Check => ": FILE",
         CommandWord::Show => ": FILE",
         CommandWord::Export => ": FILE",
@@ -106,7 +106,7 @@ fn few_reason(command: Option<CommandWord>) -> &'static str
         CommandWord::Picture => ": FILE",
         CommandWord::Packet => ": HEX",
         CommandWord::Install => ": HANDHELD and FILE",
-        CommandWord::Backup => ": HANDHELD and FOLDER",
+        CommandWord::Backup => ": HANDHELD or --port=PORT, and FOLDER",
         CommandWord::Restore => ": HANDHELD and FOLDER",
         CommandWord::Device => ": HANDHELD",
         CommandWord::Categories => ": HANDHELD and DESKTOP",

@@ -16,7 +16,7 @@ pub fn synopsis(command: CommandWord) -> &'static str
 {
     match command {
         CommandWord::Run => {
-            "hotsync run HANDHELD DESKTOP --date=D [--script=F] [--trace=F] [--only=L] [--slow] [--actions=L] [--user=NAME] [--add-user] [--dry-run]"
+            "hotsync run {HANDHELD [--script=F] [--dry-run] | --port=PORT} DESKTOP --date=D [--trace=F] [--only=L] [--slow] [--actions=L] [--user=NAME] [--add-user]"
         }
         CommandWord::Check => "hotsync check FILE",
         CommandWord::Show => "hotsync show FILE [--records]",
@@ -28,7 +28,9 @@ pub fn synopsis(command: CommandWord) -> &'static str
         CommandWord::Picture => "hotsync picture FILE",
         CommandWord::Packet => "hotsync packet HEX",
         CommandWord::Install => "hotsync install HANDHELD FILE [--trace=F]",
-        CommandWord::Backup => "hotsync backup HANDHELD FOLDER [--script=F] [--trace=F]",
+        CommandWord::Backup => {
+            "hotsync backup {HANDHELD [--script=F] | --port=PORT} FOLDER [--trace=F]"
+        }
         CommandWord::Restore => "hotsync restore HANDHELD FOLDER [--script=F] [--trace=F]",
         CommandWord::Device => {
             "hotsync device HANDHELD {--in=F --out=F | --port=PORT [--trace=F]}"

@@ -14,7 +14,7 @@ use Rattle.hotsync_looks.specs.declared.help_text.OptionLine.TheVariants.{Date, 
 -- the options of a command
 abbrev pub options : CommandWord → List OptionLine
 options Run =
-    Date ∷ DateNow ∷ Script ∷ Trace ∷ Only ∷ Slow ∷ Actions ∷ ActionsBoth ∷ User
+    Port ∷ Date ∷ DateNow ∷ Script ∷ Trace ∷ Only ∷ Slow ∷ Actions ∷ ActionsBoth ∷ User
     ∷ AddUser ∷ DryRun ∷ []
 options Check = []
 options Show = Records ∷ []
@@ -25,7 +25,7 @@ options Verify = []
 options Picture = []
 options Packet = []
 options Install = Trace ∷ []
-options Backup = Script ∷ Trace ∷ []
+options Backup = Port ∷ Script ∷ Trace ∷ []
 options Restore = Script ∷ Trace ∷ []
 options Device = Input ∷ Output ∷ Port ∷ Trace ∷ []
 options Categories = Script ∷ Trace ∷ []
@@ -43,7 +43,7 @@ option_words Trace =
     codes "--trace=F          writes each frame that went over the line to the file F"
 option_words Input = codes "--in=F             the bytes that a handheld hears, from the file F"
 option_words Output = codes "--out=F            the file F for the bytes that it says"
-option_words Port = codes "--port=PORT        the port at which device stands"
+option_words Port = codes "--port=PORT        the port with the other end behind it"
 option_words Slow = codes "--slow             reads every record of the handheld"
 option_words Actions =
     codes "--actions=L        what is done with single databases, as "
@@ -117,7 +117,7 @@ second_example Picture =
     ++ codes "new.txt >new.html"
 second_example Packet = codes "hotsync packet $(head -c 4096 sent | od -An -v -tx1 | tr -cd 0-9a-f)"
 second_example Install = codes "hotsync install handheld MemoDB.pdb --trace=new.txt"
-second_example Backup = codes "hotsync backup handheld backup --trace=new.txt"
+second_example Backup = codes "hotsync-port /dev/ttyUSB0 backup backup"
 second_example Restore = codes "hotsync backup handheld backup && hotsync restore other backup"
 second_example Device = codes "hotsync-port /dev/ttyUSB0 device handheld"
 second_example Categories =

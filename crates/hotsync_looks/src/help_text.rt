@@ -67,6 +67,7 @@ fn options(command: CommandWord) -> &'static [OptionLine]
 {
     match command {
         CommandWord::Run => &[
+            OptionLine::Port,
             OptionLine::Date,
             OptionLine::DateNow,
             OptionLine::Script,
@@ -95,7 +96,7 @@ fn options(command: CommandWord) -> &'static [OptionLine]
         CommandWord::Picture => &[],
         CommandWord::Packet => &[],
         CommandWord::Install => &[OptionLine::Trace],
-        CommandWord::Backup => &[OptionLine::Script, OptionLine::Trace],
+        CommandWord::Backup => &[OptionLine::Port, OptionLine::Script, OptionLine::Trace],
         CommandWord::Restore => &[OptionLine::Script, OptionLine::Trace],
         CommandWord::Device => &[
             OptionLine::Input,
@@ -136,7 +137,7 @@ fn option_words(option: OptionLine) -> &'static str
         }
         OptionLine::Input => "--in=F             the bytes that a handheld hears, from the file F",
         OptionLine::Output => "--out=F            the file F for the bytes that it says",
-        OptionLine::Port => "--port=PORT        the port at which device stands",
+        OptionLine::Port => "--port=PORT        the port with the other end behind it",
         OptionLine::Slow => "--slow             reads every record of the handheld",
         OptionLine::Actions => {
             "--actions=L        what is done with single databases, as STEM:WORD,STEM:WORD.. with WORD one of sync, both, handheld, desktop, nothing"
@@ -214,7 +215,7 @@ fn second_example(command: CommandWord) -> &'static str
             "hotsync packet $(head -c 4096 sent | od -An -v -tx1 | tr -cd 0-9a-f)"
         }
         CommandWord::Install => "hotsync install handheld MemoDB.pdb --trace=new.txt",
-        CommandWord::Backup => "hotsync backup handheld backup --trace=new.txt",
+        CommandWord::Backup => "hotsync-port /dev/ttyUSB0 backup backup",
         CommandWord::Restore => "hotsync backup handheld backup && hotsync restore other backup",
         CommandWord::Device => "hotsync-port /dev/ttyUSB0 device handheld",
         CommandWord::Categories => {

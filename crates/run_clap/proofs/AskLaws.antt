@@ -5,14 +5,15 @@ use Rattle.clap.specs.Simple.{is_simple, matches_of}
 use Rattle.clap.specs.Takes.{takes}
 use Rattle.clap.specs.Walk.{rows_of}
 use Rattle.clap.specs.declared.parser.matches.Found.{Found}
-use Rattle.run_words.specs.Cables.{Cable, cable_in, sync_of}
+use Rattle.run_words.specs.Cables.{Cable, cable_in, ported_run_in, sync_of}
 use Rattle.run_words.specs.Commands.{WordTask, deed_of, meaning, task_behind}
 use Rattle.run_words.specs.Docks.{Dock, dock_in, docking_of}
 use Rattle.run_words.specs.Faults.{Fault, given_unless, option_fault, right_given}
 use Rattle.run_words.specs.Forms.{Given, WordFormValue, given_by, is_of_form}
-use Rattle.run_words.specs.Helps.{begins, command_named}
+use Rattle.run_words.specs.Helps.{begins, command_named, names_port}
 use Rattle.run_words.specs.Likes.{Like, like_in, liking_of}
-use Rattle.run_words.specs.Tables.{cable_form, dock_form, form_behind, import_form}
+use Rattle.run_words.specs.Porteds.{Ported, ported_in, ported_of}
+use Rattle.run_words.specs.Tables.{cable_form, dock_form, form_behind, import_form, ported_form, ported_run_form}
 use Rattle.run_words.specs.declared.fault.FaultKind.TheVariants.{BadOption}
 use Rattle.run_words.specs.declared.topic.CommandWord.{CommandWord}
 use Rattle.run_words.specs.declared.topic.CommandWord.TheVariants.{Run, Check, Show, Export, Import, Verify, Picture, Packet, Install, Backup, Restore, Device, Categories, Sync, Make}
@@ -105,9 +106,30 @@ unfolding deed_of
 deed_asks now words command named e =
     asked (meaning now command) now (form_behind command) words (ap (option_and_then (task_behind now words)) (sym named) ∙ e)
 
-pub sync_asks : (now : Option ℕ) (words : List Text) {cable : Cable} → sync_of now words ≡ Some cable → Asks (cable_in now) cable_form words cable
+-- of two, by the first or not by it
+chosen : {A : Type 0} (b : Bool) {first other : Option A} {a : A} → cond b first other ≡ Some a → b ≡ true → first ≡ Some a
+chosen true e is = e
+chosen false e is = absurd cc
+
+left_over : {A : Type 0} (b : Bool) {first other : Option A} {a : A} → cond b first other ≡ Some a → b ≡ false → other ≡ Some a
+left_over true e is = absurd cc
+left_over false e is = e
+
+pub sync_asks : (now : Option ℕ) (words : List Text) {cable : Cable} → names_port (codes "run") words ≡ false → sync_of now words ≡ Some cable
+    → Asks (cable_in now) cable_form words cable
 unfolding sync_of
-sync_asks now words e = asked_if (begins (codes "sync") words) (cable_in now) now cable_form words e
+sync_asks now words none e =
+    asked_if (begins (codes "sync") words) (cable_in now) now cable_form words (left_over (names_port (codes "run") words) e none)
+
+pub ported_run_asks : (now : Option ℕ) (words : List Text) {cable : Cable} → names_port (codes "run") words ≡ true → sync_of now words ≡ Some cable
+    → Asks (ported_run_in now) ported_run_form words cable
+unfolding sync_of
+ported_run_asks now words named e =
+    asked (ported_run_in now) now ported_run_form words (chosen (names_port (codes "run") words) e named)
+
+pub ported_asks : (command : Text) (words : List Text) {ported : Ported} → ported_of command words ≡ Some ported → Asks ported_in ported_form words ported
+unfolding ported_of
+ported_asks command words e = asked_if (names_port command words) ported_in None ported_form words e
 
 pub docking_asks : (words : List Text) {dock : Dock} → docking_of words ≡ Some dock → Asks dock_in dock_form words dock
 unfolding docking_of

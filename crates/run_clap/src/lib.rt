@@ -11,7 +11,7 @@ mod matched;
 mod read;
 
 pub use matched::{Matched, WordsFault, read_form};
-pub use read::{read_command, read_docking, read_liking, read_sync};
+pub use read::{read_command, read_docking, read_liking, read_ported, read_sync};
 pub use run_words::{
     BetweenWords, CaptureWords, ChoiceWords, Command, Export, ExportForm, ImportForm, Look,
     LookWords, MakeWords, PacketWords, RunWords, Topic,

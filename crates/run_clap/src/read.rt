@@ -1,16 +1,18 @@
 // Words, read by the command of what they ask for.
-ghost use Rattle.std.specs.Prelude.{◌≡◌, ◌↔◌, IfErr, IfOk, IsErrOf, None, Some, map, string_bytes};
+ghost use Rattle.std.specs.Prelude.{◌≡◌, ◌↔◌, IfErr, IfOk, IsErrOf, IsSome, None, Some, codes, map, string_bytes, true};
 ghost use Rattle.run_words.specs.Cables.{sync_of};
 ghost use Rattle.run_words.specs.Commands.{deed_of as deed_of_words, task_of};
 ghost use Rattle.run_words.specs.Docks.{docking_of};
+ghost use Rattle.run_words.specs.Helps.{names_port as port_named};
 ghost use Rattle.run_words.specs.Likes.{liking_of};
-ghost use Rattle.run_words.specs.Views.{cable_view, dock_view, like_view, task_view};
+ghost use Rattle.run_words.specs.Porteds.{ported_of};
+ghost use Rattle.run_words.specs.Views.{cable_view, dock_view, like_view, ported_view, task_view};
 
 use crate::matched::{WordsFault, read_form};
 use run_words::{
-    CABLE, CableWords, Command, DOCK, DockWords, IMPORT, LikeWords, cable_in, command_in,
-    command_named, deed_of, dock_in, docking_words, form_behind, help_of, like_in, liking_words,
-    sync_words,
+    CABLE, CableWords, Command, DOCK, DockWords, IMPORT, LikeWords, PORTED, PORTED_RUN,
+    PortedWords, cable_in, command_in, command_named, deed_of, dock_in, docking_words, form_behind,
+    help_of, like_in, liking_words, names_port, ported_in, ported_run_in, ported_words, sync_words,
 };
 use std::alloc::Global;
 
@@ -70,9 +72,52 @@ pub fn read_sync<'a>(
     let Some(_) = sync_words(now, words) else {
         return Err(WordsFault::Usage);
     };
+    if names_port(words, "run") {
+        return read_ported_run(alloc, now, words);
+    }
     let matched = read_form(alloc, CABLE, words)?;
     match cable_in(now, &matched) {
         Some(cable) => Ok(cable),
+        None => unreachable!(),
+    }
+}
+
+// The session over a cable that words behind `run` ask for, which name the port.
+fn read_ported_run<'a>(
+    alloc: Global,
+    now: Option<u32>,
+    words: &'a [String],
+) -> Result<CableWords<'a>, WordsFault>
+    requires named { port_named (codes "run") (map string_bytes words.now) ≡ true }
+    requires some { IsSome (sync_of now (map string_bytes words.now)) }
+    ensures command { IfOk result (λ cable.
+        sync_of now (map string_bytes words.entry.now) ≡ Some (cable_view cable)) }
+    ensures refused { IfErr result (λ fault. fault ≡ WordsFault.NoMemory) }
+{
+    let matched = read_form(alloc, PORTED_RUN, words)?;
+    match ported_run_in(now, &matched) {
+        Some(cable) => Ok(cable),
+        None => unreachable!(),
+    }
+}
+
+/// What these words ask for behind this command, which name a port, read by `clap`.
+pub fn read_ported<'a>(
+    alloc: Global,
+    command: &str,
+    words: &'a [String],
+) -> Result<PortedWords<'a>, WordsFault>
+    ensures command { IfOk result (λ ported. ported_of command.now
+        (map string_bytes words.entry.now) ≡ Some (ported_view ported)) }
+    ensures usage { IsErrOf result WordsFault.Usage
+        ↔ (ported_of command.now (map string_bytes words.entry.now) ≡ None) }
+{
+    let Some(_) = ported_words(command, words) else {
+        return Err(WordsFault::Usage);
+    };
+    let matched = read_form(alloc, PORTED, words)?;
+    match ported_in(&matched) {
+        Some(ported) => Ok(ported),
         None => unreachable!(),
     }
 }

@@ -1,12 +1,12 @@
 -- Which words ask for a session over a cable, and what they give.
-use Rattle.std.specs.Prelude.{is_some, ◌&&◌, ℕ, Bool, not, List, Option, Some, None, codes, drop, is_none, option_map, option_and_then, if◌then◌else◌}
+use Rattle.std.specs.Prelude.{is_some, ◌&&◌, ◌||◌, ℕ, Bool, not, List, Option, Some, None, codes, drop, is_none, option_map, option_and_then, if◌then◌else◌}
 use Rattle.std.specs.Option.{option_or}
 use Rattle.run_words.specs.Choices.{given_actions, restricted_to}
 use Rattle.run_words.specs.Faults.{right_given}
 use Rattle.run_words.specs.Forms.{Given, has_flag}
-use Rattle.run_words.specs.Helps.{begins}
+use Rattle.run_words.specs.Helps.{begins, names_port}
 use Rattle.run_words.specs.Runs.{date_of}
-use Rattle.run_words.specs.Tables.{cable_form}
+use Rattle.run_words.specs.Tables.{cable_form, ported_run_form}
 use Rattle.run_words.specs.declared.action.NamedAction.{NamedAction}
 
 -- ---- the words
@@ -38,23 +38,46 @@ cable_between given port desktop date = record {
   add_user = is_some (given.said (codes "add-user"));
 }
 
--- the session that the words give, at the date now
+abbrev pub dated_between : Option ℕ → Given → List ℕ → List ℕ → Option Cable
+dated_between now given port desktop =
+    option_map (cable_between given port desktop) (date_of now given)
+
+-- the session that the words behind `sync` give, at the date now
 unfoldable pub cable_in : Option ℕ → Given → Option Cable
 cable_in now given =
     option_and_then
-    (λ port. option_and_then
-    (λ desktop. option_map (cable_between given port desktop) (date_of now given))
-    (given.plain 1)) (given.plain 0)
+    (λ port. option_and_then (λ desktop. dated_between now given port desktop) (given.plain 1))
+    (given.plain 0)
 
--- the first word asks for a session over a cable, and none behind it for help
+-- the one that those behind `run` give, which name the port
+unfoldable pub ported_run_in : Option ℕ → Given → Option Cable
+ported_run_in now given =
+    option_and_then
+    (λ port. option_and_then (λ desktop. dated_between now given port desktop) (given.plain 0))
+    (given.said (codes "port"))
+
+-- the first word asks for a session over a cable, as `run` does where a port is named, and none
+-- behind it for help
 abbrev pub begins_sync : List (List ℕ) → Bool
-begins_sync words = begins (codes "sync") words && not (has_flag (codes "help") (drop 1 words))
+begins_sync words =
+    (names_port (codes "run") words || begins (codes "sync") words)
+    && not (has_flag (codes "help") (drop 1 words))
+
+-- the session that words ask for behind `run`, which name the port
+abbrev pub ported_run_of : Option ℕ → List (List ℕ) → Option Cable
+ported_run_of now words =
+    option_and_then (ported_run_in now) (right_given now ported_run_form words)
+
+-- the one that words ask for whose first is `sync`
+abbrev pub cable_of : Option ℕ → List (List ℕ) → Option Cable
+cable_of now words =
+    if begins (codes "sync") words
+    then option_and_then (cable_in now) (right_given now cable_form words) else None
 
 -- the session over a cable that these words ask for, at the date now
 unfoldable pub sync_of : Option ℕ → List (List ℕ) → Option Cable
 sync_of now words =
-    if begins (codes "sync") words
-    then option_and_then (cable_in now) (right_given now cable_form words) else None
+    if names_port (codes "run") words then ported_run_of now words else cable_of now words
 
 -- ---- which databases it touches
 

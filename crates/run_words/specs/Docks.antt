@@ -1,8 +1,8 @@
 -- Which words ask for a handheld at a port, and what they give.
-use Rattle.std.specs.Prelude.{◌&&◌, ℕ, Bool, List, Option, None, codes, drop, is_some, option_map, option_and_then, if◌then◌else◌}
+use Rattle.std.specs.Prelude.{ℕ, Bool, List, Option, None, codes, option_map, option_and_then, if◌then◌else◌}
 use Rattle.run_words.specs.Faults.{right_given}
-use Rattle.run_words.specs.Forms.{Given, value_of}
-use Rattle.run_words.specs.Helps.{begins}
+use Rattle.run_words.specs.Forms.{Given}
+use Rattle.run_words.specs.Helps.{begins, names_port}
 use Rattle.run_words.specs.Tables.{dock_form}
 
 -- a handheld's folder, the port that it stands at, and the trace that is written
@@ -25,8 +25,7 @@ dock_in given =
 
 -- the first word is `device`, and one behind it begins with `--port=`
 abbrev pub begins_dock : List (List ℕ) → Bool
-begins_dock words =
-    begins (codes "device") words && is_some (value_of (codes "port") (drop 1 words))
+begins_dock words = names_port (codes "device") words
 
 -- the handheld at a port that these words ask for
 unfoldable pub docking_of : List (List ℕ) → Option Dock

@@ -9,7 +9,7 @@ use Rattle.run_words.specs.Forms.{Given, WordFormValue, NamedOption, given_by, i
 use Rattle.run_words.specs.Helps.{command_word}
 use Rattle.run_words.specs.Numbers.{count_of, number_of}
 use Rattle.run_words.specs.Runs.{date_at}
-use Rattle.run_words.specs.Tables.{form_behind}
+use Rattle.run_words.specs.Tables.{form_of}
 use Rattle.run_words.specs.UserNames.{user_of}
 use Rattle.run_words.specs.Words.{after, is_hex, is_plain}
 use Rattle.run_words.specs.Forms.{OptionKind, Needed, Allowed, Flag}
@@ -143,8 +143,8 @@ bad_word command words = option_or (bad_word_at command 0 words) (bad_word_at co
 -- the word at fault behind a command: by the form of its words, or in a value
 abbrev pub command_fault : Option ℕ → CommandWord → List ℕ → List (List ℕ) → Option Fault
 command_fault now known command words =
-    option_or (form_fault (form_behind known) command words)
-    (option_or (option_fault BadOption now (form_behind known) words) (bad_word known words))
+    option_or (form_fault (form_of known words) command words)
+    (option_or (option_fault BadOption now (form_of known words) words) (bad_word known words))
 
 -- the first word where none is to stand
 abbrev pub word_too_many : List (List ℕ) → Option Fault

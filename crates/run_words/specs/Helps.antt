@@ -1,7 +1,7 @@
 -- Which command a first word names, and which words ask for help, and of what.
-use Rattle.std.specs.Prelude.{ℕ, Bool, false, ◌||◌, List, [], ◌∷◌, Option, Some, None, codes, bytes_eq, slice_get, option_map, option_and_then, if◌then◌else◌}
+use Rattle.std.specs.Prelude.{ℕ, Bool, false, ◌&&◌, ◌||◌, List, [], ◌∷◌, drop, Option, Some, None, codes, bytes_eq, is_some, slice_get, option_map, option_and_then, if◌then◌else◌}
 use Rattle.std.specs.Option.{option_map_or}
-use Rattle.run_words.specs.Forms.{has_flag}
+use Rattle.run_words.specs.Forms.{has_flag, value_of}
 use Rattle.run_words.specs.declared.topic.CommandWord.{CommandWord}
 use Rattle.run_words.specs.declared.topic.CommandWord.TheVariants.{Run, Check, Show, Export, Import, Verify, Picture, Packet, Install, Backup, Restore, Device, Categories, Sync, Make}
 use Rattle.run_words.specs.declared.topic.Topic.{Topic}
@@ -33,6 +33,11 @@ command_named words = option_and_then command_word (slice_get words 0)
 -- the first word is this
 abbrev pub begins : List ℕ → List (List ℕ) → Bool
 begins word words = option_map_or (λ first. bytes_eq first word) (slice_get words 0) false
+
+-- the first word is this, and one behind it begins with `--port=`
+abbrev pub names_port : List ℕ → List (List ℕ) → Bool
+names_port word words =
+    begins word words && is_some (value_of (codes "port") (drop 1 words))
 
 -- the help of the command that a word names
 abbrev pub help_with : List ℕ → Option Topic

@@ -12,6 +12,7 @@ pub mod Helps
 pub mod HexPairs
 pub mod Likes
 pub mod Numbers
+pub mod Porteds
 pub mod Runs
 pub mod StemNames
 pub mod Tables

@@ -1,6 +1,7 @@
 -- The table of commands: the form of the words behind each.
-use Rattle.std.specs.Prelude.{ℕ, List, [], ◌∷◌, codes}
-use Rattle.run_words.specs.Forms.{WordFormValue, NamedOption}
+use Rattle.std.specs.Prelude.{ℕ, List, [], ◌∷◌, Option, Some, None, codes, is_some, if◌then◌else◌}
+use Rattle.std.specs.Option.{unwrap_or}
+use Rattle.run_words.specs.Forms.{WordFormValue, NamedOption, value_of}
 use Rattle.run_words.specs.Forms.{Needed, Allowed, Flag}
 use Rattle.run_words.specs.declared.topic.CommandWord.{CommandWord}
 use Rattle.run_words.specs.declared.topic.CommandWord.TheVariants.{Run, Check, Show, Export, Import, Verify, Picture, Packet, Install, Backup, Restore, Device, Categories, Sync, Make}
@@ -115,3 +116,35 @@ form_behind Device = capture_form
 form_behind Categories = between_form
 form_behind Sync = cable_form
 form_behind Make = make_form
+
+-- ---- where a port is named
+
+-- `DESKTOP --port=PORT --date=D [--only=L] [--trace=F] [--actions=L] [--slow] [--user=N]
+-- [--add-user]`, behind `run`
+abbrev pub ported_run_form : WordFormValue
+ported_run_form = record {
+  plain = codes "desktop" ∷ [];
+  options =
+      needed (codes "date") ∷ needed (codes "port") ∷ allowed (codes "only")
+      ∷ allowed (codes "trace") ∷ allowed (codes "actions") ∷ allowed (codes "user")
+      ∷ flag (codes "slow") ∷ flag (codes "add-user") ∷ [];
+}
+
+-- `OTHER --port=PORT [--trace=F]`, behind `backup`
+abbrev pub ported_form : WordFormValue
+ported_form = record {
+  plain = codes "other" ∷ [];
+  options = needed (codes "port") ∷ allowed (codes "trace") ∷ [];
+}
+
+-- the form of the words behind a command where one of them names a port, if it has one
+abbrev pub form_at_port : CommandWord → Option WordFormValue
+form_at_port Run = Some ported_run_form
+form_at_port Backup = Some ported_form
+form_at_port _ = None
+
+-- the form by which these words behind a command are judged
+abbrev pub form_of : CommandWord → List (List ℕ) → WordFormValue
+form_of command words =
+    if is_some (value_of (codes "port") words)
+    then unwrap_or (form_at_port command) (form_behind command) else form_behind command

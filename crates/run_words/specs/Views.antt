@@ -9,6 +9,7 @@ use Rattle.run_words.specs.Faults.{Fault}
 use Rattle.run_words.specs.Docks.{Dock}
 use Rattle.run_words.specs.Forms.{Given, WordFormValue, NamedOption, Needed, Allowed, Flag, given_by}
 use Rattle.run_words.specs.Likes.{Like}
+use Rattle.run_words.specs.Porteds.{Ported}
 use Rattle.run_words.specs.Runs.{Run}
 use Rattle.run_words.specs.Words.{bytes_of}
 use Rattle.run_words.specs.declared.between.BetweenWords.{BetweenWords}
@@ -23,6 +24,7 @@ use Rattle.run_words.specs.declared.form.FormOption.{FormOption}
 use Rattle.run_words.specs.declared.form.FormOption.TheVariants as options
 use Rattle.run_words.specs.declared.form.WordForm.{WordForm}
 use Rattle.run_words.specs.declared.like.LikeWords.{LikeWords}
+use Rattle.run_words.specs.declared.ported.PortedWords.{PortedWords}
 use Rattle.run_words.specs.declared.run.RunWords.{RunWords}
 use Rattle.run_words.specs.declared.spoken.Spoken.{Spoken}
 
@@ -101,6 +103,14 @@ dock_view dock = record {
   handheld = dock.handheld.now;
   port = dock.port.now;
   trace = option_copied dock.trace;
+}
+
+-- the port and the path of the words
+abbrev pub ported_view : PortedWords → Ported
+ported_view words = record {
+  port = words.port.now;
+  other = words.other.now;
+  trace = option_copied words.trace;
 }
 
 -- the import of the words, in the categories of another file

@@ -3,9 +3,8 @@ ghost use Rattle.std.specs.Prelude.{◌≡◌, map, string_bytes, option_map};
 ghost use Rattle.run_words.specs.Docks.{begins_dock, dock_in as dock_of_words, docking_of};
 ghost use Rattle.run_words.specs.Views.{dock_view};
 
-use crate::form::value_of;
 use crate::reading::Reading;
-use crate::spoken::{begins, behind_first, right_words};
+use crate::spoken::{begins, names_port, right_words};
 use crate::tables::DOCK;
 
 /// A handheld's folder, and the port that it stands at.
@@ -36,7 +35,7 @@ pub fn dock_in<'a, R: Reading<'a>>(words: &R) -> Option<DockWords<'a>>
 pub fn is_docking(words: &[String]) -> bool
     ensures { result ≡ begins_dock (map string_bytes words.now) }
 {
-    begins(words, "device") && value_of(behind_first(words), "port").is_some()
+    names_port(words, "device")
 }
 
 /// The handheld at a port that these words ask for, or `None` exactly where they are not in its form.

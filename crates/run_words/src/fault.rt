@@ -14,7 +14,7 @@ use crate::look::is_form_word;
 use crate::number::{count_in, number_in};
 use crate::only::are_stems;
 use crate::run::date_in;
-use crate::tables::form_behind;
+use crate::tables::form_of;
 use crate::topic::{CommandWord, command_word};
 use crate::user::user_in;
 use crate::word::{behind, is_plain};
@@ -281,7 +281,7 @@ fn command_fault<'a>(
     ensures { option_map fault_view result ≡ spec.command_fault now known command.entry.now
         (map string_bytes words.entry.now) }
 {
-    let form = form_behind(known);
+    let form = form_of(known, words);
     if let Some(fault) = form_fault(&form, command, words) {
         return Some(fault);
     }

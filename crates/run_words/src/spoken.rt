@@ -1,11 +1,11 @@
 // Words of a form as they stand.
 ghost use Rattle.std.specs.Prelude.{◌≡◌, drop, map, option_map, string_bytes};
 ghost use Rattle.run_words.specs.Faults.{right_given};
-ghost use Rattle.run_words.specs.Helps.{begins as begins_with};
+ghost use Rattle.run_words.specs.Helps.{begins as begins_with, names_port as names_port_behind};
 ghost use Rattle.run_words.specs.Views.{form_view, spoken_given};
 
 use crate::fault::{FaultKind, option_fault};
-use crate::form::{WordForm, is_of_form, option_named, plain_at, said_of};
+use crate::form::{WordForm, is_of_form, option_named, plain_at, said_of, value_of};
 use crate::reading::Reading;
 
 /// Words of a form as they stand.
@@ -65,4 +65,11 @@ pub(crate) fn begins(words: &[String], word: &str) -> bool
         Some(first) => first.as_str() == word,
         None => false,
     }
+}
+
+/// Whether this is the first word, and one behind it names a port.
+pub fn names_port(words: &[String], word: &str) -> bool
+    ensures { result ≡ names_port_behind word.now (map string_bytes words.now) }
+{
+    begins(words, word) && value_of(behind_first(words), "port").is_some()
 }
