@@ -23,5 +23,6 @@ flaw_text LongMemo = codes "memo too long"
 -- `bad text line N column C: CAUSE`
 unfoldable pub flaw_line : ℕ → LineFlaw → List ℕ
 flaw_line number flaw =
-    codes "bad text line " ++ decimal number
-    ++ (codes " column " ++ decimal flaw.column ++ (codes ": " ++ flaw_text flaw.flaw ++ 10 ∷ []))
+    codes "bad text line "
+    ++ (decimal number ++ (codes " column " ++ (decimal flaw.column ++ codes ": ")))
+    ++ flaw_text flaw.flaw ++ 10 ∷ []

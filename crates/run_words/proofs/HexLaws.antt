@@ -1,4 +1,5 @@
 -- Hexadecimal, byte by byte.
+use Rattle.std.proofs.lemmas.Bool.Decides.{nat_tests}
 use Rattle.std.proofs.Common.{◌≡◌, ◌∙◌, ◌+◌, ◌==◌, ◌&&◌, ap, arith, cond, length, refl, sym, ℕ, suc, Bool, true, false, List, [], ◌∷◌, Option, Some, None}
 use Rattle.std.specs.Prelude.{option_map}
 use Rattle.run_words.specs.HexPairs.{first_pair}
@@ -56,5 +57,10 @@ module _ (text rest : List ℕ) (count : ℕ) (so_far : onward count (byte_count
 pub count_is_whole : (text rest : List ℕ) (count : ℕ) → onward count (byte_count rest) ≡ byte_count text → (length rest == 0) ≡ true
     → Some count ≡ byte_count text
 unfolding byte_count
-count_is_whole text [] count so_far none = ap Some (omega arith) ∙ so_far
-count_is_whole text (x ∷ xs) count so_far none = cc
+count_is_whole text [] count so_far none =
+    let same : count ≡ count + 0 = omega arith in
+    ap Some same ∙ so_far
+count_is_whole text (x ∷ xs) count so_far none =
+    let other : (length (x ∷ xs) == 0) ≡ false = grind (arith, nat_tests) in
+    let no : false ≡ true = sym other ∙ none in
+    cc
