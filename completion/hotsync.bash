@@ -93,7 +93,7 @@ _hotsync() {
         ;;
     export)
         case $word in
-        -*) _hotsync_options '--as=txt --as=vcf --as=csv --as=ics --date=now --without-private --keep-broken' ;;
+        -*) _hotsync_options '--as=txt --as=vcf --as=csv --as=ics --date=now --without-private --keep-broken --raw' ;;
         *) _hotsync_files -f ;;
         esac
         ;;

@@ -64,7 +64,8 @@ _hotsync() {
     export)
         _arguments '1:file:_files' '--as=-[the form]:form:(txt vcf csv ics)' \
             '--date=-[the time at which the calendar is made]:date:(now)' \
-            '--without-private[leave private records out]' '--keep-broken[keep records that are out of their form]'
+            '--without-private[leave private records out]' '--keep-broken[keep records that are out of their form]' \
+            '--raw[print the fields of a table as they are]'
         ;;
     import) _arguments '1:file:_files' '--as=-[the form]:form:(txt)' '--like=-[the file with the categories]:file:_files' ;;
     install) _arguments '1:handheld:_files -/' '2:file:_files' '--trace=-[the file for the trace]:file:_files' ;;

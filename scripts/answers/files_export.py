@@ -4,7 +4,7 @@ that are made here.
 `new TYPE CREATOR ATTRIBUTES` begins a database, `app LENGTH` gives it a block of zeros, `label
 CATEGORY H` and `custom NUMBER H` write names into it, `record ID live|deleted open|private
 CATEGORY H` adds a record. Then `txt`, `vcf`, `csv`, `csv-tasks`, `tasks` or `dates`, with
-`-public` or `-kept` behind it, is the text in that form (calendars are made at
+`-public`, `-kept` or `-raw` behind it, is the text in that form (calendars are made at
 2001-09-09T01:46:40), and `import H` the text of the memos that are read from a text. `id CATEGORY
 ID` writes an id into the block; `like H` imports a text in the categories of the database, and
 tells the category of each record, and each entry of its block that is new: number, label and id.
@@ -16,7 +16,7 @@ from files_call import MADE, Call, bytes_of, pdb, put, records_of
 
 FORMS = {"txt": "txt", "vcf": "vcf", "csv": "csv", "csv-tasks": "csv",
          "tasks": "ics", "dates": "ics"}
-OPTIONS = {"public": "--without-private", "kept": "--keep-broken"}
+OPTIONS = {"public": "--without-private", "kept": "--keep-broken", "raw": "--raw"}
 
 
 class Exports:

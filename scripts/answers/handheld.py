@@ -69,7 +69,7 @@ class Handheld:
             self.port.give(acknowledgement(self.wake))
             self.port.give(packet(255, INIT_BODY))
             self.next()
-        self.transaction = self.transaction % 254 + 1
+        self.transaction = self.transaction % 253 + 1
         for piece in fragments(self.transaction, message):
             self.port.give(piece)
             if self.next() is None:

@@ -71,7 +71,7 @@ INIT = bytes.fromhex("02000101000000002580")
 
 
 def replies(tools, files, requests):
-    """What a handheld with these files replies to these requests, at most 254, of one fragment
+    """What a handheld with these files replies to these requests, at most 253, of one fragment
     each."""
     folder(tools, "handheld", files)
     sent = message(255, INIT)

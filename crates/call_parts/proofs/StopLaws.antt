@@ -56,7 +56,7 @@ module _ {asked : List (List ℕ)} {report : Report} {answered : ℕ} where
   tells_stop SourceRead it why by = absurd it.ends
   tells_stop (CannotExport name form) it why by = absurd it.ends
   tells_stop (BadRecord index place) it why by = absurd it.ends
-  tells_stop (BadText line) it why by = absurd it.ends
+  tells_stop (BadText line flaw) it why by = absurd it.ends
   tells_stop (Overfull what) it why by = absurd it.ends
   tells_stop (BadTrace line) it why by = absurd it.ends
   tells_stop (NotProper rule) it why by = absurd it.ends

@@ -190,7 +190,7 @@ module _ {asked : List (List ℕ)} where
   whole_over SourceRead some over short whole = absurd over.ends
   whole_over (CannotExport name form) some over short whole = absurd over.ends
   whole_over (BadRecord index place) some over short whole = absurd over.ends
-  whole_over (BadText line) some over short whole = absurd over.ends
+  whole_over (BadText line flaw) some over short whole = absurd over.ends
   whole_over (Overfull what) some over short whole = absurd over.ends
   whole_over (BadTrace line) some over short whole = absurd over.ends
   whole_over (NotProper rule) some over short whole = absurd over.ends

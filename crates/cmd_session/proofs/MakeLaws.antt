@@ -151,7 +151,7 @@ module _ {items : List Item} (after : SidesTold) (report : Report) (are : AreIte
   by_status SourceRead asks ends unsaid up caused numbered shows palm desk = absurd ends
   by_status (CannotExport name form) asks ends unsaid up caused numbered shows palm desk = absurd ends
   by_status (BadRecord index place) asks ends unsaid up caused numbered shows palm desk = absurd ends
-  by_status (BadText line) asks ends unsaid up caused numbered shows palm desk = absurd ends
+  by_status (BadText line flaw) asks ends unsaid up caused numbered shows palm desk = absurd ends
   by_status (Overfull what) asks ends unsaid up caused numbered shows palm desk = absurd ends
   by_status (BadTrace line) asks ends unsaid up caused numbered shows palm desk = absurd ends
   by_status (NotProper rule) asks ends unsaid up caused numbered shows palm desk = absurd ends

@@ -1,5 +1,6 @@
 pub mod Codes
 pub mod Commands
+pub mod FlawLines
 pub mod FolderFaults
 pub mod Lines
 pub mod Opening

@@ -11,6 +11,7 @@ use Rattle.run_words.specs.declared.fault.FaultKind.{FaultKind}
 use Rattle.run_words.specs.declared.fault.FaultKind.TheVariants as fault
 use Rattle.run_words.specs.declared.look.ExportForm.{ExportForm}
 use Rattle.run_words.specs.declared.look.ExportForm.TheVariants.{Text, Cards, Table, Calendar}
+use Rattle.cmd_status.specs.FlawLines.{flaw_line}
 use Rattle.cmd_status.specs.PrintedNames.{printed_name}
 use Rattle.cmd_status.specs.declared.status.FileSide.{FileSide}
 use Rattle.cmd_status.specs.declared.status.FileSide.TheVariants.{Handheld, Desktop, Source}
@@ -163,7 +164,7 @@ refusal_line (BadFile side name kind place) =
     bad_file_line side (string_bytes {Z = Global} name) kind place
 refusal_line (CannotExport name form) = export_line name form
 refusal_line (BadRecord index place) = record_line index place
-refusal_line (BadText line) = number_line (codes "bad text line ") line
+refusal_line (BadText line flaw) = flaw_line line flaw
 refusal_line (Overfull what) = word_line (codes "too many ") (surplus_word what)
 refusal_line (BadTrace line) = number_line (codes "bad trace line ") line
 refusal_line (NotProper rule) = word_line (codes "not proper ") (rule_word rule)

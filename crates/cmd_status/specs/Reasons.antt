@@ -38,7 +38,7 @@ missing_reason command name =
 
 -- behind `bad word WORD`: what the words of this command are
 abbrev pub plain_wish : Option CommandWord → List ℕ
-plain_wish (Some Packet) = codes ": not pairs of the digits 0 to 9 and a to f, without a space"
+plain_wish (Some Packet) = codes ": not pairs of the digits 0 to 9 and a to f"
 plain_wish (Some Make) = codes ": not a seed below 2^64, or a count from 1 to 5000"
 plain_wish command = []
 

@@ -18,7 +18,7 @@ synopsis Run =
 synopsis Check = codes "hotsync check FILE"
 synopsis Show = codes "hotsync show FILE [--records]"
 synopsis Export =
-    codes "hotsync export FILE --as=FORM [--date=D] [--without-private] [--keep-broken]"
+    codes "hotsync export FILE --as=FORM [--date=D] [--without-private] [--keep-broken] [--raw]"
 synopsis Import = codes "hotsync import FILE --as=txt [--like=FILE]"
 synopsis Verify = codes "hotsync verify FILE"
 synopsis Picture = codes "hotsync picture FILE"

@@ -7,6 +7,7 @@
 
 mod commands;
 mod fault_lines;
+mod flaw_line;
 mod printed_name;
 mod printing;
 mod reasons;

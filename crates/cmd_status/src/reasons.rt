@@ -57,7 +57,7 @@ fn plain_wish(command: Option<CommandWord>) -> &'static str
     ensures { result.now ≡ reasons.plain_wish command }
 {
     match command {
-        Some(CommandWord::Packet) => ": not pairs of the digits 0 to 9 and a to f, without a space",
+        Some(CommandWord::Packet) => ": not pairs of the digits 0 to 9 and a to f",
         Some(CommandWord::Make) => ": not a seed below 2^64, or a count from 1 to 5000",
         _ => "",
     }

@@ -4,6 +4,7 @@ ghost use Rattle.cmd_status.specs.Lines.{bad_reply_line as line_of_bad_reply, re
 ghost use Rattle.cmd_status.specs.Lines.{bad_file_line as line_of_bad_file, end_word as word_of_end, export_line as line_of_export, form_word as word_of_form, folder_word as word_of_folder, number_line as line_of_number, record_line as line_of_record, refusal_line as line_of_refusal, same_line as line_of_same, rule_word as word_of_rule, surplus_word as word_of_surplus, users_line as line_of_users, word_line as line_of_word};
 
 use crate::fault_lines::fault_lines;
+use crate::flaw_line::flaw_line;
 use crate::printed_name::push_name;
 use crate::status::{FileSide, Status, Surplus};
 use crate::usage::usage_lines;
@@ -38,7 +39,7 @@ pub(crate) fn refusal_line(alloc: Global, refusal: &Status) -> Result<String, Al
         } => bad_file_line(alloc, *side, name.as_str(), *kind, *place),
         Status::CannotExport { name, form } => export_line(alloc, name, *form),
         Status::BadRecord { index, place } => record_line(alloc, *index, *place),
-        Status::BadText(line) => number_line(alloc, "bad text line ", *line),
+        Status::BadText { line, flaw } => flaw_line(alloc, *line, *flaw),
         Status::Overfull(what) => word_line(alloc, "too many ", surplus_word(*what)),
         Status::BadTrace(line) => number_line(alloc, "bad trace line ", u64::from(*line)),
         Status::NotProper(rule) => word_line(alloc, "not proper ", rule_word(*rule)),

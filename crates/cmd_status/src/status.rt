@@ -7,6 +7,7 @@ use backup_files::BackupFault;
 use desk_store::DeskOpenFault;
 use dlp_replies::ErrorCode;
 use handheld_store::OpenFault;
+use memo_texts::LineFlaw;
 use pdb_files::BadKind;
 use pdb_values::DbName;
 use run_words::{CommandWord, ExportForm, FaultKind};
@@ -66,8 +67,11 @@ pub enum Status {
         index: u64,
         place: u64,
     },
-    /// The first line of the source, from 1 on, that is none of a text of memos.
-    BadText(u64),
+    /// The first line of the source, from 1 on, that is none of a text of memos, and what is wrong with it.
+    BadText {
+        line: u64,
+        flaw: LineFlaw,
+    },
     /// The source has more of these than a database holds.
     Overfull(Surplus),
     /// The app block of the database of this name is not one of categories.
@@ -244,7 +248,7 @@ impl Status {
             | Status::BadFile { .. }
             | Status::CannotExport { .. }
             | Status::BadRecord { .. }
-            | Status::BadText(_)
+            | Status::BadText { .. }
             | Status::Overfull(_)
             | Status::BadCategories(_)
             | Status::BadTrace(_)

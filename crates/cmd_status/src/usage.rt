@@ -21,7 +21,7 @@ pub fn synopsis(command: CommandWord) -> &'static str
         CommandWord::Check => "hotsync check FILE",
         CommandWord::Show => "hotsync show FILE [--records]",
         CommandWord::Export => {
-            "hotsync export FILE --as=FORM [--date=D] [--without-private] [--keep-broken]"
+            "hotsync export FILE --as=FORM [--date=D] [--without-private] [--keep-broken] [--raw]"
         }
         CommandWord::Import => "hotsync import FILE --as=txt [--like=FILE]",
         CommandWord::Verify => "hotsync verify FILE",

@@ -79,7 +79,7 @@ are_end_parts-same x y same = (λ i.
     && nat_eq (length (same.message_is i)) (same.sender_is i).length)
 
 are_talk_parts-same : (x y : TalkParts) → SameTalkParts x y → are_talk_parts y ≡ are_talk_parts x
-are_talk_parts-same x y same = (λ i. are_end_parts-same x.end y.end same.end_is i && nat_lt (same.number_is i) 254)
+are_talk_parts-same x y same = (λ i. are_end_parts-same x.end y.end same.end_is i && nat_lt (same.number_is i) 253)
 
 -- ---- the same bytes are the same handheld
 

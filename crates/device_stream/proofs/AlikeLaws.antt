@@ -47,17 +47,17 @@ Alike-through x y z first next = record {
 
 -- ---- transactions
 
-session_id-next : (number : ℕ) → session_id (number + 1) ≡ number % 254 + 1
+session_id-next : (number : ℕ) → session_id (number + 1) ≡ number % 253 + 1
 session_id-next number = let e : number + 1 ≡ suc number = omega arith in ap session_id e
 
-same_round : (n m : ℕ) → session_id (n + 1) ≡ session_id (m + 1) → n % 254 ≡ m % 254
+same_round : (n m : ℕ) → session_id (n + 1) ≡ session_id (m + 1) → n % 253 ≡ m % 253
 same_round n m same = omega (arith, sym (session_id-next n) ∙ same ∙ session_id-next m)
 
 -- where one request has the same transaction, so has the one behind it
 session_id-more : (n m : ℕ) → session_id (n + 1) ≡ session_id (m + 1) → session_id (n + 1 + 1) ≡ session_id (m + 1 + 1)
 session_id-more n m same =
-    let round : n % 254 ≡ m % 254 = same_round n m same in
-    let more : (n + 1) % 254 ≡ (m + 1) % 254 = omega arith in
+    let round : n % 253 ≡ m % 253 = same_round n m same in
+    let more : (n + 1) % 253 ≡ (m + 1) % 253 = omega arith in
     session_id-next (n + 1) ∙ ap (λ (r : ℕ). r + 1) more ∙ sym (session_id-next (m + 1))
 
 -- so the reply to it is the same
@@ -208,8 +208,8 @@ Talks-again first apart made new packets later said more talks alike rest =
 pub hand_of-same : (device other : Device) (x y : TalkParts) → are_talk_parts x ≡ true → are_talk_parts y ≡ true
     → Alike (hand_of device x) (hand_of other y) → SameTalkParts x y
 hand_of-same device other x y x_are y_are alike =
-    let x_parts = and_parts (are_end_parts x.end) (nat_lt x.number 254) x_are in
-    let y_parts = and_parts (are_end_parts y.end) (nat_lt y.number 254) y_are in
+    let x_parts = and_parts (are_end_parts x.end) (nat_lt x.number 253) x_are in
+    let y_parts = and_parts (are_end_parts y.end) (nat_lt y.number 253) y_are in
     let x_few = ltb-true _ _ x_parts.1 in
     let y_few = ltb-true _ _ y_parts.1 in
     let round = same_round (length (hand_of other y).performed) (length (hand_of device x).performed) alike.next_is in

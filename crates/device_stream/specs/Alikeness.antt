@@ -7,7 +7,7 @@ use Rattle.device_stream.specs.Hands.{Hand}
 use Rattle.device_stream.specs.Talks.{Takes, Talks}
 
 -- Two hands are alike but for the texts of what they performed and replied: the next request has
--- the same transaction for both, so their numbers of requests differ by whole rounds of 254.
+-- the same transaction for both, so their numbers of requests differ by whole rounds of 253.
 pub record Alike (x y : Hand) : Type 0 where
   pub device_is : y.device ≡ x.device
   pub end_is : y.end ≡ x.end

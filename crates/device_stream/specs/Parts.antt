@@ -22,7 +22,7 @@ hand_of device parts = record {
 -- open under one, its functions answer as if that were closed, and where the record index is behind
 -- the last record, there is no next one.
 abbrev pub are_talk_parts : TalkParts → Bool
-are_talk_parts parts = are_end_parts parts.end && nat_lt parts.number 254
+are_talk_parts parts = are_end_parts parts.end && nat_lt parts.number 253
 
 -- the parts of two talks are the same
 pub record SameTalkParts (x y : TalkParts) : Type 0 where

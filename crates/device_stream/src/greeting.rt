@@ -48,6 +48,6 @@ pub(crate) fn session_id(number: usize) -> u8
     if number == 0 {
         255
     } else {
-        ((number - 1) % 254) as u8 + 1
+        ((number - 1) % 253) as u8 + 1
     }
 }

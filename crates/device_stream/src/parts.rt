@@ -9,7 +9,7 @@ use palm_device::Handles;
 use std::alloc::Global;
 
 /// How many transactions the requests of a talk have: they come round.
-pub(crate) const TRANSACTIONS: u8 = 254;
+pub(crate) const TRANSACTIONS: u8 = 253;
 
 /// What a talk holds beside its folder. Of what was performed it has the number alone, as far as it tells transactions.
 #[derive(Drop)]
@@ -18,7 +18,7 @@ pub struct TalkParts {
     pub end: EndParts,
     /// The handles of open databases.
     pub handles: Handles,
-    /// How many requests were performed, less all whole rounds of 254.
+    /// How many requests were performed, less all whole rounds of 253.
     pub number: u8,
     /// Whether the init came.
     pub greeted: bool,

@@ -24,6 +24,7 @@ use Rattle.table_export.specs.Exports as table
 use Rattle.table_export.specs.Tables.{table_text}
 use Rattle.table_export.specs.declared.kind.Kind.{Kind as TableKind}
 use Rattle.table_export.specs.declared.kind.Kind.TheVariants as rows
+use Rattle.table_export.specs.declared.kind.Marks.TheVariants as marks
 use Rattle.hotsync_c.specs.declared.export.ExportForm.{ExportForm}
 use Rattle.hotsync_c.specs.declared.export.ExportForm.TheVariants.{Text, Cards, Table, Calendar}
 use Rattle.hotsync_c.specs.declared.export.ExportWishes.{ExportWishes}
@@ -92,7 +93,7 @@ abbrev pub rows_export : TableKind → ExportWishes → DatabaseValue → Result
 rows_export kind wishes database =
     if_held (table.is_of_kind kind database.head)
     (unless_bad wishes.broken (table.first_bad_item kind wishes.privacy database)
-    (table_text (table.exported_rows kind wishes.privacy database)))
+    (table_text marks.Absent (table.exported_rows kind wishes.privacy database)))
 
 -- its addresses, if it holds any, else its tasks
 abbrev pub table_export : ExportWishes → DatabaseValue → Result (List ℕ) Refusal

@@ -10,7 +10,7 @@ use Rattle.hotsync_c.specs.declared.refusal.Refusal.TheVariants.{Memory, BadLine
 
 -- the refusal of a text; a line behind line 4,294,967,295 is told as that one
 abbrev pub import_refusal : ImportFault → Refusal
-import_refusal (BadText line) = BadLine (min line 4294967295)
+import_refusal (BadText line _) = BadLine (min line 4294967295)
 import_refusal TooManyCategories = Labels
 import_refusal TooManyRecords = Memos
 import_refusal NoMemory = Memory

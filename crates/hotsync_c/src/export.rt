@@ -17,7 +17,7 @@ use memo_texts::memos_text;
 use palm_records::{BrokenRecords, ExportFault, Privacy};
 use pdb_values::{Database, PalmDate};
 use std::alloc::Global;
-use table_export::{addresses_table, tasks_table};
+use table_export::{Marks, addresses_table, tasks_table};
 
 /// A record that is out of its form.
 #[repr(C)]
@@ -236,7 +236,7 @@ fn address_rows(
     ensures kind { IsErrOf result ExportFault.CannotExport
         ↔ (table.is_of_kind rows.Addresses database.now.head ≡ false) }
 {
-    addresses_table(alloc, database, wishes.privacy, wishes.broken)
+    addresses_table(alloc, database, Marks::Absent, wishes.privacy, wishes.broken)
 }
 
 // Its tasks, likewise.
@@ -249,7 +249,7 @@ fn task_rows(
         ≡ OkValue (string_bytes text)) }
     ensures refused { IfErr result (SaysFault (rows_export rows.Tasks wishes.now database.now)) }
 {
-    tasks_table(alloc, database, wishes.privacy, wishes.broken)
+    tasks_table(alloc, database, Marks::Absent, wishes.privacy, wishes.broken)
 }
 
 // Its addresses or its tasks.

@@ -43,7 +43,7 @@ fn import_refusal(fault: ImportFault) -> Refusal
     ensures { result ≡ import_refusal fault }
 {
     match fault {
-        ImportFault::BadText(line) => Refusal::BadLine(line.min(LAST_LINE) as u32),
+        ImportFault::BadText(line, _) => Refusal::BadLine(line.min(LAST_LINE) as u32),
         ImportFault::TooManyCategories => Refusal::Labels,
         ImportFault::TooManyRecords => Refusal::Memos,
         ImportFault::NoMemory => Refusal::Memory,

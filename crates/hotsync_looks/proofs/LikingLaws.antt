@@ -42,7 +42,7 @@ refused_status path source like refusal status (inl same) refuses = subst (Refus
 refused_status path source like refusal status (inr none) refuses = inl none
 
 misfit_not_done : (fault : ImportFault) → SaysMisfit fault Done → ⊥
-misfit_not_done (imports.BadText line) says = says
+misfit_not_done (imports.BadText line flaw) says = says
 misfit_not_done imports.TooManyCategories says = says
 misfit_not_done imports.TooManyRecords says = says
 misfit_not_done imports.NoMemory says = says

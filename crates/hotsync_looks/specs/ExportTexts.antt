@@ -20,6 +20,8 @@ use Rattle.table_export.specs.Exports as table
 use Rattle.table_export.specs.Tables.{table_text}
 use Rattle.table_export.specs.declared.kind.Kind.{Kind as TableKind}
 use Rattle.table_export.specs.declared.kind.Kind.TheVariants as rows
+use Rattle.table_export.specs.declared.kind.Marks.{Marks}
+use Rattle.table_export.specs.declared.kind.Marks.TheVariants.{Absent as Unmarked, Formulas}
 use Rattle.run_words.specs.declared.look.Export.{Export}
 use Rattle.run_words.specs.declared.look.ExportForm.{ExportForm}
 use Rattle.run_words.specs.declared.look.ExportForm.TheVariants.{Text, Cards, Table, Calendar}
@@ -31,6 +33,10 @@ privacy_of export = if export.without_private then WithoutPrivate else All
 -- what becomes of those that are out of their form
 abbrev pub broken_of : Export → BrokenRecords
 broken_of export = if export.keep_broken then Kept else Refused
+
+-- which fields of a table have marks: those that a spreadsheet takes for formulas, or none
+abbrev pub marks_of : Export → Marks
+marks_of export = if export.raw then Unmarked else Formulas
 
 -- why a database has no text in a form: it holds nothing of the form, or its first record that is
 -- out of its own form
@@ -67,7 +73,7 @@ abbrev pub rows_export : TableKind → Export → DatabaseValue → Result (List
 rows_export kind export database =
     if_held (table.is_of_kind kind database.head)
     (unless_bad (broken_of export) (table.first_bad_item kind (privacy_of export) database)
-    (table_text (table.exported_rows kind (privacy_of export) database)))
+    (table_text (marks_of export) (table.exported_rows kind (privacy_of export) database)))
 
 -- its addresses, if it holds any, else its tasks
 abbrev pub table_export : Export → DatabaseValue → Result (List ℕ) NoText

@@ -9,7 +9,7 @@ use Rattle.cmd_status.specs.Commands.{commands, summary}
 use Rattle.cmd_status.specs.Lines.{line_feed}
 use Rattle.cmd_status.specs.Usages.{synopsis}
 use Rattle.hotsync_looks.specs.declared.help_text.OptionLine.{OptionLine}
-use Rattle.hotsync_looks.specs.declared.help_text.OptionLine.TheVariants.{Date, DateNow, Script, Trace, Input, Output, Port, Slow, Actions, ActionsBoth, Only, User, AddUser, DryRun, AsText, AsCards, AsTable, AsCalendar, WithoutPrivate, KeepBroken, Records, Like}
+use Rattle.hotsync_looks.specs.declared.help_text.OptionLine.TheVariants.{Date, DateNow, Script, Trace, Input, Output, Port, Slow, Actions, ActionsBoth, Only, User, AddUser, DryRun, AsText, AsCards, AsTable, AsCalendar, WithoutPrivate, KeepBroken, Raw, Records, Like}
 
 -- the options of a command
 abbrev pub options : CommandWord → List OptionLine
@@ -18,7 +18,8 @@ options Run =
     ∷ AddUser ∷ DryRun ∷ []
 options Check = []
 options Show = Records ∷ []
-options Export = AsText ∷ AsCards ∷ AsTable ∷ AsCalendar ∷ WithoutPrivate ∷ KeepBroken ∷ []
+options Export =
+    AsText ∷ AsCards ∷ AsTable ∷ AsCalendar ∷ WithoutPrivate ∷ KeepBroken ∷ Raw ∷ []
 options Import = AsText ∷ Like ∷ []
 options Verify = []
 options Picture = []
@@ -67,6 +68,7 @@ option_words AsCalendar = codes "--as=ics --date=D  tasks or dates as an iCalend
 option_words WithoutPrivate = codes "--without-private  without the records that are private"
 option_words KeepBroken =
     codes "--keep-broken      a record that is out of its form stands in the text with its bytes"
+option_words Raw = codes "--raw              the fields of a table as they are, formulas too"
 option_words Records = codes "--records          the bytes of each entry as text, behind its line"
 option_words Like = codes "--like=FILE        the categories of the database in FILE"
 

@@ -182,7 +182,7 @@ IsCauseOf Picture bytes cause = IsReadingCause bytes cause
 
 -- a status that says why a text of memos makes no database
 abbrev pub SaysMisfit : ImportFault → Status → Type 0
-SaysMisfit (imports.BadText line) (BadText found) = found ≡ line
+SaysMisfit (imports.BadText line flaw) (BadText found told) = (found ≡ line) × (told ≡ flaw)
 SaysMisfit imports.TooManyCategories (Overfull what) = what ≡ Categories
 SaysMisfit imports.TooManyRecords (Overfull what) = what ≡ TooManyOf
 SaysMisfit _ _ = ⊥

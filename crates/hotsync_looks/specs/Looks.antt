@@ -46,7 +46,7 @@ abbrev pub IsLookRefusal : Status → Type 0
 IsLookRefusal (BadFile _ _ _ _) = ⊤
 IsLookRefusal (CannotExport _ _) = ⊤
 IsLookRefusal (BadRecord _ _) = ⊤
-IsLookRefusal (BadText _) = ⊤
+IsLookRefusal (BadText _ _) = ⊤
 IsLookRefusal (Overfull _) = ⊤
 IsLookRefusal (BadTrace _) = ⊤
 IsLookRefusal (NotProper _) = ⊤

@@ -14,7 +14,7 @@ use palm_records::{BrokenRecords, ExportFault, Privacy};
 use pdb_values::{Database, PalmDate};
 use run_words::{Export, ExportForm};
 use std::alloc::Global;
-use table_export::{addresses_table, tasks_table};
+use table_export::{Marks, addresses_table, tasks_table};
 
 /// The text of a database in the form that is wanted.
 pub fn exported_text(
@@ -59,6 +59,17 @@ fn broken_of(export: Export) -> BrokenRecords
     }
 }
 
+// Which fields of a table have marks.
+fn marks_of(export: Export) -> Marks
+    ensures { result ≡ texts.marks_of export }
+{
+    if export.raw {
+        Marks::Absent
+    } else {
+        Marks::Formulas
+    }
+}
+
 // Its memos, as plain text.
 fn plain_text(alloc: Global, export: Export, database: &Database) -> Result<String, ExportFault>
     ensures text { IfOk result (λ text. memos_export export database.now
@@ -86,7 +97,8 @@ fn address_rows(alloc: Global, export: Export, database: &Database) -> Result<St
     ensures kind { IsErrOf result ExportFault.CannotExport
         ↔ (table.is_of_kind rows.Addresses database.now.head ≡ false) }
 {
-    addresses_table(alloc, database, privacy_of(export), broken_of(export))
+    let marks = marks_of(export);
+    addresses_table(alloc, database, marks, privacy_of(export), broken_of(export))
 }
 
 // Its tasks, likewise.
@@ -95,7 +107,8 @@ fn task_rows(alloc: Global, export: Export, database: &Database) -> Result<Strin
         ≡ OkValue (string_bytes text)) }
     ensures refused { IfErr result (SaysNoText (rows_export rows.Tasks export database.now)) }
 {
-    tasks_table(alloc, database, privacy_of(export), broken_of(export))
+    let marks = marks_of(export);
+    tasks_table(alloc, database, marks, privacy_of(export), broken_of(export))
 }
 
 // Its addresses or its tasks.

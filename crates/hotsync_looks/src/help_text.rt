@@ -53,6 +53,8 @@ pub enum OptionLine {
     WithoutPrivate,
     /// `--keep-broken`.
     KeepBroken,
+    /// `--raw`.
+    Raw,
     /// `--records`.
     Records,
     /// `--like=FILE`.
@@ -87,6 +89,7 @@ fn options(command: CommandWord) -> &'static [OptionLine]
             OptionLine::AsCalendar,
             OptionLine::WithoutPrivate,
             OptionLine::KeepBroken,
+            OptionLine::Raw,
         ],
         CommandWord::Import => &[OptionLine::AsText, OptionLine::Like],
         CommandWord::Verify => &[],
@@ -161,6 +164,7 @@ fn option_words(option: OptionLine) -> &'static str
         OptionLine::KeepBroken => {
             "--keep-broken      a record that is out of its form stands in the text with its bytes"
         }
+        OptionLine::Raw => "--raw              the fields of a table as they are, formulas too",
         OptionLine::Records => {
             "--records          the bytes of each entry as text, behind its line"
         }

@@ -34,7 +34,10 @@ fn import_status(fault: ImportFault) -> Status
     ensures { SaysMisfit fault result ⊎ ((fault ≡ ImportFault.NoMemory) × (result ≡ Status.NoMemory)) }
 {
     match fault {
-        ImportFault::BadText(line) => Status::BadText(line as u64),
+        ImportFault::BadText(line, flaw) => Status::BadText {
+            line: line as u64,
+            flaw,
+        },
         ImportFault::TooManyCategories => Status::Overfull(Surplus::Categories),
         ImportFault::TooManyRecords => Status::Overfull(Surplus::Records),
         ImportFault::NoMemory => Status::NoMemory,

@@ -8,6 +8,7 @@ ghost use Rattle.trace_text.specs.PacketLists.{ShowsPackets};
 
 use cmd_status::{Status, print_no_memory, print_text};
 use hs_folders::Sink;
+use run_words::hex_digits;
 use std::alloc::{AllocError, Global};
 use trace_text::show_packets;
 
@@ -28,7 +29,8 @@ pub fn print_packets<O: Sink, E: Sink>(alloc: Global, hex: &str, out: &mut O, er
 fn packets_text(alloc: Global, hex: &str) -> Result<String, AllocError>
     ensures { IfOk result (λ text. ShowsPackets (scan (bytes_of hex.now)) (string_bytes text)) }
 {
-    let Ok(bytes) = hex::decode(alloc, hex) else {
+    let digits = hex_digits(alloc, hex)?;
+    let Ok(bytes) = hex::decode(alloc, digits) else {
         return Err(AllocError);
     };
     let text = show_packets(alloc, &bytes)?;

@@ -79,5 +79,5 @@ pub fn answer(line: &mut Line, script: &Script, requests: usize, reply: &[u8]) -
 fn transaction(requests: usize) -> u8
     ensures { result ≡ session_id (requests + 1) }
 {
-    (requests % 254) as u8 + 1
+    (requests % 253) as u8 + 1
 }

@@ -4,7 +4,7 @@
 //! damaged, or comes behind noise; or it ends the run. `hear` is what an end makes of the bytes that arrive.
 //!
 //! Over these steps the messages of a session go: the two ends greet each other, and then requests and replies go over in
-//! turn. The wake and the init have transaction 255. Request number k and its reply have the one after (k - 1) modulo 254,
+//! turn. The wake and the init have transaction 255. Request number k and its reply have the one after (k - 1) modulo 253,
 //! so that neighbouring messages of an end have different ones.
 #![tactic(auto)]
 

@@ -12,7 +12,7 @@ use Rattle.palm_records.specs.Strings.{first_zero}
 use Rattle.memo_texts.specs.ExportHeads.{head_line}
 use Rattle.memo_texts.specs.Memos.{IsBytes, MemoValue, memo_lines, memos_text}
 use Rattle.memo_texts.specs.KeptMemos.{IsKept}
-use Rattle.memo_texts.specs.Lines.{lines_in}
+use Rattle.memo_texts.specs.Lines.{lines_in, without_mark}
 use Rattle.memo_texts.specs.Readings.{ReadingValue, memos_from, memos_in, memos_of}
 use Rattle.memo_texts.proofs.HeadReadLaws.{read_head}
 use Rattle.memo_texts.proofs.LineLaws.{lines_in-nil}
@@ -110,5 +110,12 @@ read_memos number reading (memo ∷ memos) all =
     ap (λ l. memos_from number reading (lines_in l)) (append_assoc (head_line memo.id memo.secret memo.label) (memo_lines memo.text) rest)
     ∙ (head ∙ (lines.1 ∙ (behind ∙ ap (λ l. Ok (l ++ memos)) (memos_of-memo done memo) ∙ ap Ok (append_assoc done (memo ∷ []) memos))))
 
+-- a text of memos begins with a dash, and so with no mark
+without_mark-memos_text : (memos : List MemoValue) → without_mark (memos_text memos) ≡ memos_text memos
+without_mark-memos_text [] = refl
+without_mark-memos_text (memo ∷ memos) = refl
+
 pub memos_in-memos_text : (memos : List MemoValue) → All IsKept memos → memos_in (memos_text memos) ≡ Ok memos
-memos_in-memos_text memos all = read_memos 1 (record { done = []; last = None }) memos all
+memos_in-memos_text memos all =
+    ap (λ t. memos_from 1 (record { done = []; last = None }) (lines_in t)) (without_mark-memos_text memos)
+    ∙ read_memos 1 (record { done = []; last = None }) memos all

@@ -1,14 +1,19 @@
 -- The byte of a character is found.
 use Rattle.std.proofs.lemmas.Bool.{eqb-true, cases_eq}
 use Rattle.std.proofs.lemmas.Bool.Decides.{nat_tests}
-use Rattle.std.proofs.Common.{arith, ◌≡◌, ◌<◌, ◌≤◌, ◌++◌, ◌∷◌, [], ◌∙◌, ◌==◌, ◌⊎◌, inl, inr, ap, refl, sym, subst, ℕ, zero, suc, Bool, true, false, List, cond, append_assoc, append-nil, length, IsUtf8, Option, None, Some}
-use Rattle.std.proofs.lemmas.Str.{IsUtf8-from_is_utf8, chars-nil, is_utf8-from_IsUtf8}
+use Rattle.std.proofs.Math.Seq.{take-length}
+use Rattle.std.proofs.Common.{arith, ◌≡◌, ◌<◌, ◌≤◌, ◌++◌, ◌∷◌, [], ◌∙◌, ◌==◌, ◌+◌, ◌⊎◌, inl, inr, ap, refl, sym, subst, ℕ, zero, suc, Bool, true, false, List, cond, append_assoc, append-nil, length, take, IsUtf8, Option, None, Some}
+use Rattle.std.proofs.lemmas.List.{length-append}
+use Rattle.std.proofs.lemmas.Str.{IsUtf8-from_is_utf8, chars-nil, is_utf8-from_IsUtf8, utf8_valid_len-IsUtf8}
 use Rattle.std.specs.Prelude.{chars}
-use Rattle.std.specs.Option.{option_map}
+use Rattle.std.specs.Option.{is_none, option_map}
 use Rattle.std.specs.Str.{is_utf8}
 use Rattle.palm_records.specs.Characters.{char_of}
 use Rattle.palm_records.proofs.CharacterLaws.{char_of_injective}
+use Rattle.memo_texts.specs.declared.fault.Flaw.TheVariants.{NoByte, NotUtf8}
+use Rattle.memo_texts.specs.declared.fault.LineFlaw.{LineFlaw}
 use Rattle.memo_texts.specs.Characters.{byte_below, byte_of, bytes_of, line_bytes, with_first}
+use Rattle.memo_texts.specs.Flaws.{character_flaw, flaw_at, flaw_from}
 
 -- the byte at the top, or one below it
 found_step : (t : Bool) (n b : ℕ) → (char_of n == char_of b) ≡ t → n < 256 → b < suc n → (b < n → byte_below n (char_of b) ≡ Some b)
@@ -91,3 +96,33 @@ line_bytes-bad line none = by_utf8 (is_utf8 line) line refl none
 
 pub line_bytes-good : (line : List ℕ) → IsUtf8 line → line_bytes line ≡ bytes_of (chars line)
 line_bytes-good line good = rw (is_utf8-from_IsUtf8 line good) refl
+
+-- ---- the first character that has no byte
+
+flaw_from-cons : (column c : ℕ) (cs : List ℕ) → flaw_from column (c ∷ cs) ≡ cond (is_none (byte_of c)) (flaw_at column (NoByte c)) (flaw_from (suc column) cs)
+unfolding flaw_from
+flaw_from-cons column c cs = refl
+
+-- one more character has a byte
+pub flaw_more : (front longer cs before : List ℕ) (all : LineFlaw) (c byte : ℕ) → before ≡ c ∷ cs → byte_of c ≡ Some byte → longer ≡ front ++ byte ∷ []
+    → flaw_from (length front + 1) before ≡ all → flaw_from (length longer + 1) cs ≡ all
+flaw_more front longer cs before all c byte split is grown held =
+    let size : length longer + 1 ≡ suc (length front + 1) = omega (arith, ap length grown, length-append front (byte ∷ [])) in
+    let one : flaw_from (length front + 1) before ≡ flaw_from (suc (length front + 1)) cs =
+    ap (flaw_from (length front + 1)) split ∙ (flaw_from-cons (length front + 1) c cs ∙ rw is refl) in
+    ap (λ n. flaw_from n cs) size ∙ (sym one ∙ held)
+
+-- one more has none
+pub flaw_bad : (column c : ℕ) (cs before : List ℕ) (all : LineFlaw) → before ≡ c ∷ cs → byte_of c ≡ None → flaw_from column before ≡ all
+    → all ≡ flaw_at column (NoByte c)
+flaw_bad column c cs before all split is held = sym held ∙ (ap (flaw_from column) split ∙ (flaw_from-cons column c cs ∙ rw is refl))
+
+-- no character is left
+pub flaw_end : (column : ℕ) (rest : List ℕ) (all : LineFlaw) → length rest ≡ 0 → flaw_from column (chars rest) ≡ all → all ≡ flaw_at column NotUtf8
+unfolding flaw_from
+flaw_end column [] all none held = sym held ∙ ap (flaw_from column) chars-nil
+flaw_end column (byte ∷ rest) all none held = absurd (omega (arith, none))
+
+-- a line in UTF-8 is all of it
+pub character_flaw-good : (line : List ℕ) → IsUtf8 line → character_flaw line ≡ flaw_from 1 (chars line)
+character_flaw-good line good = ap (λ l. flaw_from 1 (chars l)) (ap (λ n. take n line) (utf8_valid_len-IsUtf8 line good) ∙ take-length line)

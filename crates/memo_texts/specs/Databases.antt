@@ -10,7 +10,7 @@ use Rattle.pdb_values.specs.Databases.{DatabaseValue}
 use Rattle.memo_texts.specs.Memos.{MemoValue}
 use Rattle.memo_texts.specs.Readings.{memos_in}
 use Rattle.memo_texts.specs.declared.fault.ImportFault.{ImportFault}
-use Rattle.memo_texts.specs.declared.fault.ImportFault.TheVariants.{BadText, TooManyCategories, TooManyRecords}
+use Rattle.memo_texts.specs.declared.fault.ImportFault.TheVariants.{TooManyCategories, TooManyRecords}
 
 -- the head of a memo database: it is to be backed up (attribute 0x0008)
 abbrev pub memo_head : DbHead
@@ -98,10 +98,11 @@ database_of memos =
     else if nat_lt 65535 (length memos) then Err TooManyRecords
     else Ok (memo_database (labels_of memos) memos)
 
--- the database of the memos, or the fault of the line that is out of its form
-abbrev pub database_or_fault : Result (List MemoValue) ℕ → Result DatabaseValue ImportFault
+-- the database of the memos, or the line that is out of its form
+abbrev pub database_or_fault : Result (List MemoValue) ImportFault
+    → Result DatabaseValue ImportFault
 database_or_fault (Ok memos) = database_of memos
-database_or_fault (Err line) = Err (BadText line)
+database_or_fault (Err fault) = Err fault
 
 -- the database of a text
 abbrev pub import_in : List ℕ → Result DatabaseValue ImportFault

@@ -3,6 +3,7 @@ pub mod Databases
 pub mod ExportHeads
 pub mod Exports
 pub mod Faults
+pub mod Flaws
 pub mod Heads
 pub mod KeptMemos
 pub mod Lines

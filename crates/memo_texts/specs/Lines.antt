@@ -1,6 +1,11 @@
 -- The lines of a text.
-use Rattle.std.specs.Prelude.{ℕ, ◌-◌, ◌==◌, List, [], ◌∷◌, length, slice_index, take, if◌then◌else◌}
-use Rattle.std.specs.List.{onto_first}
+use Rattle.std.specs.Prelude.{ℕ, ◌-◌, ◌==◌, List, [], ◌∷◌, drop, length, nat_eq, slice_index, take, if◌then◌else◌}
+use Rattle.std.specs.List.{onto_first, starts_with}
+
+-- a byte order mark in front of a text is none of its characters
+abbrev pub without_mark : List ℕ → List ℕ
+without_mark text =
+    if starts_with nat_eq text (0xEF ∷ 0xBB ∷ 0xBF ∷ []) then drop 3 text else text
 
 -- the lines of a text: each ends at a line feed, and a last line without one counts
 unfoldable pub lines_in : List ℕ → List (List ℕ)

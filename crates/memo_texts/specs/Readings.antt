@@ -3,9 +3,12 @@ use Rattle.std.specs.Prelude.{ℕ, suc, ◌-◌, List, [], ◌∷◌, ◌++◌, 
 use Rattle.std.specs.Option.{option_and_then, option_map, option_to_list}
 use Rattle.memo_texts.specs.ExportHeads.{begins_with}
 use Rattle.memo_texts.specs.Memos.{MemoValue}
+use Rattle.memo_texts.specs.declared.fault.ImportFault.{ImportFault}
+use Rattle.memo_texts.specs.declared.fault.ImportFault.TheVariants.{BadText}
 use Rattle.memo_texts.specs.Characters.{line_bytes}
+use Rattle.memo_texts.specs.Flaws.{line_flaw}
 use Rattle.memo_texts.specs.Heads.{head_of, is_head}
-use Rattle.memo_texts.specs.Lines.{lines_in, without_return}
+use Rattle.memo_texts.specs.Lines.{lines_in, without_mark, without_return}
 
 -- what was read so far: the memos that have all their lines, and the last one, each line of which a
 -- line feed ends
@@ -52,19 +55,21 @@ with_bytes reading bytes =
 unfoldable pub with_line : ReadingValue → List ℕ → Option ReadingValue
 with_line reading line = option_and_then (with_bytes reading) (line_bytes (without_return line))
 
--- the memos that follow, or the number of the line that is out of its form
-abbrev pub memos_behind : Option ReadingValue → (ReadingValue → Result (List MemoValue) ℕ) → ℕ
-    → Result (List MemoValue) ℕ
-memos_behind None behind number = Err number
-memos_behind (Some reading) behind number = behind reading
+-- the memos that follow, or the fault of a line of which nothing is read
+abbrev pub memos_behind : Option ReadingValue
+    → (ReadingValue → Result (List MemoValue) ImportFault) → ImportFault
+    → Result (List MemoValue) ImportFault
+memos_behind None behind fault = Err fault
+memos_behind (Some reading) behind fault = behind reading
 
--- the memos of what was read and these lines, or the number of the first line that is out of its
--- form; lines are counted on from a number
-unfoldable pub memos_from : ℕ → ReadingValue → List (List ℕ) → Result (List MemoValue) ℕ
+-- the memos of what was read and these lines, or the first line that is out of its form, with its
+-- number and its flaw; lines are counted on from a number
+unfoldable pub memos_from : ℕ → ReadingValue → List (List ℕ) → Result (List MemoValue) ImportFault
 memos_from number reading [] = Ok (memos_of reading)
 memos_from number reading (line ∷ lines) =
-    memos_behind (with_line reading line) (λ now. memos_from (suc number) now lines) number
+    memos_behind (with_line reading line) (λ now. memos_from (suc number) now lines)
+    (BadText number (line_flaw reading.last line))
 
--- the memos of a text, or the number of its first line, from 1, that is out of its form
-abbrev pub memos_in : List ℕ → Result (List MemoValue) ℕ
-memos_in text = memos_from 1 (record { done = []; last = None }) (lines_in text)
+-- the memos of a text, or its first line, from 1, that is out of its form, with its flaw
+abbrev pub memos_in : List ℕ → Result (List MemoValue) ImportFault
+memos_in text = memos_from 1 (record { done = []; last = None }) (lines_in (without_mark text))

@@ -1,8 +1,10 @@
 // Bytes of characters.
-ghost use Rattle.std.specs.Prelude.{◌≡◌, MatchResult, None, Some, chars};
+ghost use Rattle.std.specs.Prelude.{◌≡◌, ◌≢◌, ◌+◌, IfOk, IsUtf8, MatchResult, None, Some, chars, length};
 ghost use Rattle.memo_texts.specs.Characters.{byte_below, byte_of, bytes_of, line_bytes};
+ghost use Rattle.memo_texts.specs.Faults.{IsUnread};
+ghost use Rattle.memo_texts.specs.Flaws.{character_flaw, flaw_at, flaw_from};
 
-use crate::fault::LineFault;
+use crate::fault::{Flaw, LineFault, LineFlaw};
 use palm_records::char_of;
 use std::alloc::Global;
 use std::str;
@@ -13,24 +15,49 @@ const LATIN: u8 = 0xA0;
 /// The bytes of a line in UTF-8.
 pub fn line_bytes(alloc: Global, line: &[u8]) -> Result<Vec<u8>, LineFault>
     ensures { MatchResult result (λ bytes. line_bytes line.now ≡ Some bytes.items)
-        (λ fault. fault ≡ LineFault.BadForm → line_bytes line.now ≡ None) }
+        (λ fault. IsUnread fault (line_bytes line.now) (character_flaw line.now)) }
 {
     match str::from_utf8(line) {
         Ok(text) => text_bytes(alloc, text),
-        Err(_) => Err(LineFault::BadForm),
+        Err(end) => Err(fault_behind(alloc, &line[..end.valid_up_to()])),
+    }
+}
+
+// The fault of a line of which these bytes are UTF-8, and no more.
+fn fault_behind(alloc: Global, front: &[u8]) -> LineFault
+    requires { IsUtf8 front.now }
+    ensures { result ≢ LineFault.NoMemory
+        → result ≡ LineFault.BadForm (flaw_from 1 (chars front.now)) }
+{
+    let Ok(text) = str::from_utf8(front) else {
+        unreachable!()
+    };
+    match text_bytes(alloc, text) {
+        Ok(bytes) => LineFault::BadForm(LineFlaw {
+            column: bytes.len() + 1,
+            flaw: Flaw::NotUtf8,
+        }),
+        Err(fault) => fault,
     }
 }
 
 // The bytes of the characters of a text.
 fn text_bytes(alloc: Global, text: &str) -> Result<Vec<u8>, LineFault>
-    ensures { MatchResult result (λ bytes. bytes_of (chars text.now) ≡ Some bytes.items)
-        (λ fault. fault ≡ LineFault.BadForm → bytes_of (chars text.now) ≡ None) }
+    ensures bytes { MatchResult result (λ bytes. bytes_of (chars text.now) ≡ Some bytes.items)
+        (λ fault. IsUnread fault (bytes_of (chars text.now)) (flaw_from 1 (chars text.now))) }
+    ensures end { IfOk result (λ bytes. flaw_from 1 (chars text.now)
+        ≡ flaw_at (length bytes.items + 1) Flaw.NotUtf8) }
 {
     let mut bytes = Vec::new(alloc);
     for ch in text.chars() {
         match byte_of(ch) {
             Some(byte) => bytes.push(byte)?,
-            None => return Err(LineFault::BadForm),
+            None => {
+                return Err(LineFault::BadForm(LineFlaw {
+                    column: bytes.len() + 1,
+                    flaw: Flaw::NoByte(ch),
+                }));
+            }
         }
     }
     Ok(bytes)

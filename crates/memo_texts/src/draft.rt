@@ -1,7 +1,9 @@
 // Memos to which lines may come.
 ghost use Rattle.std.specs.Prelude.{◌≡◌, ◌≤◌, [], IfOk, MatchResult, None, Some, length};
+ghost use Rattle.memo_texts.specs.Faults.{IsUnread};
+ghost use Rattle.memo_texts.specs.Flaws.{flaw_at};
 
-use crate::fault::LineFault;
+use crate::fault::{Flaw, LineFault, LineFlaw};
 use crate::label::Label;
 use crate::memo::Memo;
 use pdb_values::RecordId;
@@ -56,7 +58,7 @@ impl Draft {
     /// The memo with one more line, where there is room for it.
     pub fn longer(self, line: &[u8]) -> Result<Draft, LineFault>
         ensures { MatchResult result (λ draft. longer self line.now ≡ Some draft)
-            (λ fault. fault ≡ LineFault.BadForm → longer self line.now ≡ None) }
+            (λ fault. IsUnread fault (longer self line.now) (flaw_at 1 Flaw.LongMemo)) }
     {
         let Draft {
             id,
@@ -65,7 +67,10 @@ impl Draft {
             mut text,
         } = self;
         if line.len() >= Self::LIMIT - text.len() {
-            return Err(LineFault::BadForm);
+            return Err(LineFault::BadForm(LineFlaw {
+                column: 1,
+                flaw: Flaw::LongMemo,
+            }));
         }
         text.extend_from_slice(line)?;
         text.push(b'\n')?;

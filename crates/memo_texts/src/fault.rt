@@ -9,8 +9,8 @@ use std::alloc::{AllocError, AllocFailed};
 /// Why a text gives no database.
 #[derive(Clone, Copy)]
 pub enum ImportFault {
-    /// The line with this number, from 1, is the first that is out of its form.
-    BadText(usize),
+    /// The line with this number, from 1, is the first that is out of its form, and this is its first flaw.
+    BadText(usize, LineFlaw),
     /// The memos have more than 15 labels.
     TooManyCategories,
     /// There are more than 65,535 memos.
@@ -35,11 +35,35 @@ impl<T: Drop> From<AllocFailed<T>> for ImportFault {
     }
 }
 
+/// What is wrong with a line.
+#[derive(Clone, Copy)]
+pub enum Flaw {
+    /// Its bytes are not UTF-8.
+    NotUtf8,
+    /// A Palm has no byte for this character.
+    NoByte(char),
+    /// It begins as a head line, and goes on as none.
+    BadHead,
+    /// The label of the head has more than 15 bytes.
+    LongLabel,
+    /// No head line stands above it.
+    NoHead,
+    /// With it the memo has more than 65,499 bytes.
+    LongMemo,
+}
+
+/// What is wrong with a line, and the first of its characters, from 1, at which it is.
+#[derive(Clone, Copy)]
+pub struct LineFlaw {
+    pub column: usize,
+    pub flaw: Flaw,
+}
+
 /// Why a line isn't read.
 #[derive(Clone, Copy)]
 pub enum LineFault {
     /// It is out of its form.
-    BadForm,
+    BadForm(LineFlaw),
     /// Memory ran out.
     NoMemory,
 }
@@ -66,7 +90,7 @@ impl LineFault {
         ensures { result ≡ fault_at self line }
     {
         match self {
-            LineFault::BadForm => ImportFault::BadText(line),
+            LineFault::BadForm(flaw) => ImportFault::BadText(line, flaw),
             LineFault::NoMemory => ImportFault::NoMemory,
         }
     }

@@ -1,14 +1,25 @@
 // Head lines.
-ghost use Rattle.std.specs.Prelude.{◌≡◌, ◌≤◌, [], IfSome, MatchOption, None, Some, length};
+ghost use Rattle.std.specs.Prelude.{◌≡◌, ◌<◌, ◌≤◌, [], IfErr, IfOk, MatchOption, MatchResult, None, Some, length};
 ghost use Rattle.std.specs.Option.{option_copied};
 ghost use Rattle.std.specs.Result.{result_ok};
 ghost use Rattle.std.specs.Str.{bytes_eq};
 ghost use Rattle.hex.specs.Hex.{decode_sized, encode_lower};
+ghost use Rattle.memo_texts.specs.Flaws.{flaw_at, flaw_behind, head_flaw, head_rest_flaw};
 ghost use Rattle.memo_texts.specs.Heads.{new_memo, head_of, head_rest, id_of, is_head, marked_label, number_of, tail_of, unmarked_label};
 
+use crate::fault::{Flaw, LineFlaw};
 use crate::label::Label;
 use hex::FromHex;
 use pdb_values::RecordId;
+
+// The columns at which a space, the id and what stands behind the id begin, the latter behind `new` and behind digits.
+const GAP: usize = 4;
+
+const ID: usize = 5;
+
+const BEHIND_NEW: usize = 8;
+
+const BEHIND_ID: usize = 11;
 
 /// What a head says.
 #[derive(Clone, Copy)]
@@ -28,48 +39,72 @@ pub fn is_head(line: &[u8]) -> bool
     line.starts_with(b"---") && !line.starts_with(b"----")
 }
 
-/// What a head says, where it has its form.
-#[tactic(auto, unfolding(crate::specs::Heads::head_of))]
-pub fn head_of(line: &[u8]) -> Option<Head<'_>>
-    ensures head { MatchOption result (head_of line.now ≡ None) (λ head. head_of line.now
-        ≡ Some (record { id = head.id; secret = head.secret; label = head.label.now; text = [] })) }
-    ensures label { IfSome result (λ head. length head.label.now ≤ 15) }
+/// What a head says, where it has its form, or what is wrong with it.
+#[tactic(auto, unfolding(crate::specs::Heads::head_of, crate::specs::Flaws::head_flaw))]
+pub fn head_of(line: &[u8]) -> Result<Head<'_>, LineFlaw>
+    ensures head { MatchResult result (λ head. head_of line.now
+        ≡ Some (record { id = head.id; secret = head.secret; label = head.label.now; text = [] }))
+        (λ _. head_of line.now ≡ None) }
+    ensures flaw { IfErr result (λ flaw. flaw ≡ head_flaw line.now) }
+    ensures label { IfOk result (λ head. length head.label.now ≤ 15) }
 {
     if line.starts_with(b"--- ") {
         head_rest(&line[4..])
     } else {
-        None
+        Err(bad_head(GAP))
     }
 }
 
 // What a head says behind its dashes.
-fn head_rest(rest: &[u8]) -> Option<Head<'_>>
-    ensures head { MatchOption result (head_rest rest.now ≡ None) (λ head. head_rest rest.now
-        ≡ Some (record { id = head.id; secret = head.secret; label = head.label.now; text = [] })) }
-    ensures label { IfSome result (λ head. length head.label.now ≤ 15) }
+fn head_rest(rest: &[u8]) -> Result<Head<'_>, LineFlaw>
+    ensures head { MatchResult result (λ head. head_rest rest.now
+        ≡ Some (record { id = head.id; secret = head.secret; label = head.label.now; text = [] }))
+        (λ _. head_rest rest.now ≡ None) }
+    ensures flaw { IfErr result (λ flaw. flaw ≡ head_rest_flaw rest.now) }
+    ensures label { IfOk result (λ head. length head.label.now ≤ 15) }
 {
     if rest.starts_with(b"new") {
-        return new_memo(RecordId::new(0), &rest[3..]);
+        return new_memo(RecordId::new(0), BEHIND_NEW, &rest[3..]);
     }
     if rest.len() < 6 {
-        return None;
+        return Err(bad_head(ID));
     }
-    new_memo(id_of(&rest[..6]), &rest[6..])
+    new_memo(id_of(&rest[..6]), BEHIND_ID, &rest[6..])
 }
 
-// A head with this id.
-fn new_memo(id: Option<RecordId>, rest: &[u8]) -> Option<Head<'_>>
-    ensures head { MatchOption result (new_memo id (tail_of rest.now) ≡ None)
-        (λ head. new_memo id (tail_of rest.now)
-        ≡ Some (record { id = head.id; secret = head.secret; label = head.label.now; text = [] })) }
-    ensures label { IfSome result (λ head. length head.label.now ≤ 15) }
+// A head with this id, and with these bytes from a column on.
+fn new_memo(id: Option<RecordId>, column: usize, rest: &[u8]) -> Result<Head<'_>, LineFlaw>
+    requires { column < 100 }
+    ensures head { MatchResult result (λ head. new_memo id (tail_of rest.now)
+        ≡ Some (record { id = head.id; secret = head.secret; label = head.label.now; text = [] }))
+        (λ _. new_memo id (tail_of rest.now) ≡ None) }
+    ensures flaw { IfErr result (λ flaw. flaw
+        ≡ flaw_behind column rest.now id (tail_of rest.now)) }
+    ensures label { IfOk result (λ head. length head.label.now ≤ 15) }
 {
-    let id = id?;
-    let (secret, label) = tail_of(rest)?;
+    let Some(id) = id else {
+        return Err(bad_head(ID));
+    };
+    let Some((secret, label)) = tail_of(rest) else {
+        return Err(bad_head(column));
+    };
     if label.len() > Label::LIMIT {
-        return None;
+        return Err(LineFlaw {
+            column: column + rest.len().saturating_sub(label.len()) + Label::LIMIT,
+            flaw: Flaw::LongLabel,
+        });
     }
-    Some(Head { id, secret, label })
+    Ok(Head { id, secret, label })
+}
+
+// What is wrong with a head that goes on as none at a column.
+fn bad_head(column: usize) -> LineFlaw
+    ensures { result ≡ flaw_at column Flaw.BadHead }
+{
+    LineFlaw {
+        column,
+        flaw: Flaw::BadHead,
+    }
 }
 
 // The id in six lower-case hexadecimal digits.

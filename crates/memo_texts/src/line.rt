@@ -1,7 +1,22 @@
 // Lines of a text.
-ghost use Rattle.std.specs.Prelude.{◌≡◌, ◌<◌, ◌∷◌, ◌==◌, length, position};
-ghost use Rattle.memo_texts.specs.Lines.{lines_in, without_return};
+ghost use Rattle.std.specs.Prelude.{◌≡◌, ◌<◌, ◌≤◌, ◌∷◌, ◌==◌, length, position};
+ghost use Rattle.memo_texts.specs.Lines.{lines_in, without_mark, without_return};
 ghost use Rattle.memo_texts.specs.Readings.{line_text};
+
+// The byte order mark, in UTF-8.
+const MARK: [u8; 3] = [0xEF, 0xBB, 0xBF];
+
+/// A text without the byte order mark in front of it.
+pub fn without_mark(text: &[u8]) -> &[u8]
+    ensures text { result.now ≡ without_mark text.now }
+    ensures bound { length result.now ≤ length text.now }
+{
+    if text.starts_with(&MARK) {
+        &text[3..]
+    } else {
+        text
+    }
+}
 
 /// The first line of a text that isn't empty, and what is behind it.
 pub fn split_line(text: &[u8]) -> (&[u8], &[u8])

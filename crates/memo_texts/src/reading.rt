@@ -1,9 +1,11 @@
 // What was read of a text.
 ghost use Rattle.std.specs.Prelude.{◌≡◌, [], IfOk, MatchResult, None, Some};
+ghost use Rattle.memo_texts.specs.Faults.{IsUnread};
+ghost use Rattle.memo_texts.specs.Flaws.{bytes_flaw, line_flaw, text_flaw};
 
 use crate::character::line_bytes;
 use crate::draft::Draft;
-use crate::fault::LineFault;
+use crate::fault::{Flaw, LineFault, LineFlaw};
 use crate::head_line::{head_of, is_head};
 use crate::line::{line_text, without_return};
 use crate::memo::Memo;
@@ -50,10 +52,10 @@ impl Reading {
     }
 
     /// What is read with one more line.
-    #[tactic(auto, unfolding(crate::specs::Readings::with_line))]
+    #[tactic(auto, unfolding(crate::specs::Readings::with_line, crate::specs::Flaws::line_flaw))]
     pub fn with_line(self, alloc: Global, line: &[u8]) -> Result<Reading, LineFault>
         ensures { MatchResult result (λ reading. with_line self line.now ≡ Some reading)
-            (λ fault. fault ≡ LineFault.BadForm → with_line self line.now ≡ None) }
+            (λ fault. IsUnread fault (with_line self line.now) (line_flaw self.last line.now)) }
     {
         let bytes = line_bytes(alloc, without_return(line))?;
         self.with_bytes(alloc, &bytes)
@@ -62,13 +64,14 @@ impl Reading {
     // With the bytes of one more line.
     fn with_bytes(self, alloc: Global, bytes: &[u8]) -> Result<Reading, LineFault>
         ensures { MatchResult result (λ reading. with_bytes self bytes.now ≡ Some reading)
-            (λ fault. fault ≡ LineFault.BadForm → with_bytes self bytes.now ≡ None) }
+            (λ fault. IsUnread fault (with_bytes self bytes.now) (bytes_flaw self.last bytes.now)) }
     {
         if !is_head(bytes) {
             return self.with_text(line_text(bytes));
         }
-        let Some(head) = head_of(bytes) else {
-            return Err(LineFault::BadForm);
+        let head = match head_of(bytes) {
+            Ok(head) => head,
+            Err(flaw) => return Err(LineFault::BadForm(flaw)),
         };
         let memo = Draft::new(alloc, head.id, head.secret, head.label)?;
         let reading = self.with_memo(memo)?;
@@ -89,10 +92,15 @@ impl Reading {
     // With one more line of the last memo.
     fn with_text(self, text: &[u8]) -> Result<Reading, LineFault>
         ensures { MatchResult result (λ reading. with_text self text.now ≡ Some reading)
-            (λ fault. fault ≡ LineFault.BadForm → with_text self text.now ≡ None) }
+            (λ fault. IsUnread fault (with_text self text.now) (text_flaw self.last)) }
     {
         let Reading { done, last } = self;
-        let memo = last.ok_or(LineFault::BadForm)?;
+        let Some(memo) = last else {
+            return Err(LineFault::BadForm(LineFlaw {
+                column: 1,
+                flaw: Flaw::NoHead,
+            }));
+        };
         Ok(Reading {
             done,
             last: Some(memo.longer(text)?),

@@ -1,5 +1,5 @@
 -- What an end makes of data, by the tests that it takes.
-use Rattle.std.proofs.Common.{◌≡◌, ◌≤◌, ℕ, true, false, ◌&&◌, List, [], ◌∷◌, ◌++◌, length, Option, Some, None, inl, inr, refl, subst, sym, ap, ◌∙◌, arith}
+use Rattle.std.proofs.Common.{◌≡◌, ◌≤◌, ℕ, nat_eq, true, false, ◌&&◌, List, [], ◌∷◌, ◌++◌, length, Option, Some, None, inl, inr, refl, subst, sym, ap, ◌∙◌, arith}
 use Rattle.std.proofs.lemmas.Bool.{cases_Bool, cond-false, cond-true}
 use Rattle.std.proofs.lemmas.Bool.Decides.{nat_tests}
 use Rattle.std.proofs.lemmas.Grind.{common_steps}
@@ -11,8 +11,9 @@ use Rattle.padp_link.specs.Pieces.{key_of}
 use Rattle.padp_link.specs.Receivers.{bytes_of, is_complete, is_next, whole_of}
 use Rattle.padp_link.specs.Senders.{waiting, waiting_key}
 use Rattle.padp_end.specs.Arrivals.{Arrival, Drop, Tickle, Stop, Ack, Data, arrival_of}
-use Rattle.padp_end.specs.Ends.{Answer, EndValue, arrival_taken, data_taken, end_takes, goes_on_with, heard_with, is_key, is_ready, new_taken, heard_behind, silent, with_next, with_part}
+use Rattle.padp_end.specs.Ends.{Answer, EndValue, arrival_taken, data_taken, end_takes, goes_on_with, heard_with, is_acked, is_key, is_only, is_ready, new_taken, heard_behind, silent, with_next, with_part}
 use Rattle.padp_end.specs.Outgoings.{acknowledgement, pieces_said}
+use Rattle.trace_text.specs.Past.{same_key}
 use Rattle.padp_end.specs.Laws.{IsRepeatOf, same_again}
 use Rattle.padp_end.specs.declared.heard.Heard.TheVariants as heard
 
@@ -25,6 +26,36 @@ is_key-true (Some other) key is = grind (arith, common_steps, nat_tests)
 pub is_key-same : (last : Option Key) (key : Key) → last ≡ Some key → is_key last key ≡ true
 is_key-same None key is = absurd cc
 is_key-same (Some other) key is = grind (arith, common_steps, nat_tests)
+
+-- ---- an acknowledgement
+
+pub is_acked-same : (key : Key) → is_acked (Some key) key ≡ true
+is_acked-same key = grind (arith, common_steps, nat_tests)
+
+-- one with the key of the piece that waits counts
+pub is_acked-key : (waits : Option Key) (key : Key) → waits ≡ Some key → is_acked waits key ≡ true
+is_acked-key waits key is = ap (λ (w : Option Key). is_acked w key) is ∙ is_acked-same key
+
+-- one of another transaction doesn't
+pub is_acked-others : (expected key : Key) → (expected.id ≡ key.id → ⊥) → is_acked (Some expected) key ≡ false
+is_acked-others expected key other = grind (arith, common_steps, nat_tests)
+
+same_key-true : (x y : Key) → same_key x y ≡ true → x ≡ y
+same_key-true x y same = grind (arith, common_steps, nat_tests)
+
+-- nor does one of another piece of a longer message
+pub is_acked-part : (expected key : Key) → is_only expected ≡ false → (expected ≡ key → ⊥) → is_acked (Some expected) key ≡ false
+is_acked-part expected key part other =
+    cond-false (is_only expected) (nat_eq expected.id key.id) (same_key expected key) part ∙ elim (cases_Bool (same_key expected key)) [
+      | inl same ↦ absurd (other (same_key-true expected key same))
+      | inr differ ↦ differ
+    ]
+
+-- one that counts is of a piece that waits
+pub is_acked-some : (waits : Option Key) (key : Key) → is_acked waits key ≡ true
+    → (expected : Key) × (waits ≡ Some expected) × (is_acked (Some expected) key ≡ true)
+is_acked-some None key is = absurd cc
+is_acked-some (Some expected) key is = (expected, refl, is)
 
 -- ---- data
 
@@ -80,11 +111,11 @@ few_said : (end : EndValue) (arrival : Arrival) → Few (arrival_taken end arriv
 few_said end Drop = omega arith
 few_said end Tickle = omega arith
 few_said end Stop = omega arith
-few_said end (Ack key) = elim (cases_Bool (is_key (waiting_key end.sender) key)) [
-  | inl same ↦ subst Few (sym (cond-true (is_key (waiting_key end.sender) key) (goes_on_with (with_next end)) (silent end heard.Nothing) same))
+few_said end (Ack key) = elim (cases_Bool (is_acked (waiting_key end.sender) key)) [
+  | inl same ↦ subst Few (sym (cond-true (is_acked (waiting_key end.sender) key) (goes_on_with (with_next end)) (silent end heard.Nothing) same))
       (few_pieces end.message (waiting (with_next end).sender))
   | inr other ↦ (let few : Few (silent end heard.Nothing) = omega arith in
-      subst Few (sym (cond-false (is_key (waiting_key end.sender) key) (goes_on_with (with_next end)) (silent end heard.Nothing) other)) few)
+      subst Few (sym (cond-false (is_acked (waiting_key end.sender) key) (goes_on_with (with_next end)) (silent end heard.Nothing) other)) few)
 ]
 few_said end (Data id fragment) = elim (data_case end id fragment) [
   | IsRepeat same is ↦ (let few : Few (record { said = acknowledgement (key_of id fragment) ∷ []; heard = heard.Nothing; end = end }) = omega arith in
@@ -158,11 +189,11 @@ message_whole : (end : EndValue) (arrival : Arrival) → (arrival_taken end arri
 message_whole end Drop hears = absurd cc
 message_whole end Tickle hears = absurd cc
 message_whole end Stop hears = absurd cc
-message_whole end (Ack key) hears = elim (cases_Bool (is_key (waiting_key end.sender) key)) [
+message_whole end (Ack key) hears = elim (cases_Bool (is_acked (waiting_key end.sender) key)) [
   | inl same ↦ absurd (delivered_no_message (waiting (with_next end).sender)
-      (ap (λ (a : Answer). a.heard) (sym (cond-true (is_key (waiting_key end.sender) key) (goes_on_with (with_next end)) (silent end heard.Nothing) same)) ∙ hears))
+      (ap (λ (a : Answer). a.heard) (sym (cond-true (is_acked (waiting_key end.sender) key) (goes_on_with (with_next end)) (silent end heard.Nothing) same)) ∙ hears))
   | inr other ↦ (let e : heard.Nothing ≡ heard.Message =
-      ap (λ (a : Answer). a.heard) (sym (cond-false (is_key (waiting_key end.sender) key) (goes_on_with (with_next end)) (silent end heard.Nothing) other)) ∙ hears in
+      ap (λ (a : Answer). a.heard) (sym (cond-false (is_acked (waiting_key end.sender) key) (goes_on_with (with_next end)) (silent end heard.Nothing) other)) ∙ hears in
       absurd cc)
 ]
 message_whole end (Data id fragment) hears = elim (data_case end id fragment) [

@@ -33,10 +33,21 @@ silent end hears = record { said = []; heard = hears; end = end }
 
 -- ---- an acknowledgement
 
--- the key is that of the piece that waits
+-- the key is this one, if there is one
 abbrev pub is_key : Option Key → Key → Bool
 is_key None key = false
 is_key (Some expected) key = same_key expected key
+
+-- the key of a piece that is first and last of its message
+abbrev pub is_only : Key → Bool
+is_only key = nat_eq key.flags (first_flag + last_flag)
+
+-- An acknowledgement with this key is of the piece that waits. Where that piece is all of its
+-- message its transaction tells, and of a piece of a longer one the whole key does.
+abbrev pub is_acked : Option Key → Key → Bool
+is_acked None key = false
+is_acked (Some expected) key =
+    if is_only expected then nat_eq expected.id key.id else same_key expected key
 
 -- the end, one piece of whose message more is acknowledged
 abbrev pub with_next : EndValue → EndValue
@@ -60,10 +71,10 @@ goes_on_with end = record {
   end = end;
 }
 
--- an acknowledgement counts where it bears the key of the piece that waits
+-- an acknowledgement counts where it is of the piece that waits
 abbrev pub ack_taken : EndValue → Key → Answer
 ack_taken end key =
-    if is_key (waiting_key end.sender) key then goes_on_with (with_next end)
+    if is_acked (waiting_key end.sender) key then goes_on_with (with_next end)
     else silent end heard.Nothing
 
 -- ---- data

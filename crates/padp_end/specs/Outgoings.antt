@@ -1,10 +1,11 @@
 -- What an end says: fragments, each in a packet of a transaction.
-use Rattle.std.specs.Prelude.{ℕ, List, [], ◌∷◌, Option, Some, None}
+use Rattle.std.specs.Prelude.{ℕ, ◌+◌, List, [], ◌∷◌, Option, Some, None}
 use Rattle.std.specs.List.{flat_map}
 use Rattle.padp_link.specs.declared.fragment.PadpKind.TheVariants as kind
 use Rattle.padp_link.specs.declared.piece.Key.{Key}
 use Rattle.padp_link.specs.declared.piece.Piece.{Piece}
 use Rattle.padp_link.specs.FragmentText.{FragmentValue}
+use Rattle.padp_link.specs.Numbers.{first_flag, last_flag}
 use Rattle.padp_link.specs.Pieces.{fragment_of}
 use Rattle.trace_text.specs.Frames.{padp_packet}
 
@@ -22,6 +23,13 @@ abbrev pub acknowledgement : Key → OutgoingFragment
 acknowledgement key = record {
   id = key.id;
   fragment = record { kind = kind.Ack; flags = key.flags; size = key.size; bytes = [] };
+}
+
+-- the end of the connection, under a transaction
+abbrev pub abort : ℕ → OutgoingFragment
+abort id = record {
+  id = id;
+  fragment = record { kind = kind.Abort; flags = first_flag + last_flag; size = 0; bytes = [] };
 }
 
 -- a piece of a message

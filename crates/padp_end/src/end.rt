@@ -17,7 +17,7 @@ ghost use Rattle.padp_end.specs.Parts.{are_end_parts, end_of};
 use crate::heard::Heard;
 use crate::parts::EndParts;
 use crate::saying::{MAX_SAID, say_ack, say_piece};
-use crate::waiting::{is_ready, stop_waiting};
+use crate::waiting::{counts_for, is_ready, stop_waiting};
 use arrayvec::ArrayVec;
 use dlp_args::Message;
 use padp_link::{Arrived, Fragment, Key, PartsFault, Receiver, Sender, Taken, TriesSpent, arrived};
@@ -195,7 +195,7 @@ impl End {
         }
     }
 
-    // Takes an acknowledgement.
+    // Takes an acknowledgement. Of a piece that is all of its message the transaction is enough.
     fn take_ack(&mut self, key: Key, out: &mut ArrayVec<u8, MAX_SAID>) -> Heard
         requires { array_vec_len out.old ≤ 16 }
         ensures end { self.new ≡ (ack_taken self.old key).end }
@@ -203,6 +203,7 @@ impl End {
             ++ said_text (ack_taken self.old key).said }
         ensures heard { result ≡ (ack_taken self.old key).heard }
     {
+        let key = counts_for(&self.sender, key);
         if !self.sender.on_ack(key) {
             return Heard::Nothing;
         }

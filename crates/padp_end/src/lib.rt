@@ -6,7 +6,7 @@
 //! came, by `take`, and says what goes back into the caller's room; `Heard` tells what there is to do
 //! about it. `begin` begins a message, `expect` awaits the next one, and a caller with a clock asks by
 //! `wait` for the piece that has to go once more. What an end says to a packet is `end_takes` of
-//! `specs/Ends.antt`.
+//! `specs/Ends.antt`. `abort_packet` ends the connection, of which no end keeps anything.
 //!
 //! What an end holds can be kept elsewhere, as plain parts: `parts` tells them, and `of_parts` makes the same end of them
 //! (`specs/Parts.antt`).
@@ -29,4 +29,4 @@ pub use laws::{
 };
 pub use padp_link::{PartsFault, ReceiverParts, SenderParts};
 pub use parts::EndParts;
-pub use saying::MAX_SAID;
+pub use saying::{MAX_SAID, abort_packet};

@@ -5,10 +5,10 @@ ghost use Rattle.padp_link.specs.FragmentText.{IsFragment};
 ghost use Rattle.padp_link.specs.FragmentValues.{fragment_value};
 ghost use Rattle.padp_link.specs.Pieces.{fragment_of};
 ghost use Rattle.trace_text.specs.Frames.{padp_packet};
-ghost use Rattle.padp_end.specs.Outgoings.{acknowledgement, said_text};
+ghost use Rattle.padp_end.specs.Outgoings.{abort, acknowledgement, said_text};
 
 use arrayvec::ArrayVec;
-use padp_link::{Fragment, Key, PACKET_TYPE, PadpKind, Piece, SOCKET, write_fragment};
+use padp_link::{FIRST, Fragment, Key, LAST, PACKET_TYPE, PadpKind, Piece, SOCKET, write_fragment};
 use slp_frames::{MAX_PACKET, Packet, write_packet};
 
 /// How many bytes an end says at most before it is handed another packet: an acknowledgement of 16 and the longest packet.
@@ -86,4 +86,19 @@ pub(crate) fn say_ack(key: Key, out: &mut ArrayVec<u8, MAX_SAID>)
         bytes: &[],
     };
     say(key.id, &fragment, out);
+}
+
+/// The packet that ends the connection, under this transaction.
+pub fn abort_packet(id: u8) -> ArrayVec<u8, MAX_SAID>
+    ensures { result.items ≡ said_text (abort id ∷ []) }
+{
+    let mut out = ArrayVec::new();
+    let fragment = Fragment {
+        kind: PadpKind::Abort,
+        flags: FIRST + LAST,
+        size: 0,
+        bytes: &[],
+    };
+    say(id, &fragment, &mut out);
+    out
 }

@@ -2,10 +2,10 @@
 ghost use Rattle.std.specs.Prelude.{◌≡◌, IfSome, true};
 ghost use Rattle.padp_link.specs.FragmentText.{has_flag};
 ghost use Rattle.padp_link.specs.FragmentValues.{fragment_value};
-ghost use Rattle.padp_link.specs.Senders.{waiting};
-ghost use Rattle.padp_end.specs.Ends.{with_answer, is_ready as may_be_taken};
+ghost use Rattle.padp_link.specs.Senders.{waiting, waiting_key};
+ghost use Rattle.padp_end.specs.Ends.{is_acked, is_key, with_answer, is_ready as may_be_taken};
 
-use padp_link::{FIRST, Fragment, LAST, Sender};
+use padp_link::{FIRST, Fragment, Key, LAST, Sender};
 
 /// Whether a data fragment may be taken now.
 pub(crate) fn is_ready(sender: &Sender, fragment: &Fragment<'_>) -> bool
@@ -14,6 +14,17 @@ pub(crate) fn is_ready(sender: &Sender, fragment: &Fragment<'_>) -> bool
     match sender.current() {
         Some(piece) => piece.key.flags & LAST != 0 && fragment.flags & FIRST != 0,
         None => true,
+    }
+}
+
+/// The key that an acknowledgement with this one counts for: that of the piece that waits, where it is all of its message
+/// and of the same transaction.
+pub(crate) fn counts_for(sender: &Sender, key: Key) -> Key
+    ensures { is_key (waiting_key sender.now) result ≡ is_acked (waiting_key sender.now) key }
+{
+    match sender.current() {
+        Some(piece) if piece.key.flags == FIRST + LAST && piece.key.id == key.id => piece.key,
+        _ => key,
     }
 }
 

@@ -32,11 +32,11 @@ abbrev pub all_pieces : List Outgoing → List Piece
 all_pieces messages = flat_map (λ message. pieces message.id message.length) messages
 
 -- The transaction of an end's message by its number: the greeting, number 0, has 255, and the
--- requests or replies behind it
--- have 1 to 254, coming round.
+-- requests or replies behind it have 1 to 253, coming round. So 254 stays free, as pilot-link leaves
+-- it.
 abbrev pub session_id : ℕ → ℕ
 session_id zero = 0xFF
-session_id (suc number) = number % 254 + 1
+session_id (suc number) = number % 253 + 1
 
 -- an end's messages of these lengths, from this number on
 abbrev pub session_from : ℕ → List ℕ → List Outgoing

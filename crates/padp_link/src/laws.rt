@@ -25,7 +25,7 @@ pub fn neighbours_have_different_keys()
 {}
 
 /// So have the pieces of all that an end sends in a session: its greeting has the id 255, and what it
-/// sends behind that has 1 to 254, coming round.
+/// sends behind that has 1 to 253, coming round.
 pub fn keys_differ_in_a_session()
     ensures { (lengths : List ℕ) → Neighbours HaveDifferentKeys
         (all_pieces (session_from 0 lengths)) }

@@ -4,7 +4,7 @@ use Rattle.std.proofs.lemmas.Bool.Decides.{nat_tests}
 use Rattle.padp_link.specs.Neighbours.{session_id}
 use Rattle.port_link.specs.Greetings.{id_behind}
 
-next : (number : ℕ) → (number + 1) % 254 + 1 ≡ id_behind (number % 254 + 1)
+next : (number : ℕ) → (number + 1) % 253 + 1 ≡ id_behind (number % 253 + 1)
 next number = grind (arith, nat_tests)
 
 pub round : (number : ℕ) → session_id (number + 1) ≡ id_behind (session_id number)

@@ -34,6 +34,6 @@ IsWakeAnswer message (Err cause.NoHandheld) =
     (hello : Hello) → HelloText hello message → hello.kind ≡ Init
 IsWakeAnswer message (Err other) = ⊥
 
--- the transaction behind this one: the greetings have 255, and the requests 1 to 254, coming round
+-- the transaction behind this one: the greetings have 255, and the requests 1 to 253, coming round
 abbrev pub id_behind : ℕ → ℕ
-id_behind id = if nat_lt id 254 then id + 1 else 1
+id_behind id = if nat_lt id 253 then id + 1 else 1

@@ -9,7 +9,7 @@ use cmp_hello::{HELLO_LEN, Hello, HelloKind, read_hello, write_hello};
 pub(crate) const GREETING_ID: u8 = 255;
 
 /// The last transaction of requests before they come round.
-const LAST_ID: u8 = 254;
+const LAST_ID: u8 = 253;
 
 /// The rate that a line begins with, in bits per second. Naming it asks for no change.
 const RATE: u32 = 9_600;

@@ -170,8 +170,9 @@ fn look_text(alloc: Global, words: &LookWords<'_>) -> Result<String, AllocError>
         Look::Export(export) => {
             let form = form_text(alloc, export.form)?;
             let (without, keep) = (export.without_private, export.keep_broken);
+            let raw = export.raw;
             format!(in alloc;
-                "export file {file} as {form} without-private {without} keep-broken {keep}\n"
+                "export file {file} as {form} without-private {without} keep-broken {keep} raw {raw}\n"
             )
         }
         Look::Import(ImportForm::Text) => format!(in alloc; "import file {file} as txt\n"),

@@ -1,4 +1,5 @@
 pub mod ActionLaws
+pub mod HexLaws
 pub mod ItemLaws
 pub mod NumberLaws
 pub mod OnlyLaws

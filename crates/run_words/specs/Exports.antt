@@ -41,6 +41,7 @@ export_with given form = record {
   form = form;
   without_private = is_some (given.said (codes "without-private"));
   keep_broken = is_some (given.said (codes "keep-broken"));
+  raw = is_some (given.said (codes "raw"));
 }
 
 -- the same, at the date now

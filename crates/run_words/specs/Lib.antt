@@ -9,6 +9,7 @@ pub mod Exports
 pub mod Faults
 pub mod Forms
 pub mod Helps
+pub mod HexPairs
 pub mod Likes
 pub mod Numbers
 pub mod Porteds

@@ -48,12 +48,12 @@ file_form = record { plain = codes "file" ∷ []; options = [] }
 abbrev pub show_form : WordFormValue
 show_form = record { plain = codes "file" ∷ []; options = flag (codes "records") ∷ [] }
 
--- `FILE --as=FORM [--date=D] [--without-private] [--keep-broken]`, behind `export`
+-- `FILE --as=FORM [--date=D] [--without-private] [--keep-broken] [--raw]`, behind `export`
 abbrev pub export_form : WordFormValue
 export_form = record {
   plain = codes "file" ∷ [];
   options = needed (codes "as") ∷ allowed (codes "date")
-      ∷ flag (codes "without-private") ∷ flag (codes "keep-broken") ∷ [];
+      ∷ flag (codes "without-private") ∷ flag (codes "keep-broken") ∷ flag (codes "raw") ∷ [];
 }
 
 -- `FILE --as=FORM [--like=FILE]`, behind `import`

@@ -1,7 +1,7 @@
 // Commands.
 ghost use Rattle.std.specs.Prelude.{◌≡◌, map, string_bytes, option_map};
 ghost use Rattle.run_words.specs.Commands.{Help, Make, deed_of as deed_of_words, lone_import_in as lone_import_of, look_in as look_of_words, make_in as make_of_words, meaning, packet_in as packet_of_words, show_look, sync_in as sync_of_words, task_of};
-ghost use Rattle.run_words.specs.Exports.{export_in as export_of_words};
+ghost use Rattle.run_words.specs.Exports.{export_in as export_of_words, export_with};
 ghost use Rattle.run_words.specs.Helps.{help_of as help_of_words};
 ghost use Rattle.run_words.specs.Views.{task_view};
 ghost use Rattle.run_words.specs.Words.{bytes_of};
@@ -10,7 +10,7 @@ use crate::between::{BetweenWords, between_in};
 use crate::capture::{CaptureWords, capture_in};
 use crate::hexadecimal::is_hex;
 use crate::like::import_in;
-use crate::look::{Export, ImportForm, Look, LookWords, export_form_in};
+use crate::look::{Export, ExportForm, ImportForm, Look, LookWords, export_form_in};
 use crate::number::{count_in, number_in};
 use crate::reading::Reading;
 use crate::run::{RunWords, run_in};
@@ -21,7 +21,7 @@ use crate::topic::{CommandWord, Topic, command_named, help_of};
 /// A search for packets.
 #[derive(Clone, Copy)]
 pub struct PacketWords<'a> {
-    /// The lower-case hexadecimal of 1 to 4,096 bytes.
+    /// The hexadecimal of 1 to 4,096 bytes.
     pub hex: &'a str,
 }
 
@@ -156,11 +156,19 @@ fn export_in<'a, R: Reading<'a>>(now: Option<u32>, words: &R) -> Option<Export>
     ensures { result ≡ export_of_words now (R.given words.now) }
 {
     let form = export_form_in(now, words.said("as")?, words.said("date"))?;
-    Some(Export {
+    Some(export_with(words, form))
+}
+
+// How they want it exported in this form.
+fn export_with<'a, R: Reading<'a>>(words: &R, form: ExportForm) -> Export
+    ensures { result ≡ export_with (R.given words.now) form }
+{
+    Export {
         form,
         without_private: words.said("without-private").is_some(),
         keep_broken: words.said("keep-broken").is_some(),
-    })
+        raw: words.said("raw").is_some(),
+    }
 }
 
 // The form of the text of which the words want a database, where they name no other file.

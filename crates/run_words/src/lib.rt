@@ -2,7 +2,7 @@
 //! nothing.
 //!
 //! The first word is the command: `run HANDHELD DESKTOP --date=D [--script=F] [--trace=F] [--only=L] [--slow] [--actions=L]
-//! [--user=NAME] [--add-user] [--dry-run]`, `check FILE`, `show FILE [--records]`, `export FILE --as=FORM [--date=D] [--without-private] [--keep-broken]`,
+//! [--user=NAME] [--add-user] [--dry-run]`, `check FILE`, `show FILE [--records]`, `export FILE --as=FORM [--date=D] [--without-private] [--keep-broken] [--raw]`,
 //! `import FILE --as=txt`, `verify FILE`, `picture FILE`, `packet HEX`, `make SEED N`,
 //! `install HANDHELD FILE [--trace=F]`, `backup` or `restore HANDHELD FOLDER [--script=F] [--trace=F]`,
 //! `device HANDHELD --in=F --out=F` or `categories HANDHELD DESKTOP [--script=F] [--trace=F]`; and `sync PORT DESKTOP
@@ -48,6 +48,7 @@ pub use command::{Command, MakeWords, PacketWords, command_in, command_of, deed_
 pub use dock::{DockWords, dock_in, docking_words, is_docking};
 pub use fault::{FaultKind, WordFault, fault_of};
 pub use form::{FormOption, WordForm, name_of, option_named};
+pub use hexadecimal::hex_digits;
 pub use like::{LikeWords, is_liking, like_in, liking_words};
 pub use look::{Export, ExportForm, ImportForm, Look, LookWords, export_form_in, import_form_in};
 pub use number::{count_in, number_in};

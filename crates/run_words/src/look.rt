@@ -33,6 +33,8 @@ pub struct Export {
     pub without_private: bool,
     /// Whether a record that is out of its form stands in the text as it is: `--keep-broken`.
     pub keep_broken: bool,
+    /// Whether the fields of a table stand as they are, those too that a spreadsheet takes for formulas: `--raw`.
+    pub raw: bool,
 }
 
 /// What is wanted of a file: of the database in it, of the text, or of the trace.

@@ -53,6 +53,7 @@ const EXPORT: WordForm<'static> = WordForm {
         Allowed("date"),
         Flag("without-private"),
         Flag("keep-broken"),
+        Flag("raw"),
     ],
 };
 

@@ -1,17 +1,20 @@
 -- The rows of a table are read again.
-use Rattle.std.proofs.Common.{◌≡◌, ◌∙◌, ◌≤◌, ◌+◌, ◌==◌, append_assoc, arith, length, ap, inl, inr, refl, subst, sym, ℕ, zero, suc, false, List, [], ◌∷◌, ◌++◌, Some}
+use Rattle.std.proofs.Common.{◌≡◌, ◌∙◌, ◌≤◌, ◌+◌, ◌==◌, append_assoc, arith, length, ap, inl, inr, refl, subst, sym, map, ℕ, zero, suc, Bool, true, false, List, [], ◌∷◌, ◌++◌, Some}
 use Rattle.std.proofs.Common.{length-append}
-use Rattle.std.specs.Prelude.{All, if◌then◌else◌}
+use Rattle.std.specs.Prelude.{All, if◌then◌else◌, slice_index_or}
 use Rattle.std.proofs.lemmas.Bool.Decides.{nat_tests}
-use Rattle.std.specs.List.{list_any}
+use Rattle.std.specs.List.{flat_map, list_any}
+use Rattle.std.proofs.lemmas.List.{length-map}
 use Rattle.std.proofs.lemmas.Bool.{cases_Bool, or_parts}
-use Rattle.std.proofs.lemmas.List.Elements.{All-head, All-tail}
+use Rattle.std.proofs.lemmas.List.Elements.{All-head, All-map, All-tail}
 use Rattle.csv.proofs.RoundTrip.{field-run, record-same}
 use Rattle.csv.specs.Machine.{next_record}
 use Rattle.csv.specs.Reading.{default_config, records_from}
 use Rattle.csv.specs.Writing.{default_writer, escaped, field_text, fields_text, is_blank, needs_byte, row_body, row_text}
 use Rattle.csv.specs.declared.parser.State.TheVariants as st
-use Rattle.table_export.specs.Tables.{IsRow, rows_in, table_text, table_writer}
+use Rattle.table_export.specs.Tables.{IsRow, line_of, marked, needs_mark, rows_in, shown_row, table_text, table_writer}
+use Rattle.table_export.specs.declared.kind.Marks.{Marks}
+use Rattle.table_export.specs.declared.kind.Marks.TheVariants.{Absent, Formulas}
 
 -- ---- how a row ends does not change its fields' texts
 
@@ -120,6 +123,10 @@ next_record-row (x ∷ y ∷ ys) tail is =
 
 -- ---- tables
 
+-- the text of rows without marks
+abbrev plain_text : List (List (List ℕ)) → List ℕ
+plain_text rows = flat_map (row_text table_writer) rows
+
 -- the line feed behind a row belongs to it
 feed-skipped : (text : List ℕ) → next_record default_config st.AfterCr [] [] (10 ∷ text) ≡ next_record default_config st.StartRecord [] [] text
 unfolding next_record
@@ -131,15 +138,15 @@ records_from-feed zero text = refl
 records_from-feed (suc n) text = rw (feed-skipped text) refl
 
 records_from-table : (n : ℕ) (rows : List (List (List ℕ))) → All IsRow rows → length rows ≤ n
-    → records_from default_config n st.StartRecord (table_text rows) ≡ rows
+    → records_from default_config n st.StartRecord (plain_text rows) ≡ rows
 unfolding records_from next_record
 records_from-table zero [] all few = refl
 records_from-table zero (row ∷ rows) all few = absurd (omega arith)
 records_from-table (suc n) [] all few = refl
 records_from-table (suc n) (row ∷ rows) all few =
-    rw (next_record-row row (table_text rows) (All-head IsRow row rows all))
+    rw (next_record-row row (plain_text rows) (All-head IsRow row rows all))
     (ap (λ (later : List (List (List ℕ))). row ∷ later)
-    (records_from-feed n (table_text rows) ∙ records_from-table n rows (All-tail IsRow row rows all) (omega arith)))
+    (records_from-feed n (plain_text rows) ∙ records_from-table n rows (All-tail IsRow row rows all) (omega arith)))
 
 -- a table has at least as many bytes as rows
 length-ended : (body blank : List ℕ) → 1 ≤ length (body ++ (blank ++ 13 ∷ 10 ∷ []))
@@ -148,12 +155,56 @@ length-ended body blank = omega (arith, length-append body (blank ++ 13 ∷ 10 �
 length-row : (row : List (List ℕ)) → 1 ≤ length (row_text table_writer row)
 length-row row = length-ended (row_body table_writer row) (if is_blank table_writer row then 34 ∷ 34 ∷ [] else [])
 
-length-table : (rows : List (List (List ℕ))) → length rows ≤ length (table_text rows)
+length-table : (rows : List (List (List ℕ))) → length rows ≤ length (plain_text rows)
 length-table [] = omega arith
-length-table (row ∷ rows) = omega (arith, length-table rows, length-row row, length-append (row_text table_writer row) (table_text rows))
+length-table (row ∷ rows) = omega (arith, length-table rows, length-row row, length-append (row_text table_writer row) (plain_text rows))
 
-pub rows_in-table_text : (rows : List (List (List ℕ))) → All IsRow rows → rows_in (table_text rows) ≡ rows
-rows_in-table_text rows all = records_from-table (length (table_text rows) + 1) rows all (omega (arith, length-table rows))
+rows_in-plain_text : (rows : List (List (List ℕ))) → All IsRow rows → rows_in (plain_text rows) ≡ rows
+rows_in-plain_text rows all = records_from-table (length (plain_text rows) + 1) rows all (omega (arith, length-table rows))
 
-pub table_text_injective : (a b : List (List (List ℕ))) → All IsRow a → All IsRow b → table_text a ≡ table_text b → a ≡ b
-table_text_injective a b is_a is_b same = sym (rows_in-table_text a is_a) ∙ (ap rows_in same ∙ rows_in-table_text b is_b)
+-- ---- marks
+
+table_text-shown : (marks : Marks) (rows : List (List (List ℕ))) → table_text marks rows ≡ plain_text (map (shown_row marks) rows)
+table_text-shown marks [] = refl
+table_text-shown marks (row ∷ rows) = ap (λ t. line_of marks row ++ t) (table_text-shown marks rows)
+
+IsRow-shown : (marks : Marks) (row : List (List ℕ)) → IsRow row → IsRow (shown_row marks row)
+IsRow-shown Absent row is = is
+IsRow-shown Formulas row is = omega (arith, length-map row marked, is)
+
+All-shown : (marks : Marks) (rows : List (List (List ℕ))) → All IsRow rows → All IsRow (map (shown_row marks) rows)
+All-shown marks rows all = All-map IsRow (shown_row marks) rows (λ k d inside. IsRow-shown marks (slice_index_or rows k d) (all k d inside))
+
+pub rows_in-table_text : (marks : Marks) (rows : List (List (List ℕ))) → All IsRow rows → rows_in (table_text marks rows) ≡ map (shown_row marks) rows
+rows_in-table_text marks rows all =
+    ap rows_in (table_text-shown marks rows) ∙ rows_in-plain_text (map (shown_row marks) rows) (All-shown marks rows all)
+
+-- a field that begins with the mark has one more, so a field is told from a marked one
+mark_step : (p q : Bool) (a b : List ℕ) → needs_mark a ≡ p → needs_mark b ≡ q → (if p then 39 ∷ a else a) ≡ (if q then 39 ∷ b else b) → a ≡ b
+mark_step true true a b p_is q_is same = cc
+mark_step false false a b p_is q_is same = same
+mark_step true false a b p_is q_is same = let no : true ≡ false = ap needs_mark same ∙ q_is in cc
+mark_step false true a b p_is q_is same = let no : true ≡ false = ap needs_mark (sym same) ∙ p_is in cc
+
+marked_injective : (a b : List ℕ) → marked a ≡ marked b → a ≡ b
+marked_injective a b same = mark_step (needs_mark a) (needs_mark b) a b refl refl same
+
+map_injective : {A B : Type 0} (f : A → B) → ((x y : A) → f x ≡ f y → x ≡ y) → (a b : List A) → map f a ≡ map f b → a ≡ b
+map_injective f one [] [] same = refl
+map_injective f one [] (y ∷ ys) same = cc
+map_injective f one (x ∷ xs) [] same = cc
+map_injective f one (x ∷ xs) (y ∷ ys) same =
+    let first : f x ≡ f y = cc in
+    let rest : map f xs ≡ map f ys = cc in
+    let here = one x y first in
+    let behind = map_injective f one xs ys rest in
+    cc
+
+shown_row_injective : (marks : Marks) (a b : List (List ℕ)) → shown_row marks a ≡ shown_row marks b → a ≡ b
+shown_row_injective Absent a b same = same
+shown_row_injective Formulas a b same = map_injective marked marked_injective a b same
+
+pub table_text_injective : (marks : Marks) (a b : List (List (List ℕ))) → All IsRow a → All IsRow b → table_text marks a ≡ table_text marks b → a ≡ b
+table_text_injective marks a b is_a is_b same =
+    map_injective (shown_row marks) (shown_row_injective marks) a b
+    (sym (rows_in-table_text marks a is_a) ∙ (ap rows_in same ∙ rows_in-table_text marks b is_b))

@@ -13,13 +13,13 @@ use Rattle.palm_records.specs.declared.choice.BrokenRecords.TheVariants.{Refused
 use Rattle.palm_records.specs.declared.choice.Privacy.{Privacy}
 use Rattle.palm_records.specs.Choices.{BadItem, first_bad, is_exported, shown_label}
 use Rattle.content_lines.specs.Refusals.{address_place, fault_by, holds, task_place}
-use Rattle.csv.specs.Writing.{row_text}
 use Rattle.card_export.specs.Exports.{text_of}
 use Rattle.table_export.specs.Addresses.{address_columns, address_names}
-use Rattle.table_export.specs.Tables.{palm_field, table_writer}
+use Rattle.table_export.specs.Tables.{line_of, palm_field}
 use Rattle.table_export.specs.Tasks.{task_columns, task_names}
 use Rattle.table_export.specs.declared.kind.Kind.{Kind}
 use Rattle.table_export.specs.declared.kind.Kind.TheVariants.{Addresses, Tasks}
+use Rattle.table_export.specs.declared.kind.Marks.{Marks}
 
 -- the creator of the databases of a kind
 abbrev pub creator_of : Kind → List ℕ
@@ -105,6 +105,6 @@ exported_rows kind wanted database =
     ∷ map (item_row kind database.app) (filter (is_exported wanted) database.records)
 
 -- what a record adds to the text
-abbrev pub item_text : Kind → Option (List ℕ) → Privacy → Record → List ℕ
-item_text kind app wanted item =
-    if is_exported wanted item then row_text table_writer (item_row kind app item) else []
+abbrev pub item_text : Marks → Kind → Option (List ℕ) → Privacy → Record → List ℕ
+item_text marks kind app wanted item =
+    if is_exported wanted item then line_of marks (item_row kind app item) else []

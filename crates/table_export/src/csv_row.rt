@@ -3,14 +3,35 @@ ghost use Rattle.std.specs.Prelude.{◌≡◌, ◌<◌, ◌++◌, [], IfOk, OnOk
 ghost use Rattle.std.specs.Str.{IsUtf8};
 ghost use Rattle.csv.specs.Records.{AllText, fields_of};
 ghost use Rattle.csv.specs.Writing.{row_text};
-ghost use Rattle.table_export.specs.Tables.{table_writer};
+ghost use Rattle.table_export.specs.Tables.{line_of, table_writer};
 
+use crate::kind::Marks;
+use crate::mark::marked_row;
 use csv::{Error, StringRecord, Terminator, WriterBuilder};
 use std::alloc::{AllocError, Global};
 use std::str;
 
-/// Appends the line of a row.
-pub fn push_row(alloc: Global, text: &mut String, row: &StringRecord) -> Result<(), AllocError>
+/// Appends the line of a row, with marks or without.
+pub fn push_row(
+    alloc: Global,
+    text: &mut String,
+    marks: Marks,
+    row: &StringRecord,
+) -> Result<(), AllocError>
+    ensures { OnOk result (string_bytes text.new
+        ≡ string_bytes text.old ++ line_of marks (fields_of row.now)) }
+{
+    match marks {
+        Marks::Absent => push_line(alloc, text, row),
+        Marks::Formulas => {
+            let row = marked_row(alloc, row)?;
+            push_line(alloc, text, &row)
+        }
+    }
+}
+
+// Appends the line of a row of fields as they are.
+fn push_line(alloc: Global, text: &mut String, row: &StringRecord) -> Result<(), AllocError>
     ensures { OnOk result (string_bytes text.new
         ≡ string_bytes text.old ++ row_text table_writer (fields_of row.now)) }
 {
@@ -31,8 +52,8 @@ fn fields_are_text(row: &StringRecord)
     }
 }
 
-// The text of the field at a place.
-fn field_in(row: &StringRecord, place: usize) -> &str
+/// The text of the field at a place.
+pub fn field_in(row: &StringRecord, place: usize) -> &str
     requires { place < length (fields_of row.now) }
     ensures { result.now ≡ slice_index_or (fields_of row.now) place [] }
 {

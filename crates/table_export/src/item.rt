@@ -9,7 +9,7 @@ ghost use Rattle.table_export.specs.Exports.{address_or, content_columns, item_r
 use crate::address::push_address;
 use crate::csv_row::push_row;
 use crate::field::{push_hex, push_palm, push_unread};
-use crate::kind::Kind;
+use crate::kind::{Kind, Marks};
 use crate::task::push_task;
 use csv::StringRecord;
 use palm_records::{Privacy, is_exported, read_address, read_task, shown_label};
@@ -26,19 +26,20 @@ const TASK_COLUMNS: usize = 5;
 pub fn push_item(
     alloc: Global,
     text: &mut String,
+    marks: Marks,
     kind: Kind,
     app: Option<&[u8]>,
     privacy: Privacy,
     item: &Record,
 ) -> Result<(), AllocError>
     ensures { OnOk result (string_bytes text.new ≡ string_bytes text.old
-        ++ item_text kind (option_copied app.entry) privacy item.now) }
+        ++ item_text marks kind (option_copied app.entry) privacy item.now) }
 {
     if !is_exported(privacy, item) {
         return Ok(());
     }
     let row = item_row(alloc, kind, app, item)?;
-    push_row(alloc, text, &row)?;
+    push_row(alloc, text, marks, &row)?;
     Ok(())
 }
 

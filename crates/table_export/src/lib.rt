@@ -2,7 +2,7 @@
 //!
 //! `addresses_table` and `tasks_table` are the text of a table in CSV (RFC 4180): a head line with the names of the columns,
 //! and a line for each record that is exported, with its id, whether it is private, the label of its category, and what it
-//! says. A record that is out of its form refuses the text, or stands in it with its bytes. The public sources of the
+//! says. A field that a spreadsheet takes for a formula has a mark in front where that is wanted. A record that is out of its form refuses the text, or stands in it with its bytes. The public sources of the
 //! records are the Palm File Format Specification and pilot-link's `address.h` and `todo.h`.
 #![tactic(auto)]
 
@@ -14,6 +14,8 @@ mod head;
 mod item;
 mod kind;
 pub mod laws;
+mod mark;
 mod task;
 
 pub use export::{addresses_table, tasks_table};
+pub use kind::Marks;

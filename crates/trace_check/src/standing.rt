@@ -146,7 +146,7 @@ fn session_id(number: u32) -> u8
 {
     match number {
         0 => 0xFF,
-        _ => ((number - 1) % 254 + 1) as u8,
+        _ => ((number - 1) % 253 + 1) as u8,
     }
 }
 

@@ -4,7 +4,7 @@ import os
 import subprocess
 
 from situations.rig import (
-    DATE, DIRTY, LATER, LATEST, PROGRAM, all_files, call, memos, mode, pdb, put, situation, texts, two_sides,
+    DATE, DIRTY, LATER, LATEST, PROGRAM, all_files, call, call_into, memos, mode, pdb, put, situation, texts, two_sides,
     want, want_error, want_line, want_run,
 )
 
@@ -185,7 +185,11 @@ def memos_come_from_an_editor():
     heads = [line[10:] for line in call("export", "h/MemoDB.pdb", "--as=txt")[1] if line.startswith("--- ")]
     want(sorted(heads), ["", " Errands", " private"], "heads on the handheld")
     put("bad.txt", "Shopping\n")
-    want_error(call("import", "bad.txt", "--as=txt"), 3, "bad text line 1")
+    want_error(call("import", "bad.txt", "--as=txt"), 3, "bad text line 1 column 1: no head line above it")
+    put("long.txt", f"--- new\n{'a' * 65_499}\n")
+    want(call_into("long.pdb", "import", "long.txt", "--as=txt"), (0, []), "the longest memo")
+    put("long.txt", f"--- new\n{'a' * 65_500}\n")
+    want_error(call("import", "long.txt", "--as=txt"), 3, "bad text line 2 column 1: memo too long")
 
 
 @situation
@@ -197,7 +201,7 @@ def a_result_holds_no_refusal():
     for word in ("check", "show"):
         want_error(call(word, "bad.pdb"), 3, "bad file source bad.pdb short 11")
     want_error(call("export", "bad.pdb", "--as=txt"), 3, "bad file source bad.pdb short 11")
-    want_error(call("import", "bad.txt", "--as=txt"), 3, "bad text line 1")
+    want_error(call("import", "bad.txt", "--as=txt"), 3, "bad text line 1 column 1: no head line above it")
     for word in ("verify", "picture"):
         want_error(call(word, "bad.txt"), 3, "bad trace line 1")
     for words in (("check",), ("export", "a.pdb", "--as=tyt"), ("import", "a.txt", "--like=a.pdb"), ("packet", "x"), ("verify", "a", "b")):

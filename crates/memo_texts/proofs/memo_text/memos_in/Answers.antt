@@ -1,5 +1,6 @@
 use Rattle.std.proofs.lemmas.Bool.Decides.{nat_tests}
 use Rattle.std.proofs.Common.{◌≡◌, arith, ap, sym, ◌∙◌, ◌+◌, Ok, length}
+use Rattle.memo_texts.specs.Flaws.{line_flaw}
 use Rattle.memo_texts.specs.Readings.{memos_from}
 use Rattle.memo_texts.proofs.ReadingLaws.{memos_from-bad, memos_from-end, memos_from-line, text_fault}
 use Rattle.memo_texts.proofs.memo_text.memos_in.Goals as goal
@@ -17,9 +18,11 @@ pub returns-in-Err-clause-fault : goal.returns-in-Err-clause-fault
 returns-in-Err-clause-fault c =
     let number = c.loop-rest.number + 1 in
     let lines = ap (memos_from number c.loop-rest.reading) c.split_line.ensures.lines in
-    text_fault c.in-Err.fault c.at.result number _ c.at.ensures
-    (λ bad. sym c.loop-rest.invariant.memos
-    ∙ (lines ∙ memos_from-bad number c.loop-rest.reading c.split_line.result.0.now _ (c.in-Err.ensures bad)))
+    let line = c.split_line.result.0.now in
+    text_fault c.in-Err.fault c.at.result number (line_flaw c.loop-rest.reading.last line) _ c.at.ensures
+    (λ some.
+    let bad = c.in-Err.ensures some in
+    (bad.0, sym c.loop-rest.invariant.memos ∙ (lines ∙ memos_from-bad number c.loop-rest.reading line _ bad.1)))
 
 pub returns-clause-memos : goal.returns-clause-memos
 returns-clause-memos c =

@@ -10,10 +10,10 @@ pub returns-clause-rows : goal.returns-clause-rows
 returns-clause-rows c =
     let database = c.args.database.now in
     let proper = IsRow-exported_rows Addresses c.args.privacy database in
-    ap rows_in c.in_ok-text.ensures ∙ rows_in-table_text (exported_rows Addresses c.args.privacy database) proper
+    ap rows_in c.in_ok-text.ensures ∙ rows_in-table_text c.args.marks (exported_rows Addresses c.args.privacy database) proper
 
 pub returns-clause-alone : goal.returns-clause-alone
 returns-clause-alone c rows proper same =
     let database = c.args.database.now in
-    table_text_injective rows (exported_rows Addresses c.args.privacy database) proper (IsRow-exported_rows Addresses c.args.privacy database)
+    table_text_injective c.args.marks rows (exported_rows Addresses c.args.privacy database) proper (IsRow-exported_rows Addresses c.args.privacy database)
     (same ∙ c.in_ok-text.ensures)
