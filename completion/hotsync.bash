@@ -87,7 +87,7 @@ _hotsync() {
     case ${COMP_WORDS[1]} in
     run)
         case $word in
-        -*) _hotsync_options '--date=now --date= --script= --trace= --only= --slow --actions= --actions=*: --user= --add-user --dry-run' ;;
+        -*) _hotsync_options '--date=now --date= --port= --script= --trace= --only= --slow --actions= --actions=*: --user= --add-user --dry-run' ;;
         *) _hotsync_files -d ;;
         esac
         ;;
@@ -109,7 +109,13 @@ _hotsync() {
         *) _hotsync_files -f ;;
         esac
         ;;
-    backup | restore | categories)
+    backup)
+        case $word in
+        -*) _hotsync_options '--port= --script= --trace=' ;;
+        *) _hotsync_files -d ;;
+        esac
+        ;;
+    restore | categories)
         case $word in
         -*) _hotsync_options '--script= --trace=' ;;
         *) _hotsync_files -f ;;

@@ -75,6 +75,7 @@ complete -c hotsync -n '__hotsync_command export' -f -l raw -d 'print the fields
 complete -c hotsync -n '__hotsync_option device' -a '--in=\t"the captured bytes"'
 complete -c hotsync -n '__hotsync_option device' -a '--out=\t"the file for what is said"'
 complete -c hotsync -n '__hotsync_option device' -a '--port=\t"the port that it stands at"'
+complete -c hotsync -n '__hotsync_option run backup' -a '--port=\t"the port of the handheld"'
 complete -c hotsync -n '__hotsync_option sync' -a '--date=\t"the date of the session"'
 complete -c hotsync -n '__hotsync_option sync' -a '--date=now\t"the date of the session"'
 complete -c hotsync -n '__hotsync_option sync' -a '--trace=\t"the file for the trace"'

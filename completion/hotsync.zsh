@@ -52,8 +52,9 @@ _hotsync() {
     ((CURRENT--))
     case ${words[1]} in
     run)
-        _arguments '1:handheld:_files -/' '2:desktop:_files -/' \
-            '--date=-[the date of the session]:date:(now)' '--script=-[the line script]:file:_files' \
+        _arguments '1:handheld or desktop:_files -/' '2:desktop:_files -/' \
+            '--date=-[the date of the session]:date:(now)' '--port=-[the port of the handheld]:port:_files' \
+            '--script=-[the line script]:file:_files' \
             '--trace=-[the file for the trace]:file:_files' '--only=-[the databases that are touched]:stems:_hotsync_only' \
             '--slow[read all records]' '--actions=-[what is done with each database]:actions:_hotsync_actions' \
             '--user=-[the name of the handheld'\''s user]:name:' \
@@ -68,7 +69,11 @@ _hotsync() {
         ;;
     import) _arguments '1:file:_files' '--as=-[the form]:form:(txt)' '--like=-[the file with the categories]:file:_files' ;;
     install) _arguments '1:handheld:_files -/' '2:file:_files' '--trace=-[the file for the trace]:file:_files' ;;
-    backup | restore)
+    backup)
+        _arguments '1:handheld or folder:_files -/' '2:folder:_files -/' '--port=-[the port of the handheld]:port:_files' \
+            '--script=-[the line script]:file:_files' '--trace=-[the file for the trace]:file:_files'
+        ;;
+    restore)
         _arguments '1:handheld:_files -/' '2:folder:_files -/' '--script=-[the line script]:file:_files' \
             '--trace=-[the file for the trace]:file:_files'
         ;;

@@ -72,7 +72,7 @@ files-are device (database ∷ kept) all =
     ap (λ (whole : DatabaseValue). file_of whole ∷ map (λ (d : DatabaseValue). file_of (read_of device d)) kept) all.0
     ∙ ap (λ (files : List EntryValue). backup_file database ∷ files) (files-are device kept all.1)
 
-reports-are : (device : Device) (databases : List DatabaseValue) → AreRead device databases
+pub reports-are : (device : Device) (databases : List DatabaseValue) → AreRead device databases
     → map (moved_report ToFiles) (map (λ (d : DatabaseValue). kept_moved (read_of device d)) databases) ≡ map backup_report databases
 reports-are device [] all = refl
 reports-are device (database ∷ databases) all =

@@ -12,10 +12,13 @@ mod backups;
 mod emulation;
 mod install;
 mod load_talk;
+mod made_folder;
 mod moved;
 mod restore;
 
 pub use backup::backup_folder;
 pub use emulation::emulate;
 pub use install::install_file;
+pub use made_folder::MadeFolder;
+pub use moved::{Way, moves_told};
 pub use restore::restore_folder;

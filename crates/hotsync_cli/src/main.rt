@@ -3,6 +3,7 @@
 
 use hotsync_looks::{asks_liking, import_on_system};
 use hotsync_run::{arguments, run_on_system};
+use port_files::{asks_ported, backup_on_system};
 use port_run::{asks_docking, asks_sync, serve_on_system, sync_on_system};
 use std::fs::{File, OpenFile, OpenOptions};
 use std::io::IsTerminal;
@@ -26,6 +27,7 @@ fn main(rt: HostRuntime) -> ExitCode {
     match arguments(&rt) {
         Ok(args) if asks_sync(&args) => sync_on_system(&rt, &args),
         Ok(args) if asks_docking(&args) => serve_on_system(&rt, &args),
+        Ok(args) if asks_ported(&args) => backup_on_system(&rt, &args),
         Ok(args) if asks_liking(&args) => import_on_system(&rt, &args),
         _ => run_on_system(&rt, rt.stderr().is_terminal()),
     }

@@ -11,7 +11,6 @@ mod command;
 mod counted_folder;
 mod first_day;
 mod hints;
-mod made_folder;
 mod path_hints;
 mod program;
 

@@ -55,7 +55,7 @@ module _ (was : Hand) (performed : was.performed ≡ []) (replies : was.replies 
       subst (λ (l : List (List ℕ)). DeviceRun was.device l hand.replies hand.device) (sym asked)
       (subst (λ (l : List (List ℕ)). DeviceRun was.device since.requests l hand.device) (sym told) since.run)
 
-  link-ran : {link : LinkValue} {talk : Talk} (ran : RanAt was link) → talk_of link ≡ Some talk → HandRan was.device talk ran.palm.hand
+  pub link-ran : {link : LinkValue} {talk : Talk} (ran : RanAt was link) → talk_of link ≡ Some talk → HandRan was.device talk ran.palm.hand
   link-ran {link} {talk} ran told =
       let is : talk_at link.cause link.begun link.id link.scene.desk.end ran.palm ≡ talk =
       some_of (sym (ap (option_map (talk_at link.cause link.begun link.id link.scene.desk.end)) ran.told_is) ∙ told) in
@@ -91,7 +91,7 @@ module _ (was : Hand) (performed : was.performed ≡ []) (replies : was.replies 
             ∙ ap (λ (es : List Exchange). es ++ exchanged since.requests since.replies) (all-exchanged at all.none_left ∙ all.exchanges_are);
       }
 
-still-ran : {device : Device} {talk : Talk} {old new : Hand} → DidNothing old new → HandRan device talk old → HandRan device talk new
+pub still-ran : {device : Device} {talk : Talk} {old new : Hand} → DidNothing old new → HandRan device talk old → HandRan device talk new
 still-ran {device} {talk} {old} {new} did ran =
     let same : exchanges_of new ≡ exchanges_of old = ap (λ (l : List (List ℕ)). exchanged l new.replies) did.performed_is
     ∙ ap (λ (l : List (List ℕ)). exchanged old.performed l) did.replies_are in

@@ -71,19 +71,19 @@ desktop_ran {first} {before} {after} finished_is stood ran =
 
 -- ---- the status once the trace was to be written
 
-traced_memory : (said status : Status) → IsTracedStatus said status → said ≡ NoMemory → status ≡ NoMemory
+pub traced_memory : (said status : Status) → IsTracedStatus said status → said ≡ NoMemory → status ≡ NoMemory
 traced_memory said status is memory = grind (arith, common_steps)
 
-traced_desktop : (said status : Status) → IsTracedStatus said status → status ≡ DesktopFolder → said ≡ DesktopFolder
+pub traced_desktop : (said status : Status) → IsTracedStatus said status → status ≡ DesktopFolder → said ≡ DesktopFolder
 traced_desktop said status is e = grind (arith, common_steps)
 
-traced_in_use : (said status : Status) (end : End) → IsTracedStatus said status → status ≡ InUse end → said ≡ InUse end
+pub traced_in_use : (said status : Status) (end : End) → IsTracedStatus said status → status ≡ InUse end → said ≡ InUse end
 traced_in_use said status end is e = grind (arith, common_steps)
 
 stop_not_in_use : (cause : Option PortCause) (stop : Stop) (end : End) → stop_status cause stop ≡ InUse end → ⊥
 stop_not_in_use cause stop end e = grind (arith, common_steps)
 
-over_not_in_use : (answer : Result (Vec DbReport) Stop) (far : SessionEnd) (cause : Option PortCause) (status : Status) (end : End)
+pub over_not_in_use : (answer : Result (Vec DbReport) Stop) (far : SessionEnd) (cause : Option PortCause) (status : Status) (end : End)
     → IsOver answer far cause status → status ≡ InUse end → ⊥
 over_not_in_use (Ok databases) far cause status end over e = let done = over.1 in cc
 over_not_in_use (Err why) far cause status end over e = stop_not_in_use cause why end (sym over.1 ∙ e)

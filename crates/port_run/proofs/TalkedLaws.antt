@@ -1,9 +1,9 @@
 -- What a link's talk tells of the acts that went out over it, and what the handheld made of them.
-use Rattle.std.proofs.Common.{◌≡◌, ◌⊎◌, ℕ, List, [], ◌∷◌, ◌++◌, length, map, take, inl, inr, refl, sym, ap, subst, ◌∙◌, arith, append-nil}
+use Rattle.std.proofs.Common.{◌≡◌, ◌⊎◌, ◌≤◌, ℕ, List, [], ◌∷◌, ◌++◌, length, map, take, inl, inr, refl, sym, ap, subst, ◌∙◌, arith, append-nil}
 use Rattle.std.specs.Prelude.{Option, Some, None, filter}
 use Rattle.std.specs.List.{flat_map}
 use Rattle.std.specs.Option.{option_to_list}
-use Rattle.std.proofs.lemmas.List.{map-append}
+use Rattle.std.proofs.lemmas.List.{length-append, length-map, map-append}
 use Rattle.std.proofs.Math.Seq.{take-append_seam}
 use Rattle.palm_device.specs.Devices.{Device}
 use Rattle.dlp_commands.specs.Changes.{changes, given_in}
@@ -15,6 +15,7 @@ use Rattle.desktop_session.specs.Stops.{Does}
 use Rattle.desktop_session.specs.Tellings.{device_after, exchanges}
 use Rattle.desktop_session.proofs.TellLaws.{said_device, said_exchanges}
 use Rattle.device_stream.specs.Hands.{Hand}
+use Rattle.session_parts.specs.Fronts.{Front}
 use Rattle.session_plan.specs.Tasks.{Meeting}
 use Rattle.sync_session.specs.Fronts.{MeetingFront}
 use Rattle.sync_session.specs.Sessions.{requests}
@@ -114,21 +115,35 @@ all-exchanged {device} {talk} {hand} ran none = elim ran.once [
   | inr one ↦ let both : Some one.request ≡ None = sym one.left ∙ none in absurd cc
 ]
 
--- it stands where a beginning of the session's requests leads it
-pub front_of : (meeting : Meeting) {talk : Talk} {hand : Hand} → HandRan meeting.device talk hand → IsPrefix (issued talk) (requests meeting)
-    → MeetingFront meeting (write_count hand.performed) (given_by hand) hand.device
+-- as many requests at least as were answered
+pub performed-many : {device : Device} {talk : Talk} {hand : Hand} → HandRan device talk hand → length talk.exchanges ≤ length hand.performed
+performed-many {device} {talk} {hand} ran =
+    let count = length-map talk.exchanges (λ (e : Exchange). e.request) in
+    elim (performed-of ran) [
+      | inl same ↦ let sum = ap (λ (l : List (List ℕ)). length l) same in omega (arith, count, sum)
+      | inr same ↦ let sum = ap (λ (l : List (List ℕ)). length l) same in
+          let both = length-append (asked talk) (option_to_list talk.left) in omega (arith, count, sum, both)
+    ]
+
+-- it stands where a beginning of the requests that are asked for leads it
+pub front_over : {device : Device} {talk : Talk} {hand : Hand} {asked : List (List ℕ)} → HandRan device talk hand → IsPrefix (issued talk) asked
+    → Front device asked (write_count hand.performed) (given_by hand) hand.device
 unfolding write_count
-front_of meeting {talk} {hand} ran begins =
+front_over {device} {talk} {hand} {asked} ran begins =
     let whole = prefix-on (performed-begins ran) begins in
-    let front : take (length hand.performed) (requests meeting) ≡ hand.performed =
+    let front : take (length hand.performed) asked ≡ hand.performed =
     ap (λ (l : List (List ℕ)). take (length hand.performed) l) (sym whole.is) ∙ take-append_seam hand.performed whole.rest in
     record {
       count = length hand.performed;
       replies = hand.replies;
       reached = hand.device;
-      run = subst (λ (l : List (List ℕ)). DeviceRun meeting.device l hand.replies hand.device) (sym front) ran.run;
+      run = subst (λ (l : List (List ℕ)). DeviceRun device l hand.replies hand.device) (sym front) ran.run;
       holds = ap (λ (l : List (List ℕ)). length (filter changes l)) front;
       ids = ap (λ (l : List (List ℕ)). flat_map (λ (e : Exchange). given_in e.request e.reply) (exchanged l hand.replies)) front;
       databases = refl;
       user = refl;
     }
+
+pub front_of : (meeting : Meeting) {talk : Talk} {hand : Hand} → HandRan meeting.device talk hand → IsPrefix (issued talk) (requests meeting)
+    → MeetingFront meeting (write_count hand.performed) (given_by hand) hand.device
+front_of meeting ran begins = front_over ran begins

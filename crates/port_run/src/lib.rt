@@ -24,6 +24,7 @@ mod talk;
 mod tracing;
 mod wishes;
 
+pub use closing::{Closed, close_session};
 pub use dock_program::{asks_docking, serve_on_system};
 pub use dock_report::{DockReport, Docked};
 pub use docking::serve_port;
@@ -31,6 +32,8 @@ pub use laws::{
     a_session_over_a_cable_names_no_other_database,
     an_ended_session_over_a_cable_leaves_both_sides_equal,
 };
-pub use program::{asks_sync, sync_on_system};
+pub use opening::open_port;
+pub use program::{asks_sync, sync_on_system, words_of};
 pub use synced::{CableReport, Synced};
 pub use syncing::sync;
+pub use tracing::trace_log;

@@ -1,4 +1,4 @@
-// The program where its first word is `sync`.
+// The program where its words ask for a session over a cable.
 ghost use Rattle.std.specs.Prelude.{◌≡◌, drop, map, string_bytes};
 ghost use Rattle.std.specs.Process.{exit_status};
 ghost use Rattle.cmd_status.specs.Codes.{code_of};
@@ -22,15 +22,15 @@ use std::process::ExitCode;
 use std::rt::Files;
 use std::time::Clock;
 
-/// Whether the first word behind the program's name asks for a session over a cable.
+/// Whether the words behind the program's name ask for a session over a cable, and not for help.
 pub fn asks_sync(args: &[String]) -> bool
     ensures { result ≡ begins_sync (map string_bytes (drop 1 args.now)) }
 {
     is_sync(words_of(args))
 }
 
-// The words behind the program's name.
-pub(crate) fn words_of(args: &[String]) -> &[String]
+/// The words behind the program's name.
+pub fn words_of(args: &[String]) -> &[String]
     ensures { result.now ≡ drop 1 args.now }
 {
     args.get(1..).unwrap_or(&[])

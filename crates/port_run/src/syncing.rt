@@ -31,8 +31,8 @@ use std::alloc::Global;
 /// Has the session over a cable that the words ask for, and prints the lines of its status on `out`. Where the words leave all
 /// databases alone but some, one line tells how many others there are.
 ///
-/// `now` are the seconds of the date now, if it can be told, and `words` those after the program's name, `sync` first. The
-/// port and the desktop's folder are handed back with every status.
+/// `now` are the seconds of the date now, if it can be told, and `words` those after the program's name, `sync` first, or `run`
+/// with a port among the others. The port and the desktop's folder are handed back with every status.
 pub fn sync<P: Port, D: Folder, T: Sink, O: Sink>(
     alloc: Global,
     now: Option<u32>,

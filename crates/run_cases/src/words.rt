@@ -5,8 +5,8 @@ use run_clap::{
     WordsFault, read_command,
 };
 use run_words::{
-    ActionWord, CommandWord, DockWords, Target, action_of, command_of, docking_words, is_docking,
-    run_actions,
+    ActionWord, CableWords, CommandWord, DockWords, PortedWords, Target, action_of, command_of,
+    docking_words, help_of, is_docking, is_sync, names_port, ported_words, run_actions, sync_words,
 };
 use std::alloc::{AllocError, Global};
 use std::fmt::Write;
@@ -19,6 +19,12 @@ pub fn words_text(alloc: Global, now: Option<u32>, line: &str) -> Result<String,
     }
     if is_docking(&words) {
         return docking_text(alloc, docking_words(&words));
+    }
+    if is_sync(&words) {
+        return cable_text(alloc, sync_words(now, &words));
+    }
+    if names_port(&words, "backup") && help_of(&words).is_none() {
+        return ported_text(alloc, ported_words("backup", &words));
     }
     let in_form = command_of(now, &words).is_some();
     match read_command(alloc, now, &words) {
@@ -116,6 +122,38 @@ fn docking_text(alloc: Global, words: Option<DockWords<'_>>) -> Result<String, A
             dock.handheld,
             dock.port,
             dock.trace.unwrap_or("-")
+        ),
+        None => String::from_str(alloc, "usage\n"),
+    }
+}
+
+// A session over a cable.
+fn cable_text(alloc: Global, words: Option<CableWords<'_>>) -> Result<String, AllocError> {
+    match words {
+        Some(cable) => format!(in alloc;
+            "sync port {} desktop {} date {} trace {} only {} slow {} user {} add-user {} actions {}\n",
+            cable.port,
+            cable.desktop,
+            cable.date.seconds(),
+            cable.trace.unwrap_or("-"),
+            cable.only.unwrap_or("-"),
+            cable.slow,
+            cable.user.unwrap_or("-"),
+            cable.add_user,
+            cable.actions.unwrap_or("-")
+        ),
+        None => String::from_str(alloc, "usage\n"),
+    }
+}
+
+// A backup of the handheld at a port.
+fn ported_text(alloc: Global, words: Option<PortedWords<'_>>) -> Result<String, AllocError> {
+    match words {
+        Some(ported) => format!(in alloc;
+            "backup port {} other {} trace {}\n",
+            ported.port,
+            ported.other,
+            ported.trace.unwrap_or("-")
         ),
         None => String::from_str(alloc, "usage\n"),
     }

@@ -55,7 +55,7 @@ def a_port_is_set_awaited_and_never_made():
     for port, reason in (("nowhere", "did not come"), ("h/MemoDB.pdb", "is no device"), ("/dev/null", "is no serial port")):
         done = at(port, *words)
         want((done.returncode, reason in done.stderr.decode()), (4, True), f"{port} as a port")
-    want((at("nowhere").returncode, at("nowhere", "run", "d", LATER).returncode), (2, 2), "words out of the form")
+    want((at("nowhere").returncode, at("nowhere", "make", "d", LATER).returncode), (2, 2), "words out of the form")
     want(os.path.exists("nowhere"), False, "a port that was made")
     master, slave = os.openpty()
     port = os.ttyname(slave)
@@ -76,7 +76,8 @@ def a_port_that_is_silent_ends_by_its_ticks():
     before = all_files("h", "d")
     master, slave = set_port()
     sync, device = at_port(os.ttyname(slave))
-    for words, line, least in ((sync, "no handheld", 2.5), (device, "line down handheld", 0.5)):
+    backup = ["backup", f"--port={os.ttyname(slave)}", "b"]
+    for words, line, least in ((sync, "no handheld", 2.5), (backup, "no handheld", 2.5), (device, "line down handheld", 0.5)):
         begun = time.monotonic()
         want(call(*words)[:2], (6, [line]), f"{words[0]} at a silent port")
         took = time.monotonic() - begun
@@ -85,6 +86,8 @@ def a_port_that_is_silent_ends_by_its_ticks():
     os.close(slave)
     sync, device = at_port("/dev/null")
     want(call(*sync)[:2], (6, ["no handheld"]), "sync at /dev/null")
+    want(call("backup", "--port=/dev/null", "d")[:2], (7, ["not a backup folder"]), "a backup at a port into a desktop's folder")
+    want(os.listdir("b"), [], "the folder of a backup without a handheld")
     want(call(*device)[:2], (6, ["line down handheld"]), "device at /dev/null")
     want(call(*at_port("/dev/full")[1])[:2], (4, ["port failed"]), "device at /dev/full")
     want(all_files("h", "d"), before, "the folders")

@@ -1,0 +1,4 @@
+pub mod Calls
+pub mod Talks
+pub mod Backups
+pub mod Systems
