@@ -189,6 +189,15 @@ def memos_come_from_an_editor():
 
 
 @situation
+def a_long_result_comes_whole():
+    """All of a long text comes on standard output."""
+    words = [f"{number:05d} " + 94 * "x" for number in range(300)]
+    put("MemoDB.pdb", pdb("MemoDB", memos(*words)))
+    status, lines, _ = call("export", "MemoDB.pdb", "--as=txt")
+    want((status, [line for line in lines if not line.startswith("--- ")]), (0, words), "lines of the memos")
+
+
+@situation
 def a_result_holds_no_refusal():
     """What is refused stands on standard error where standard output is the result, also where the words are at fault; what is
     refused of a session stands where its lines do."""
