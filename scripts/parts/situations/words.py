@@ -192,9 +192,10 @@ def memos_come_from_an_editor():
 def a_long_result_comes_whole():
     """All of a long text comes on standard output."""
     words = [f"{number:05d} " + 94 * "x" for number in range(300)]
-    put("MemoDB.pdb", pdb("MemoDB", memos(*words)))
+    put("MemoDB.pdb", pdb("MemoDB", memos(*words), creator=b"memo"))
     status, lines, _ = call("export", "MemoDB.pdb", "--as=txt")
-    want((status, [line for line in lines if not line.startswith("--- ")]), (0, words), "lines of the memos")
+    shown = [line for line in lines if not line.startswith("--- ")]
+    want((status, len(shown), shown == words), (0, len(words), True), "status, lines, and whether they are those of the memos")
 
 
 @situation
