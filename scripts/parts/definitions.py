@@ -20,7 +20,7 @@ PROMISES = f"crates/{LAWS_CRATE}/src/promises.rt"
 CALLS = [f"crates/{TOP_CRATE}/src/{name}.rt" for name in ("command", "program")]
 # The sentences aren't looked for behind these, and what the contracts say comes last.
 STOPS = {(f"{LAWS_CRATE}.{where}", name) for where, name in (
-    ("Headline", "Headline"), ("Headline", "IsAnsweredRun"), ("Calls", "IsAnsweredCall"))}
+    ("Headline", "Headline"), ("RunCalls", "IsAnsweredRun"), ("Calls", "IsAnsweredCall"))}
 NAMES_TAKEN = re.compile(r"use Rattle\.(\w+)\.specs\.(\w+)\.\{(.*)\}$")
 MODULE_TAKEN = re.compile(r"use Rattle\.(\w+)\.specs\.(\w+)(?: as (\w+))?$")
 ITEM = re.compile(r"(?:(?:pub|abbrev|unfoldable|record|data)\s+)+([^\s:({]+)")

@@ -17,7 +17,8 @@ NOT_FOUND, EXISTS, ILLEGAL = 5, 9, 2
 HARMLESS = ("wake_of_another_version", "three_wakes", "tickles", "each_packet_twice", "noise", "indices_with_gaps",
             "many_entries_a_reply", "more_to_the_end", "five_ids_a_reply", "handle_0", "dates_of_zeros", "a_password", "busy_records", "archived_without_deleted",
             "a_date_that_is_none", "a_user_date_that_is_none", "entries_with_more", "bytes_behind_the_user", "a_second_argument",
-            "a_zero_behind_odd_arguments", "an_argument_beside_an_error", "a_name_with_more_zeros", "a_name_without_a_zero")
+            "a_zero_behind_odd_arguments", "an_argument_beside_an_error", "a_name_with_more_zeros", "a_name_without_a_zero",
+            "acknowledgements_without_flags", "acknowledgements_without_size")
 TOLD = {
     "records_cut_to_40_bytes": (b"bad reply 1f\n", 6),
     "the_same_five_ids": (b"bad reply 31\n", 6),

@@ -14,7 +14,7 @@ use Rattle.handheld_server.specs.Servers.{store_of}
 use Rattle.line_world.specs.Folders.{ServedSince}
 use Rattle.line_world.specs.SinceLaws.{served-itself, served-none, served-once}
 use Rattle.padp_end.specs.Arrivals.{Ack, Arrival, Data, Drop, Stop, Tickle, arrival_of}
-use Rattle.padp_end.specs.Ends.{Answer, EndValue, arrival_taken, end_takes, goes_on_with, is_key, silent, with_next}
+use Rattle.padp_end.specs.Ends.{Answer, EndValue, arrival_taken, end_takes, goes_on_with, is_acked, silent, with_next}
 use Rattle.padp_end.proofs.SayingLaws.{acknowledgement_length}
 use Rattle.padp_end.proofs.TakingLaws.{IsNext, IsOther, IsRepeat, data_case, end_takes-whole}
 use Rattle.padp_link.specs.Senders.{waiting_key}
@@ -188,11 +188,11 @@ message-arrival : (end : EndValue) (arrival : Arrival) → (arrival_taken end ar
 message-arrival end Drop = refl
 message-arrival end Tickle = refl
 message-arrival end Stop = refl
-message-arrival end (Ack key) = elim (cases_Bool (is_key (waiting_key end.sender) key)) [
+message-arrival end (Ack key) = elim (cases_Bool (is_acked (waiting_key end.sender) key)) [
   | inl same ↦ ap (λ (a : Answer). a.end.message)
-      (cond-true (is_key (waiting_key end.sender) key) (goes_on_with (with_next end)) (silent end heard.Nothing) same)
+      (cond-true (is_acked (waiting_key end.sender) key) (goes_on_with (with_next end)) (silent end heard.Nothing) same)
   | inr other ↦ ap (λ (a : Answer). a.end.message)
-      (cond-false (is_key (waiting_key end.sender) key) (goes_on_with (with_next end)) (silent end heard.Nothing) other)
+      (cond-false (is_acked (waiting_key end.sender) key) (goes_on_with (with_next end)) (silent end heard.Nothing) other)
 ]
 message-arrival end (Data id fragment) = elim (data_case end id fragment) [
   | IsRepeat same is ↦ ap (λ (a : Answer). a.end.message) is

@@ -1,29 +1,28 @@
 -- An end takes a piece.
-use Rattle.std.proofs.Common.{◌≡◌, ◌⊎◌, ◌≤◌, ◌<◌, ◌-◌, ◌*◌, ℕ, ◌+◌, ◌^◌, ◌&&◌, not, min, zero, suc, nat_eq, Bool, true, false, List, [], ◌∷◌, ◌++◌, length, Option, Some, None, inl, inr, refl, subst, sym, ap, ◌∙◌, arith}
+use Rattle.std.proofs.Common.{◌≡◌, ◌≤◌, ◌<◌, ◌-◌, ◌*◌, ℕ, ◌+◌, ◌&&◌, not, min, zero, suc, nat_eq, Bool, true, false, List, [], ◌∷◌, ◌++◌, length, Option, Some, None, inl, inr, refl, subst, sym, ap, ◌∙◌, arith}
 use Rattle.std.specs.Bool.{beq}
 use Rattle.std.specs.Prelude.{if◌then◌else◌, nat_le}
-use Rattle.std.proofs.lemmas.Bool.{and_parts, cases_Bool, cond-false, cond-true, eqb-true}
+use Rattle.std.proofs.lemmas.Bool.{cases_Bool, cond-false, cond-true, eqb-true}
 use Rattle.padp_end.proofs.TakingLaws.{accepting}
-use Rattle.padp_end.specs.Arrivals.{Arrival, Data, arrival_of}
-use Rattle.padp_end.specs.Ends.{Answer, EndValue, end_takes, heard_with, with_answer, with_answer_at, with_part}
+use Rattle.padp_end.specs.Ends.{Answer, EndValue, end_takes, heard_with, is_acked, with_answer, with_answer_at, with_part}
 use Rattle.padp_end.specs.Outgoings.{OutgoingFragment, acknowledgement, piece_said}
 use Rattle.padp_end.specs.declared.heard.Heard.TheVariants as heard
 use Rattle.padp_link.proofs.PieceLaws.{flag_first}
 use Rattle.padp_link.proofs.ReceiverLaws.{is_complete-pieces, whole_of-held, with_one_more}
 use Rattle.padp_link.proofs.SenderLaws.{waiting_none}
 use Rattle.padp_link.specs.Collecting.{taken_pieces}
-use Rattle.padp_link.specs.FragmentText.{FragmentText, FragmentValue, has_flag, fragment_text}
+use Rattle.padp_link.specs.FragmentText.{FragmentValue, has_flag}
 use Rattle.padp_link.specs.Pieces.{fragment_of, key_of, piece_count, piece_of}
-use Rattle.padp_link.specs.Receivers.{bytes_of, goes_on, is_complete, is_next, is_next_piece, whole_of, with_piece}
+use Rattle.padp_link.specs.Receivers.{bytes_of, is_complete, is_next_piece, whole_of, with_piece}
 use Rattle.padp_link.specs.Senders.{SenderValue, waiting}
 use Rattle.padp_link.specs.declared.piece.Key.{Key}
 use Rattle.padp_link.specs.declared.piece.Piece.{Piece}
-use Rattle.port_laws.specs.Cables.{AcksPiece, AllBear, AtMost, BearsFor, Cable, Count, HasParts, IsAhead, IsOver, IsPiece, Knows, Rise, Sends, Side, Parcel, Way}
-use Rattle.port_laws.specs.Cables.{key_now, number_now, packet_of, part_count, piece_now, parcels}
-use Rattle.port_laws.specs.Moments.{HeardRightly, StaysOn, TakesOne}
-use Rattle.port_laws.proofs.QueueLaws.{at_most-itself, bear-append, bear-on, rise-append, rise-ends, rise-from}
+use Rattle.port_laws.specs.Cables.{BearsFor, Cable, Count, HasParts, IsAhead, IsOver, IsPiece, Rise, Side, Parcel, Way}
+use Rattle.port_laws.specs.Cables.{key_now, number_now, part_count, piece_now, parcels}
+use Rattle.port_laws.specs.Moments.{HeardRightly, TakesOne}
+use Rattle.port_laws.proofs.QueueLaws.{at_most-itself, bear-append, bear-on, rise-append, rise-from}
 use Rattle.port_laws.proofs.SayLaws.{ack-arrives, none-waiting, number_within}
-use Rattle.port_laws.proofs.StepLaws.{counted, counted-from, counted-to, counted_side, more-from}
+use Rattle.port_laws.proofs.StepLaws.{counted}
 use Rattle.port_laws.proofs.TakeLaws.{oldest}
 
 pub nothing : {X : Type 0} {a : X} → None ≡ Some a → ⊥
@@ -177,7 +176,7 @@ received-to x y first there back id fragment acknowledged cable takes number nex
         acks = λ at k above below acks. record {
           any = acks.any;
           newest = λ is. acks.newest is ∙ sym key;
-          older = λ is now. acks.older is (now ∙ key);
+          older = λ is. subst (λ (n : Key). is_acked (Some n) k ≡ false) (sym key) (acks.older is);
         };
         data_is = λ at i f above below piece. record {
           known = λ is.
@@ -194,7 +193,7 @@ received-to x y first there back id fragment acknowledged cable takes number nex
         none = λ is. let e : ⊥ = omega (arith, is) in absurd e;
         quiet = to.knows.quiet;
         newest = λ is some. ap Some (key_newest x id fragment takes.newest);
-        older = λ more now. let e : ⊥ = omega (arith, more, ahead) in absurd e;
+        older = λ more k now. let e : ⊥ = omega (arith, more, ahead) in absurd e;
       };
       parts = λ some few. pieces_then x y id fragment to.parts ahead takes.newest next cable.x_sends.length_is
           ∙ ap (λ (n : ℕ). taken_pieces (length x.end.message) n x.end.message) (sym (part_then x y id fragment acknowledged ahead));
@@ -238,7 +237,7 @@ received-from x y first there back id fragment acknowledged cable piece takes nu
             subst (BearsFor newer x newer.count) (sym (ack-arrives id fragment piece.text piece.kind_is piece.flags_fit)) (record {
               any = λ is. let e : ⊥ = omega (arith, is) in e;
               newest = λ is. key_newest x id fragment takes.newest;
-              older = λ is now. let e : ⊥ = omega (arith, is, ahead) in e;
+              older = λ is. let e : ⊥ = omega (arith, is, ahead) in absurd e;
             }),
             tt,
           );
@@ -246,7 +245,7 @@ received-from x y first there back id fragment acknowledged cable piece takes nu
         none = from.knows.none;
         quiet = λ is. waiting_none newer.end.sender all;
         newest = λ is some. from.knows.newest is some ∙ ap Some (sym key);
-        older = λ is now. from.knows.older is (now ∙ ap Some key);
+        older = λ is k now. subst (λ (n : Key). is_acked (Some n) k ≡ false) (sym key) (from.knows.older is k now);
       };
       parts = λ some few. subst (λ (n : ℕ). x.end.receiver.pieces ≡ taken_pieces (length y.end.message) n y.end.message) (sym same)
           (from.parts (subst (λ (n : ℕ). 0 < n) same some) (subst (λ (n : ℕ). n < piece_count y.end.sender.length) same few));

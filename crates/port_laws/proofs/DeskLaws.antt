@@ -2,16 +2,18 @@
 use Rattle.std.proofs.Common.{◌≡◌, ℕ, List, [], ◌∷◌, ◌++◌, length, inl, inr, refl, subst, sym, ap, ◌∙◌, arith}
 use Rattle.std.proofs.lemmas.List.{append-nil, append_assoc}
 use Rattle.port_laws.proofs.MomentLaws.{says_again, takes, turned}
-use Rattle.port_laws.specs.Cables.{Cable, Side, Parcel, packets_of, parcels}
+use Rattle.port_laws.specs.Cables.{BearsFor, Cable, Side, Parcel, packets_of, parcels}
 use Rattle.port_laws.specs.Moments.{HeardRightly, StaysOn}
 use Rattle.device_stream.specs.Hands.{Hand}
 use Rattle.padp_end.specs.Ends.{Answer, EndValue, end_takes, end_waits}
-use Rattle.padp_end.specs.Outgoings.{OutgoingFragment}
+use Rattle.padp_end.specs.Outgoings.{OutgoingFragment, abort}
 use Rattle.padp_link.specs.Neighbours.{session_id}
 use Rattle.slp_frames.specs.Histories.{Continues}
 use Rattle.slp_frames.specs.PacketScan.{scan}
 use Rattle.slp_frames.specs.PacketText.{PacketValue}
 use Rattle.port_laws.proofs.HandLaws.{packets_in-parcels}
+use Rattle.port_laws.proofs.SayLaws.{abort-arrives}
+use Rattle.port_laws.proofs.StepLaws.{more-from}
 use Rattle.port_laws.proofs.MoveLaws.{joined, moves_on, head_of, oldest_of}
 use Rattle.port_laws.specs.Palms.{Gives, Palm}
 use Rattle.port_laws.specs.Talking.{Asking, DeskTook, Greeting, IsAt, Resting, Stage, Stands, Waking, Woken, side, with_said}
@@ -180,4 +182,33 @@ desk_waits stage end held palm stands =
       part_open = stands.part_open;
       id_is = stands.id_is;
       at = subst (λ (e : EndValue). IsAt stage (side e again.next.count) hand palm.hand) again.end_is at;
+    }
+
+-- ---- the end of the connection
+
+pub desk_aborts : (stage : Stage) (end : EndValue) (held : List ℕ) (palm : Palm) (id : ℕ) → Stands stage end held palm
+    → Stands stage end held (with_said palm (abort id ∷ []))
+desk_aborts stage end held palm id stands =
+    let desk = side end stands.desk in
+    let hand = side palm.hand.end stands.hand in
+    record {
+      desk = stands.desk;
+      hand = stands.hand;
+      there = stands.there ++ parcels stands.desk (abort id ∷ []);
+      back = stands.back;
+      came = stands.came;
+      cable = record {
+        x_sends = stands.cable.x_sends;
+        y_sends = stands.cable.y_sends;
+        there_is = more-from hand desk stands.there (abort id) stands.cable.there_is (subst (BearsFor desk hand stands.desk) (sym (abort-arrives id)) tt);
+        back_is = stands.cable.back_is;
+        one = stands.cable.one;
+      };
+      there_is = joined stands.there (parcels stands.desk (abort id ∷ [])) palm.toward (packets_of (abort id ∷ [])) stands.there_is
+          (packets_in-parcels stands.desk (abort id ∷ []));
+      back_is = stands.back_is;
+      held_is = stands.held_is;
+      part_open = stands.part_open;
+      id_is = stands.id_is;
+      at = stands.at;
     }

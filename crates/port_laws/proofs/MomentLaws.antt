@@ -1,26 +1,25 @@
 -- What may happen to two ends over a cable.
-use Rattle.std.proofs.Common.{◌≡◌, ◌⊎◌, ◌≤◌, ◌<◌, ◌-◌, ℕ, ◌+◌, ◌&&◌, ◌↔◌, nat_eq, Bool, true, false, List, [], ◌∷◌, ◌++◌, length, Option, Some, None, inl, inr, refl, subst, sym, ap, ◌∙◌, arith}
+use Rattle.std.proofs.Common.{◌≡◌, ◌⊎◌, ◌≤◌, ℕ, ◌+◌, ◌&&◌, ◌↔◌, nat_eq, true, false, List, [], ◌∷◌, ◌++◌, length, Option, Some, None, inl, inr, refl, subst, sym, ap, ◌∙◌, arith}
 use Rattle.std.proofs.lemmas.Bool.{and_parts, cases_Bool, cases_lt, cond-false, cond-true}
 use Rattle.std.proofs.lemmas.List.{append-nil}
-use Rattle.padp_end.proofs.TakingLaws.{data_taken-new, data_taken-repeat, is_key-same, is_key-true, new_taken-next, new_taken-other}
+use Rattle.padp_end.proofs.TakingLaws.{data_taken-new, data_taken-repeat, is_acked-others, is_acked-same, is_key-same, is_key-true, new_taken-next, new_taken-other}
 use Rattle.padp_end.specs.Arrivals.{Ack, Arrival, Data, Drop, Stop, Tickle, arrival_of}
-use Rattle.padp_end.specs.Ends.{EndValue, ack_taken, arrival_taken, data_taken, end_begins, end_expects, end_takes, end_waits, goes_on_with, is_key, is_ready, silent, tried_again, with_message, with_next}
+use Rattle.padp_end.specs.Ends.{EndValue, arrival_taken, end_begins, end_expects, end_takes, end_waits, goes_on_with, is_acked, is_key, is_ready, silent, tried_again, with_message, with_next}
 use Rattle.padp_end.specs.Outgoings.{OutgoingFragment, piece_said, pieces_said}
 use Rattle.padp_end.specs.declared.heard.Heard.TheVariants as heard
-use Rattle.padp_link.proofs.SenderLaws.{waiting_is}
-use Rattle.padp_link.specs.FragmentText.{FragmentText, FragmentValue, fragment_text}
-use Rattle.padp_link.specs.Pieces.{fragment_of, key_of, piece_count, piece_of}
+use Rattle.padp_link.specs.FragmentText.{FragmentValue}
+use Rattle.padp_link.specs.Pieces.{key_of, piece_count}
 use Rattle.padp_link.specs.Receivers.{is_next}
-use Rattle.padp_link.specs.Senders.{SenderValue, waiting, waiting_key}
+use Rattle.padp_link.specs.Senders.{waiting, waiting_key}
 use Rattle.padp_link.specs.declared.piece.Key.{Key}
 use Rattle.padp_link.specs.declared.piece.Piece.{Piece}
-use Rattle.port_laws.specs.Cables.{AcksPiece, BearsFor, Cable, Count, HasParts, IsAhead, IsOver, IsPiece, Rise, Side, Parcel, Way}
-use Rattle.port_laws.specs.Cables.{key_now, number_now, packet_of, part_count, piece_now, parcels}
+use Rattle.port_laws.specs.Cables.{AcksPiece, BearsFor, Cable, IsAhead, IsOver, IsPiece, Side, Parcel, Way}
+use Rattle.port_laws.specs.Cables.{key_now, number_now, part_count, parcels}
 use Rattle.port_laws.specs.Moments.{BeginsOne, SaysAgain, TakesOne}
 use Rattle.port_laws.proofs.DataLaws.{key_newest, takes_piece, nothing}
 use Rattle.port_laws.proofs.QueueLaws.{bear-on}
 use Rattle.port_laws.proofs.SayLaws.{count_some, flags_within, newest_text, now-waiting, waiting-now}
-use Rattle.port_laws.proofs.StepLaws.{Begun, MayBegin, begins_piece, begun_more, counted, counted-from, counted-to, counted_side, lost-to, more-from, newest-arrives, newest_said}
+use Rattle.port_laws.proofs.StepLaws.{begins_piece, begun_more, counted-from, counted-to, counted_side, lost-to, more-from, newest-arrives, newest_said}
 use Rattle.port_laws.proofs.TakeLaws.{acked, oldest, takes_last, takes_next, takes_repeat, takes_silent}
 
 pub turned : (x y : Side) (there back : List Parcel) → Cable x y there back → Cable y x back there
@@ -57,15 +56,15 @@ takes_arrival : (x y : Side) (first : Parcel) (there back : List Parcel) → Cab
 takes_arrival x y first there back cable Drop is bears = takes_silent x y first there back cable heard.Nothing dropped dropped_too is
 takes_arrival x y first there back cable Tickle is bears = takes_silent x y first there back cable heard.Tickle (λ e. cc) (λ e. cc) is
 takes_arrival x y first there back cable Stop is bears = takes_silent x y first there back cable heard.Stop (λ e. cc) (λ e. cc) is
-takes_arrival x y first there back cable (Ack key) is bears = elim (cases_Bool (is_key (waiting_key y.end.sender) key)) [
-  | inl same ↦ (let counts = is ∙ cond-true (is_key (waiting_key y.end.sender) key) (goes_on_with (with_next y.end)) (silent y.end heard.Nothing) same in
+takes_arrival x y first there back cable (Ack key) is bears = elim (cases_Bool (is_acked (waiting_key y.end.sender) key)) [
+  | inl same ↦ (let counts = is ∙ cond-true (is_acked (waiting_key y.end.sender) key) (goes_on_with (with_next y.end)) (silent y.end heard.Nothing) same in
       let acks = acked x y first there back key cable bears same in
       elim (cases_lt (y.end.sender.acknowledged + 1) (piece_count y.end.sender.length)) [
         | inl below ↦ takes_next x y first there back cable acks below counts
         | inr last ↦ takes_last x y first there back cable acks last counts
       ])
   | inr other ↦ takes_silent x y first there back cable heard.Nothing dropped dropped_too
-      (is ∙ cond-false (is_key (waiting_key y.end.sender) key) (goes_on_with (with_next y.end)) (silent y.end heard.Nothing) other)
+      (is ∙ cond-false (is_acked (waiting_key y.end.sender) key) (goes_on_with (with_next y.end)) (silent y.end heard.Nothing) other)
 ]
 takes_arrival x y first there back cable (Data id fragment) is bears = elim (cases_Bool (is_key y.end.receiver.last (key_of id fragment))) [
   | inl same ↦ takes_repeat x y first there back id fragment cable bears (is_key-true y.end.receiver.last (key_of id fragment) same)
@@ -172,9 +171,9 @@ begins x y there back id message cable over other none short differs =
       length_is = refl;
       short = short;
       waits = some;
-      differs = λ began same. elim differs [
-        | inl zero_is ↦ began zero_is
-        | inr apart ↦ apart (ap (λ (k : Key). k.id) same)
+      differs = λ began. elim differs [
+        | inl zero_is ↦ absurd (began zero_is)
+        | inr apart ↦ is_acked-others (key_now sender) (key_now y.end.sender) (λ same. apart (sym same))
       ];
       parts = λ any few. let e : ⊥ = omega (arith, any, no_part) in absurd e;
     }) (λ silent. nothing (sym silent ∙ waits)) in
@@ -276,18 +275,20 @@ known_by-stamp x y first there back id fragment cable is =
       λ known. elim (cases_lt y.count.taken first.at.begun) [
         | inl above ↦ (let begun : first.at.begun ≡ x.count.begun = omega (arith, above, high, most) in
             let ahead : IsAhead x y = omega (arith, above, high, most) in
-            absurd (cable.there_is.knows.older ahead (known ∙ ap Some (key_newest x id fragment (piece.newest begun)))))
+            let key = key_newest x id fragment (piece.newest begun) in
+            let no : true ≡ false = sym (is_acked-same (key_now x.end.sender)) ∙ cable.there_is.knows.older ahead (key_now x.end.sender) (known ∙ ap Some key) in
+            absurd cc)
         | inr same ↦ omega (arith, same, low)
       ],
       piece.known,
     )
 
--- an acknowledgement with the key of the piece that waits is for that piece
+-- an acknowledgement that counts for the piece that waits is of that piece
 pub acked_by-stamp : (x y : Side) (first : Parcel) (there back : List Parcel) (key : Key) → Cable x y (first ∷ there) back
-    → arrival_of first.packet ≡ Ack key → waiting_key y.end.sender ≡ Some key → first.at.taken ≡ y.count.begun
+    → arrival_of first.packet ≡ Ack key → is_acked (waiting_key y.end.sender) key ≡ true → first.at.taken ≡ y.count.begun
 acked_by-stamp x y first there back key cable is waits =
     let acks : AcksPiece x y first.at key = subst (BearsFor x y first.at) is cable.there_is.bear.0 in
-    let known = acked x y first there back key cable acks (is_key-same (waiting_key y.end.sender) key waits) in
+    let known = acked x y first there back key cable acks waits in
     let low = known.stamp in
     let stamps = oldest x y first there cable.there_is in
     let high = stamps.taken_high in

@@ -1,5 +1,5 @@
 -- Packets under way, with their stamps.
-use Rattle.std.proofs.Common.{◌≡◌, ◌≤◌, ℕ, ◌+◌, List, [], ◌∷◌, ◌++◌, length, map, refl, subst, sym, ap, ◌∙◌, arith}
+use Rattle.std.proofs.Common.{ℕ, List, [], ◌∷◌, ◌++◌, arith}
 use Rattle.padp_end.specs.Arrivals.{Arrival, Drop, Tickle, Stop, Ack, Data, arrival_of}
 use Rattle.padp_link.specs.FragmentText.{FragmentValue}
 use Rattle.padp_link.specs.declared.piece.Key.{Key}

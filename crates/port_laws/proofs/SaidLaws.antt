@@ -8,7 +8,7 @@ use Rattle.device_stream.specs.Hands.{Hand, awaiting, greeted_by, heard_by, mess
 use Rattle.dlp_commands.specs.DeviceSteps.{served}
 use Rattle.padp_end.proofs.TakingLaws.{IsNext, IsOther, IsRepeat, data_case}
 use Rattle.padp_end.specs.Arrivals.{Ack, Arrival, Data, Drop, Stop, Tickle, arrival_of}
-use Rattle.padp_end.specs.Ends.{Answer, EndValue, arrival_taken, end_begins, end_takes, end_waits, goes_on_with, is_key, silent, tried_again, with_message, with_next}
+use Rattle.padp_end.specs.Ends.{Answer, EndValue, arrival_taken, end_begins, end_takes, end_waits, goes_on_with, is_acked, silent, tried_again, with_message, with_next}
 use Rattle.padp_end.specs.Outgoings.{OutgoingFragment, acknowledgement, pieces_said, said_text}
 use Rattle.padp_end.specs.declared.heard.Heard.{Heard}
 use Rattle.padp_end.specs.declared.heard.Heard.TheVariants as heard
@@ -66,6 +66,10 @@ scanned said has = ap scan (sym (append-nil (said_text said))) ∙ scanned-appen
 ack_texts : (key : Key) → HaveTexts (acknowledgement key ∷ [])
 ack_texts key = (omega arith, tt)
 
+-- a fragment without bytes
+pub empty_scanned : (said : OutgoingFragment) → said.fragment.bytes ≡ [] → IsScannedOf (said ∷ [])
+empty_scanned said none = scanned (said ∷ []) (omega (arith, ap length none), tt)
+
 waiting_texts : (message : List ℕ) (sender : SenderValue) (waits : Option Piece) → waiting sender ≡ waits → HaveTexts (pieces_said message waits)
 waiting_texts message sender None is = tt
 waiting_texts message sender (Some piece) is =
@@ -95,12 +99,12 @@ takes_at : (end : EndValue) (arrival : Arrival) → HaveTexts (arrival_taken end
 takes_at end Drop = tt
 takes_at end Tickle = tt
 takes_at end Stop = tt
-takes_at end (Ack key) = elim (cases_Bool (is_key (waiting_key end.sender) key)) [
+takes_at end (Ack key) = elim (cases_Bool (is_acked (waiting_key end.sender) key)) [
   | inl same ↦ subst (λ (a : Answer). HaveTexts a.said)
-      (sym (cond-true (is_key (waiting_key end.sender) key) (goes_on_with (with_next end)) (silent end heard.Nothing) same))
+      (sym (cond-true (is_acked (waiting_key end.sender) key) (goes_on_with (with_next end)) (silent end heard.Nothing) same))
       (waiting_texts end.message (with_next end).sender (waiting (with_next end).sender) refl)
   | inr other ↦ subst (λ (a : Answer). HaveTexts a.said)
-      (sym (cond-false (is_key (waiting_key end.sender) key) (goes_on_with (with_next end)) (silent end heard.Nothing) other)) tt
+      (sym (cond-false (is_acked (waiting_key end.sender) key) (goes_on_with (with_next end)) (silent end heard.Nothing) other)) tt
 ]
 takes_at end (Data id fragment) = elim (data_case end id fragment) [
   | IsRepeat same is ↦ subst (λ (a : Answer). HaveTexts a.said) (sym is) (ack_texts (key_of id fragment))

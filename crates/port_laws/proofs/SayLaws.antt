@@ -1,22 +1,20 @@
 -- What is said, as the packet that comes.
-use Rattle.std.proofs.Common.{◌≡◌, ◌≤◌, ◌<◌, ◌-◌, ℕ, ◌+◌, ◌*◌, ◌^◌, min, List, [], ◌∷◌, length, Option, Some, None, ◌⊎◌, inl, inr, zero, suc, refl, subst, sym, ap, ◌∙◌, arith}
+use Rattle.std.proofs.Common.{◌≡◌, ◌≤◌, ◌<◌, ℕ, ◌^◌, List, length, Some, None, inl, inr, zero, suc, refl, subst, sym, ap, ◌∙◌, arith}
 use Rattle.std.proofs.lemmas.Bool.{cases_lt}
 use Rattle.std.proofs.lemmas.Bool.Decides.{nat_tests}
 use Rattle.std.proofs.lemmas.Grind.{common_steps}
 use Rattle.padp_end.proofs.ArrivalLaws.{arrival_of-bearing}
-use Rattle.padp_end.specs.Arrivals.{Arrival, Ack, Data, arrival_of}
-use Rattle.padp_end.specs.Ends.{EndValue}
-use Rattle.padp_end.specs.Outgoings.{acknowledgement, piece_said}
+use Rattle.padp_end.specs.Arrivals.{Ack, Data, Stop, arrival_of}
+use Rattle.padp_end.specs.Outgoings.{abort, acknowledgement, piece_said}
 use Rattle.padp_link.proofs.PieceLaws.{count_inside}
-use Rattle.padp_link.proofs.SenderLaws.{waiting_is, waiting_none}
+use Rattle.padp_link.proofs.SenderLaws.{waiting_is}
 use Rattle.padp_link.proofs.WaitingLaws.{ack-IsFragment, fragment_of-IsFragment, waiting-piece_of}
 use Rattle.padp_link.specs.FragmentText.{FragmentText, FragmentValue, fragment_text}
 use Rattle.padp_link.specs.Pieces.{fragment_of, key_of, piece_count, piece_flags, piece_of, piece_size}
 use Rattle.padp_link.specs.Senders.{SenderValue, waiting}
 use Rattle.padp_link.specs.declared.fragment.PadpKind.TheVariants as kind
-use Rattle.padp_link.specs.declared.piece.Key.{Key}
 use Rattle.padp_link.specs.declared.piece.Piece.{Piece}
-use Rattle.port_laws.specs.Cables.{Sends, number_now, packet_of, piece_now}
+use Rattle.port_laws.specs.Cables.{number_now, packet_of, piece_now}
 
 -- an acknowledgement of data
 pub ack-arrives : (id : ℕ) (fragment : FragmentValue) → FragmentText fragment (fragment_text fragment) → fragment.kind ≡ kind.Data → fragment.flags < 256
@@ -28,6 +26,12 @@ ack-arrives id fragment text is small =
       type_is = refl;
       text = record { fragment_is = ack-IsFragment fragment is small text.fragment_is; size_fits = text.size_fits; is = refl };
     })
+
+-- the end of the connection
+pub abort-arrives : (id : ℕ) → arrival_of (packet_of (abort id)) ≡ Stop
+abort-arrives id =
+    arrival_of-bearing (packet_of (abort id)) (abort id).fragment
+    (record { socket_is = refl; type_is = refl; text = record { fragment_is = record { flags = refl; size = refl }; size_fits = omega arith; is = refl } })
 
 size_within : (length number : ℕ) → length ≤ 65535 → number < piece_count length → piece_size length number < 2 ^ 16
 size_within length zero short below = omega arith

@@ -245,7 +245,7 @@ desk_opens palm is =
         none = λ e. first.last;
         quiet = λ e. quiet;
         newest = λ e some. absurd (some refl);
-        older = λ e now. let no : ⊥ = omega (arith, e) in no;
+        older = λ e k now. let no : ⊥ = omega (arith, e) in absurd no;
       };
       parts = λ some few. let no : ⊥ = omega (arith, few) in absurd no;
     } in
@@ -261,7 +261,7 @@ desk_opens palm is =
         none = λ e. refl;
         quiet = λ e. let no : ⊥ = omega (arith, e) in absurd no;
         newest = λ e some. let no : ⊥ = omega (arith, e) in absurd no;
-        older = λ e now. differ now;
+        older = λ e k now. absurd (differ now);
       };
       parts = λ some few. let no : ⊥ = omega (arith, some, acknowledged) in absurd no;
     } in

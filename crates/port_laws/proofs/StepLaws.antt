@@ -1,17 +1,15 @@
 -- An end begins a piece, and its newest piece was answered.
-use Rattle.std.proofs.Common.{◌≡◌, ◌⊎◌, ◌≤◌, ◌<◌, ◌-◌, ℕ, ◌+◌, ◌^◌, List, [], ◌∷◌, ◌++◌, length, Option, Some, None, inl, inr, refl, subst, sym, ap, ◌∙◌, arith}
-use Rattle.padp_end.specs.Arrivals.{Arrival, Data, arrival_of}
-use Rattle.padp_end.specs.Ends.{EndValue}
+use Rattle.std.proofs.Common.{◌≡◌, ◌≤◌, ◌<◌, ◌-◌, ℕ, ◌+◌, false, List, [], ◌∷◌, ◌++◌, length, Some, None, refl, subst, sym, ap, ◌∙◌, arith}
+use Rattle.padp_end.specs.Arrivals.{Data, arrival_of}
+use Rattle.padp_end.specs.Ends.{EndValue, is_acked}
 use Rattle.padp_end.specs.Outgoings.{OutgoingFragment, piece_said}
-use Rattle.padp_link.specs.FragmentText.{FragmentText, FragmentValue, fragment_text}
 use Rattle.padp_link.specs.Collecting.{taken_pieces}
-use Rattle.padp_link.specs.Pieces.{fragment_of, key_of, piece_count, piece_of}
+use Rattle.padp_link.specs.Pieces.{fragment_of, piece_count, piece_of}
 use Rattle.padp_link.specs.Senders.{SenderValue, waiting}
-use Rattle.padp_link.specs.declared.fragment.PadpKind.TheVariants as kind
 use Rattle.padp_link.specs.declared.piece.Key.{Key}
-use Rattle.port_laws.specs.Cables.{AcksPiece, AllBear, AtMost, BearsFor, Cable, Count, HasParts, IsAhead, IsOver, IsPiece, Knows, Rise, Sends, Side, Parcel, Way}
+use Rattle.port_laws.specs.Cables.{BearsFor, Count, HasParts, IsOver, IsPiece, Side, Parcel, Way}
 use Rattle.port_laws.specs.Cables.{key_now, number_now, packet_of, part_count, piece_now, parcels}
-use Rattle.port_laws.proofs.QueueLaws.{Carries, at_most-itself, at_most-then, bear-append, bear-lost, bear-on, rise-append, rise-ends, rise-from, rise-lost}
+use Rattle.port_laws.proofs.QueueLaws.{at_most-itself, bear-append, bear-lost, bear-on, rise-append, rise-ends, rise-from, rise-lost}
 use Rattle.port_laws.proofs.SayLaws.{flags_within, newest_text, number_within, piece-arrives}
 
 -- ---- a new piece
@@ -29,7 +27,7 @@ begun_more y sender message =
 abbrev pub newest_said : SenderValue → List ℕ → OutgoingFragment
 newest_said sender message = piece_said message (piece_now sender)
 
--- What has to hold at that: all pieces so far are over, and the new one has another key.
+-- What has to hold at that: all pieces so far are over, and no acknowledgement of the last one counts for the new one.
 pub record MayBegin (x y : Side) (there back : List Parcel) (sender : SenderValue) (message : List ℕ) : Type 0 where
   pub to : Way x y there
   pub from : Way y x back
@@ -39,7 +37,7 @@ pub record MayBegin (x y : Side) (there back : List Parcel) (sender : SenderValu
   pub length_is : sender.length ≡ length message
   pub short : length message ≤ 65535
   pub waits : sender.acknowledged < piece_count sender.length
-  pub differs : (y.count.begun ≡ 0 → ⊥) → key_now y.end.sender ≡ key_now sender → ⊥
+  pub differs : (y.count.begun ≡ 0 → ⊥) → is_acked (Some (key_now sender)) (key_now y.end.sender) ≡ false
   pub parts : HasParts (begun_more y sender message) x
 
 begun-to : (x y : Side) (there back : List Parcel) (sender : SenderValue) (message : List ℕ) → MayBegin x y there back sender message
@@ -68,7 +66,8 @@ begun-to x y there back sender message may waits =
             record {
               any = acks.any;
               newest = λ is. let a : ⊥ = omega (arith, is, same) in absurd a;
-              older = λ is now. may.differs (λ zero_is. acks.any (same ∙ zero_is)) (sym (acks.newest same) ∙ now);
+              older = λ is. subst (λ (k : Key). is_acked (Some (key_now sender)) k ≡ false) (sym (acks.newest same))
+                  (may.differs (λ zero_is. acks.any (same ∙ zero_is)));
             };
         data_is = λ at id fragment above below piece. record {
           known = piece.known;
@@ -140,7 +139,7 @@ begun-from x y there back sender message may =
         none = from.knows.none;
         quiet = λ is. let a : ⊥ = omega (arith, is) in absurd a;
         newest = λ is some. let a : ⊥ = omega (arith, is, taken) in absurd a;
-        older = λ ahead now. older now;
+        older = λ ahead key now. older key now;
       };
       parts = may.parts;
     } where
@@ -150,11 +149,11 @@ begun-from x y there back sender message may =
       nothing : {X : Type 0} {a : X} → None ≡ Some a → ⊥
       nothing e = cc
 
-      older : x.end.receiver.last ≡ Some (key_now sender) → ⊥
-      older now =
+      older : (key : Key) → x.end.receiver.last ≡ Some key → is_acked (Some (key_now sender)) key ≡ false
+      older key now =
           let taken = may.taken in
           let some : y.count.begun ≡ 0 → ⊥ = λ z. nothing (sym (may.from.knows.none (taken ∙ z)) ∙ now) in
-          may.differs some (some_of (sym (may.from.knows.newest (sym taken) some) ∙ now))
+          subst (λ (k : Key). is_acked (Some (key_now sender)) k ≡ false) (some_of (sym (may.from.knows.newest (sym taken) some) ∙ now)) (may.differs some)
 
 -- Both ways behind it.
 pub record Begun (x y : Side) (there back : List Parcel) (sender : SenderValue) (message : List ℕ) : Type 0 where
@@ -206,7 +205,7 @@ counted-to x y there acknowledged tries same to answered =
         acks = λ at k above below acks. record {
           any = acks.any;
           newest = λ is. acks.newest is ∙ sym key;
-          older = λ is now. acks.older is (now ∙ key);
+          older = λ is. subst (λ (n : Key). is_acked (Some n) k ≡ false) (sym key) (acks.older is);
         };
         data_is = λ at id fragment above below piece. record {
           known = piece.known;
@@ -254,7 +253,7 @@ counted-from x y back acknowledged tries same quiet from =
         none = from.knows.none;
         quiet = quiet;
         newest = λ is some. from.knows.newest is some ∙ ap Some (sym key);
-        older = λ is now. from.knows.older is (now ∙ ap Some key);
+        older = λ is k now. subst (λ (n : Key). is_acked (Some n) k ≡ false) (sym key) (from.knows.older is k now);
       };
       parts = λ some few. subst (λ (n : ℕ). x.end.receiver.pieces ≡ taken_pieces (length y.end.message) n y.end.message)
           (sym (part_same x y acknowledged tries same))

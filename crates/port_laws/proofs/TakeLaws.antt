@@ -1,30 +1,27 @@
 -- An end takes a packet.
-use Rattle.std.proofs.Common.{◌≡◌, ◌⊎◌, ◌≤◌, ◌<◌, ◌-◌, ℕ, ◌+◌, ◌^◌, ◌&&◌, Bool, true, false, List, [], ◌∷◌, ◌++◌, length, Option, Some, None, inl, inr, refl, subst, sym, ap, ◌∙◌, arith}
-use Rattle.std.proofs.lemmas.Bool.{and_parts, cases_Bool, cases_lt, cond-false, cond-true}
+use Rattle.std.proofs.Common.{◌≡◌, ◌≤◌, ◌<◌, ℕ, ◌+◌, nat_eq, if◌then◌else◌, Bool, true, false, List, [], ◌∷◌, ◌++◌, length, Option, Some, None, inl, inr, refl, subst, subst₂, sym, ap, ◌∙◌, arith}
+use Rattle.std.proofs.lemmas.Bool.{ne_eqb}
 use Rattle.std.proofs.lemmas.List.{append-nil}
-use Rattle.padp_end.proofs.TakingLaws.{DataCase, IsNext, IsOther, IsRepeat, accepting, data_case, is_key-same, is_key-true}
-use Rattle.padp_end.specs.Arrivals.{Ack, Arrival, Data, Drop, Stop, Tickle, arrival_of}
+use Rattle.padp_end.proofs.TakingLaws.{is_acked-part, is_acked-some}
 use Rattle.std.specs.Option.{option_map}
 use Rattle.padp_link.proofs.NeighbourLaws.{next_key_differs}
 use Rattle.padp_link.proofs.SenderLaws.{waiting_none}
 use Rattle.padp_end.specs.declared.heard.Heard.{Heard}
-use Rattle.padp_end.specs.Ends.{Answer, EndValue, ack_taken, arrival_taken, data_taken, end_takes, goes_on_with, heard_behind, heard_with, is_key, is_ready, silent, with_next, with_part}
-use Rattle.padp_end.specs.Outgoings.{OutgoingFragment, acknowledgement, piece_said, pieces_said}
+use Rattle.padp_end.specs.Ends.{Answer, end_takes, goes_on_with, heard_behind, is_acked, is_only, silent, with_next}
+use Rattle.padp_end.specs.Outgoings.{OutgoingFragment, acknowledgement, pieces_said}
 use Rattle.padp_end.specs.declared.heard.Heard.TheVariants as heard
-use Rattle.padp_link.specs.FragmentText.{FragmentText, FragmentValue, fragment_text}
+use Rattle.padp_link.specs.FragmentText.{FragmentValue}
 use Rattle.padp_link.specs.Collecting.{taken_pieces}
-use Rattle.padp_link.specs.Pieces.{fragment_of, key_of, piece_count, piece_of}
-use Rattle.padp_link.specs.Receivers.{is_complete, is_next, whole_of}
+use Rattle.padp_link.specs.Pieces.{key_of, piece_count, piece_of}
 use Rattle.padp_link.specs.Senders.{SenderValue, waiting, waiting_key}
-use Rattle.padp_link.specs.declared.fragment.PadpKind.TheVariants as kind
 use Rattle.padp_link.specs.declared.piece.Key.{Key}
 use Rattle.padp_link.specs.declared.piece.Piece.{Piece}
-use Rattle.port_laws.specs.Cables.{AcksPiece, AllBear, AtMost, BearsFor, Cable, Count, HasParts, IsAhead, IsOver, IsPiece, Knows, Rise, Sends, Side, Parcel, Way}
-use Rattle.port_laws.specs.Cables.{key_now, number_now, packet_of, part_count, piece_now, parcels}
-use Rattle.port_laws.specs.Moments.{HeardRightly, StaysOn, TakesOne}
-use Rattle.port_laws.proofs.QueueLaws.{Carries, at_most-itself, at_most-then, bear-append, bear-on, rise-append, rise-ends, rise-from, rise-to}
-use Rattle.port_laws.proofs.SayLaws.{ack-arrives, count_some, flags_within, none-waiting, now-waiting, number_within, piece-arrives, piece-text, waiting-now}
-use Rattle.port_laws.proofs.StepLaws.{Begun, MayBegin, begins_piece, begun_more, counted, counted-from, counted-to, counted_side, more-from, newest_said, next-to}
+use Rattle.port_laws.specs.Cables.{AcksPiece, BearsFor, Cable, IsOver, IsPiece, Side, Parcel, Way}
+use Rattle.port_laws.specs.Cables.{key_now, number_now, part_count, parcels}
+use Rattle.port_laws.specs.Moments.{HeardRightly, TakesOne}
+use Rattle.port_laws.proofs.QueueLaws.{rise-ends, rise-from}
+use Rattle.port_laws.proofs.SayLaws.{ack-arrives, now-waiting, waiting-now}
+use Rattle.port_laws.proofs.StepLaws.{MayBegin, begins_piece, begun_more, counted, counted-from, counted-to, counted_side, more-from, newest_said, next-to}
 
 nothing : {X : Type 0} {a : X} → None ≡ Some a → ⊥
 nothing e = cc
@@ -37,6 +34,9 @@ quiet e = cc
 
 undelivered : heard.Nothing ≡ heard.Delivered → ⊥
 undelivered e = cc
+
+unlike : true ≡ false → ⊥
+unlike e = cc
 
 -- ---- the stamps of the oldest packet
 
@@ -88,7 +88,7 @@ again_acks : (x y : Side) (there : List Parcel) (id : ℕ) (fragment : FragmentV
 again_acks x y there id fragment to last = record {
   any = λ none. nothing (sym (to.knows.none none) ∙ last);
   newest = λ is. some_of (sym last ∙ to.knows.newest (sym is) (λ zero_is. nothing (sym (to.knows.none (is ∙ zero_is)) ∙ last)));
-  older = λ is now. to.knows.older (sym is) (last ∙ ap Some now);
+  older = λ is. to.knows.older (sym is) (key_of id fragment) last;
 }
 
 pub takes_repeat : (x y : Side) (first : Parcel) (there back : List Parcel) (id : ℕ) (fragment : FragmentValue) → Cable x y (first ∷ there) back
@@ -151,16 +151,19 @@ pub record IsAcked (x y : Side) (first : Parcel) : Type 0 where
   pub some : y.count.begun ≡ 0 → ⊥
 
 pub acked : (x y : Side) (first : Parcel) (there back : List Parcel) (key : Key) → Cable x y (first ∷ there) back → AcksPiece x y first.at key
-    → is_key (waiting_key y.end.sender) key ≡ true → IsAcked x y first
+    → is_acked (waiting_key y.end.sender) key ≡ true → IsAcked x y first
 acked x y first there back key cable acks same =
-    let found = waiting_with (waiting y.end.sender) key (is_key-true (waiting_key y.end.sender) key same) in
+    let counts = is_acked-some (waiting_key y.end.sender) key same in
+    let found = waiting_with (waiting y.end.sender) counts.0 counts.1 in
     let now = waiting-now y.end.sender found.0 found.1 in
     let stamps = oldest x y first there cable.there_is in
     let low_is = cable.there_is.low_is in
     let low = stamps.taken_low in
     let high = stamps.taken_high in
     let most = cable.back_is.taken in
-    let not_older : first.at.taken + 1 ≡ y.count.begun → ⊥ = λ is. acks.older is (sym found.2 ∙ ap (λ (p : Piece). p.key) now.1) in
+    let newest : counts.0 ≡ key_now y.end.sender = sym found.2 ∙ ap (λ (p : Piece). p.key) now.1 in
+    let not_older : first.at.taken + 1 ≡ y.count.begun → ⊥ = λ is.
+    unlike (sym counts.2 ∙ ap (λ (k : Key). is_acked (Some k) key) newest ∙ acks.older is) in
     let stamp : y.count.begun ≤ first.at.taken = omega (arith, not_older, low_is, low, high, most) in
     record {
       waits = now.0;
@@ -176,12 +179,25 @@ next_sender sender = record { id = sender.id; length = sender.length; acknowledg
 number_is : (sender : SenderValue) → sender.acknowledged < piece_count sender.length → number_now sender ≡ sender.acknowledged
 number_is sender below = omega (arith, below)
 
-next_differs : (sender : SenderValue) → sender.acknowledged + 1 < piece_count sender.length → key_now sender ≡ key_now (next_sender sender) → ⊥
-next_differs sender below same =
+-- a later piece of a message is no first one
+part_flags : (first last : Bool) → first ≡ false → nat_eq ((if first then 128 else 0) + (if last then 64 else 0)) 192 ≡ false
+part_flags false true later = refl
+part_flags false false later = refl
+part_flags true last later = absurd cc
+
+later_part : (id length number : ℕ) → is_only (piece_of id length (number + 1)).key ≡ false
+later_part id length number =
+    part_flags (nat_eq (number + 1) 0) (nat_eq (number + 1 + 1) (piece_count length)) (ne_eqb (number + 1) 0 (λ is. omega (arith, is)))
+
+next_differs : (sender : SenderValue) → sender.acknowledged + 1 < piece_count sender.length
+    → is_acked (Some (key_now (next_sender sender))) (key_now sender) ≡ false
+next_differs sender below =
     let a : number_now sender ≡ sender.acknowledged = omega (arith, below) in
     let b : number_now (next_sender sender) ≡ sender.acknowledged + 1 = omega (arith, below) in
-    next_key_differs sender.id sender.length sender.acknowledged
-    (sym (ap (λ (n : ℕ). (piece_of sender.id sender.length n).key) a) ∙ same ∙ ap (λ (n : ℕ). (piece_of sender.id sender.length n).key) b)
+    let key_at : ℕ → Key = λ n. (piece_of sender.id sender.length n).key in
+    subst₂ (λ (n : ℕ) (m : ℕ). is_acked (Some (key_at m)) (key_at n) ≡ false) (sym a) (sym b)
+    (is_acked-part (key_at (sender.acknowledged + 1)) (key_at sender.acknowledged) (later_part sender.id sender.length sender.acknowledged)
+    (λ same. next_key_differs sender.id sender.length sender.acknowledged (sym same)))
 
 next_parts : (x y : Side) → y.end.sender.acknowledged + 1 < piece_count y.end.sender.length → x.count.taken ≡ y.count.begun
     → part_count (begun_more y (next_sender y.end.sender) y.end.message) x ≡ part_count y x
@@ -208,7 +224,7 @@ may_next x y first there back cable acks below = record {
   length_is = cable.y_sends.length_is;
   short = cable.y_sends.short;
   waits = below;
-  differs = λ some same. next_differs y.end.sender below same;
+  differs = λ some. next_differs y.end.sender below;
   parts = λ some few. subst (λ (n : ℕ). x.end.receiver.pieces ≡ taken_pieces (length y.end.message) n y.end.message)
       (sym (next_parts x y below acks.taken))
       (cable.back_is.parts (subst (λ (n : ℕ). 0 < n) (next_parts x y below acks.taken) some)

@@ -1,9 +1,9 @@
 -- Two ends with a cable between them, which loses packets and keeps the order of the others: what
 -- holds of both ends and of the packets under way, whenever either of them takes a packet or says a
 -- piece once more (pilot-link's padp.c).
-use Rattle.std.specs.Prelude.{◌≡◌, ◌⊎◌, ◌≤◌, ◌<◌, ℕ, ◌+◌, ◌-◌, ◌^◌, min, List, [], ◌∷◌, length, map, Some, None}
+use Rattle.std.specs.Prelude.{◌≡◌, ◌⊎◌, ◌≤◌, ◌<◌, ℕ, false, ◌+◌, ◌-◌, min, List, [], ◌∷◌, length, map, Some, None}
 use Rattle.padp_end.specs.Arrivals.{Arrival, Drop, Tickle, Stop, Ack, Data, arrival_of}
-use Rattle.padp_end.specs.Ends.{EndValue}
+use Rattle.padp_end.specs.Ends.{EndValue, is_acked}
 use Rattle.padp_end.specs.Outgoings.{OutgoingFragment, piece_said}
 use Rattle.padp_link.specs.Collecting.{taken_pieces}
 use Rattle.padp_link.specs.FragmentText.{FragmentValue, FragmentText, fragment_text}
@@ -92,11 +92,11 @@ abbrev pub Rise : Count → List Parcel → Count → Type 0
 Rise low [] high = AtMost low high
 Rise low (each ∷ later) high = AtMost low each.at × Rise each.at later high
 
--- an acknowledgement by x: of the newest piece of y, or not of that one
+-- an acknowledgement by x: of the newest piece of y, or one that doesn't count for that one
 pub record AcksPiece (x y : Side) (at : Count) (key : Key) : Type 0 where
   pub any : ¬ (at.taken ≡ 0)
   pub newest : at.taken ≡ y.count.begun → key ≡ key_now y.end.sender
-  pub older : at.taken + 1 ≡ y.count.begun → ¬ (key ≡ key_now y.end.sender)
+  pub older : at.taken + 1 ≡ y.count.begun → is_acked (Some (key_now y.end.sender)) key ≡ false
 
 -- a piece of x: the last one that y took, or the newest one of x. While x is ahead, x hasn't taken
 -- anything since it began that one.
@@ -124,13 +124,15 @@ AllBear x y (each ∷ later) = BearsFor x y each.at (arrival_of each.packet) × 
 
 -- ---- what y knows of x
 
--- the last piece that y took is the newest one of x, or it isn't, where x is ahead
+-- the last piece that y took is the newest one of x, or where x is ahead one whose acknowledgement
+-- doesn't count for that one
 pub record Knows (x y : Side) : Type 0 where
   pub none : y.count.taken ≡ 0 → y.end.receiver.last ≡ None
   pub quiet : x.count.begun ≡ 0 → waiting x.end.sender ≡ None
   pub newest : x.count.begun ≡ y.count.taken → ¬ (x.count.begun ≡ 0)
       → y.end.receiver.last ≡ Some (key_now x.end.sender)
-  pub older : IsAhead x y → ¬ (y.end.receiver.last ≡ Some (key_now x.end.sender))
+  pub older : IsAhead x y → (key : Key) → y.end.receiver.last ≡ Some key
+      → is_acked (Some (key_now x.end.sender)) key ≡ false
 
 -- how many pieces of the message of x were taken by y
 abbrev pub part_count : Side → Side → ℕ

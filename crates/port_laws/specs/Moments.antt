@@ -1,8 +1,8 @@
 -- What may happen to two ends over a cable: a packet is lost, an end takes one, says a piece once
 -- more, begins a message or awaits one.
-use Rattle.std.specs.Prelude.{◌≡◌, ◌⊎◌, ◌≤◌, ◌↔◌, ℕ, List, [], ◌∷◌, ◌++◌, length, Some, None}
+use Rattle.std.specs.Prelude.{◌≡◌, ◌⊎◌, ◌≤◌, ◌↔◌, ℕ, true, List, ◌++◌, length, Some, None}
 use Rattle.padp_end.specs.Arrivals.{Ack, Data, arrival_of}
-use Rattle.padp_end.specs.Ends.{EndValue, end_begins, end_expects, end_takes, end_waits}
+use Rattle.padp_end.specs.Ends.{end_begins, end_takes, end_waits, is_acked}
 use Rattle.padp_end.specs.declared.heard.Heard.{Heard}
 use Rattle.padp_end.specs.declared.heard.Heard.TheVariants as heard
 use Rattle.padp_link.specs.FragmentText.{FragmentValue}
@@ -70,9 +70,9 @@ KnowsRepeat y first id fragment =
     arrival_of first.packet ≡ Data id fragment
     → (y.end.receiver.last ≡ Some (key_of id fragment)) ↔ (first.at.begun ≡ y.count.taken)
 
--- an acknowledgement with the key of the piece of y that waits was said by an end that had taken
+-- an acknowledgement that counts for the piece of y that waits was said by an end that had taken
 -- that piece
 abbrev pub KnowsAck : Side → Parcel → Key → Type 0
 KnowsAck y first key =
-    arrival_of first.packet ≡ Ack key → waiting_key y.end.sender ≡ Some key
+    arrival_of first.packet ≡ Ack key → is_acked (waiting_key y.end.sender) key ≡ true
     → first.at.taken ≡ y.count.begun

@@ -53,7 +53,8 @@ pub fn a_repeat_is_known()
         → KnowsRepeat y first id fragment }
 {}
 
-/// An acknowledgement with the key of the piece that waits was said by an end that had taken that piece.
+/// An acknowledgement that counts for the piece that waits was said by an end that had taken that piece. One of a piece that
+/// is all of its message counts by its transaction alone.
 pub fn an_acknowledgement_is_for_its_piece()
     ensures { (x y : Side) (first : Parcel) (there back : List Parcel) (key : Key)
         → Cable x y (first ∷ there) back → KnowsAck y first key }

@@ -3,6 +3,7 @@
 ghost use Rattle.std.specs.Prelude.{◌≡◌, ◌≤◌, ◌++◌, ◌∷◌, [], ℕ, List, length, true};
 ghost use Rattle.device_stream.specs.Hands.{Hand};
 ghost use Rattle.padp_end.specs.Ends.{EndValue, end_expects, end_waits, first_end};
+ghost use Rattle.padp_end.specs.Outgoings.{abort};
 ghost use Rattle.padp_end.specs.declared.heard.Heard.TheVariants.{Delivered, Message};
 ghost use Rattle.port_laws.specs.Palms.{Gives, MovesOn, Palm, is_first};
 ghost use Rattle.port_laws.specs.Talking.{Asking, DeskTook, EachHearing, Greeting, MayAsk, IsReplyOf, Resting, Stage, Stands, StandsBegun, StandsBehind, Waking, Woken, with_said};
@@ -35,6 +36,12 @@ pub fn silence_may_come()
     ensures { (stage : Stage) (end : EndValue) (held : List ℕ) (palm : Palm)
         → Stands stage end held palm
         → Stands stage (end_waits end).1 held (with_said palm (end_waits end).0) }
+{}
+
+/// And where the connection is ended.
+pub fn an_abort_may_be_said()
+    ensures { (stage : Stage) (end : EndValue) (held : List ℕ) (palm : Palm) (id : ℕ)
+        → Stands stage end held palm → Stands stage end held (with_said palm (abort id ∷ [])) }
 {}
 
 /// And where a packet comes to the desktop's end: it hears nothing but what is right.

@@ -18,6 +18,6 @@ pub use cable_laws::{
 };
 pub use laws::{
     a_first_message_is_the_wake, a_palm_stands, a_reply_is_to_its_request, a_reply_may_be_awaited,
-    a_request_may_begin, a_session_opens, an_init_is_no_request, an_init_may_begin, bytes_may_come,
-    packets_may_come, silence_may_come,
+    a_request_may_begin, a_session_opens, an_abort_may_be_said, an_init_is_no_request,
+    an_init_may_begin, bytes_may_come, packets_may_come, silence_may_come,
 };

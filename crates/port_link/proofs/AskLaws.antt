@@ -6,7 +6,7 @@ use Rattle.std.proofs.lemmas.Bool.Decides.{nat_tests}
 use Rattle.device_stream.specs.Hands.{Hand}
 use Rattle.padp_end.proofs.TakingLaws.{IsNext, IsOther, IsRepeat, data_case}
 use Rattle.padp_end.specs.Arrivals.{Ack, Arrival, Data, Drop, Stop, Tickle, arrival_of}
-use Rattle.padp_end.specs.Ends.{Answer, EndValue, arrival_taken, end_begins, end_expects, goes_on_with, is_key, silent, tried_again, with_answer_at, with_next}
+use Rattle.padp_end.specs.Ends.{Answer, EndValue, arrival_taken, end_begins, end_expects, goes_on_with, is_acked, silent, tried_again, with_answer_at, with_next}
 use Rattle.padp_end.specs.Outgoings.{OutgoingFragment, pieces_said}
 use Rattle.padp_end.specs.declared.heard.Heard.TheVariants as heard
 use Rattle.padp_link.specs.Senders.{SenderValue, waiting, waiting_key}
@@ -43,12 +43,12 @@ takes_keeps : (end : EndValue) (arrival : Arrival) → Keeps end (arrival_taken 
 takes_keeps end Drop = keeps-itself end
 takes_keeps end Tickle = keeps-itself end
 takes_keeps end Stop = keeps-itself end
-takes_keeps end (Ack key) = elim (cases_Bool (is_key (waiting_key end.sender) key)) [
+takes_keeps end (Ack key) = elim (cases_Bool (is_acked (waiting_key end.sender) key)) [
   | inl same ↦ subst (λ (a : Answer). Keeps end a.end)
-      (sym (cond-true (is_key (waiting_key end.sender) key) (goes_on_with (with_next end)) (silent end heard.Nothing) same))
+      (sym (cond-true (is_acked (waiting_key end.sender) key) (goes_on_with (with_next end)) (silent end heard.Nothing) same))
       (record { id = refl; message = refl })
   | inr other ↦ subst (λ (a : Answer). Keeps end a.end)
-      (sym (cond-false (is_key (waiting_key end.sender) key) (goes_on_with (with_next end)) (silent end heard.Nothing) other)) (keeps-itself end)
+      (sym (cond-false (is_acked (waiting_key end.sender) key) (goes_on_with (with_next end)) (silent end heard.Nothing) other)) (keeps-itself end)
 ]
 takes_keeps end (Data id fragment) = elim (data_case end id fragment) [
   | IsRepeat same is ↦ subst (λ (a : Answer). Keeps end a.end) (sym is) (keeps-itself end)

@@ -5,7 +5,7 @@ use Rattle.std.proofs.lemmas.Bool.{and_parts, cases_Bool, cond-false, cond-true}
 use Rattle.std.proofs.lemmas.List.{append-nil, append_assoc}
 use Rattle.padp_end.proofs.TakingLaws.{data_taken-new, data_taken-repeat, new_taken-next, new_taken-other}
 use Rattle.padp_end.specs.Arrivals.{Arrival, Drop, Tickle, Stop, Ack, Data, arrival_of}
-use Rattle.padp_end.specs.Ends.{Answer, EndValue, arrival_taken, goes_on_with, is_key, is_ready, silent, tried_again, with_next}
+use Rattle.padp_end.specs.Ends.{Answer, EndValue, arrival_taken, goes_on_with, is_acked, is_key, is_ready, silent, tried_again, with_next}
 use Rattle.padp_end.specs.Outgoings.{OutgoingFragment}
 use Rattle.padp_end.specs.declared.heard.Heard.TheVariants as heard
 use Rattle.padp_link.specs.declared.piece.Piece.{Piece}
@@ -81,11 +81,11 @@ gains-arrival : (id : ℕ) (end : EndValue) (arrival : Arrival) → end.receiver
 gains-arrival id end Drop awaited = gains-none id end.receiver [] awaited refl
 gains-arrival id end Tickle awaited = gains-none id end.receiver [] awaited refl
 gains-arrival id end Stop awaited = gains-none id end.receiver [] awaited refl
-gains-arrival id end (Ack key) awaited = elim (cases_Bool (is_key (waiting_key end.sender) key)) [
+gains-arrival id end (Ack key) awaited = elim (cases_Bool (is_acked (waiting_key end.sender) key)) [
   | inl same ↦ gains-none id end.receiver [] awaited
-      (ap (λ (a : Answer). a.end.receiver) (cond-true (is_key (waiting_key end.sender) key) (goes_on_with (with_next end)) (silent end heard.Nothing) same))
+      (ap (λ (a : Answer). a.end.receiver) (cond-true (is_acked (waiting_key end.sender) key) (goes_on_with (with_next end)) (silent end heard.Nothing) same))
   | inr other ↦ gains-none id end.receiver [] awaited
-      (ap (λ (a : Answer). a.end.receiver) (cond-false (is_key (waiting_key end.sender) key) (goes_on_with (with_next end)) (silent end heard.Nothing) other))
+      (ap (λ (a : Answer). a.end.receiver) (cond-false (is_acked (waiting_key end.sender) key) (goes_on_with (with_next end)) (silent end heard.Nothing) other))
 ]
 gains-arrival id end (Data other fragment) awaited = elim (cases_Bool (is_key end.receiver.last (key_of other fragment))) [
   | inl same ↦ gains-none id end.receiver (part_of id (Data other fragment)) awaited

@@ -11,7 +11,7 @@ use Rattle.desk_store.specs.Desks.{IsDesk}
 use Rattle.run_promises.specs.Again.{AllMeet, AllRan, AreTold, DidRun, EndsAsOne, IsRepeat, TakesUp, begun_of, if_begun, last_call}
 use Rattle.call_parts.specs.Causes.{ByEnd}
 use Rattle.cmd_session.specs.Ends.{StoppedBefore, StoppedBehind}
-use Rattle.run_promises.specs.Headline.{IsAnsweredRun, RunCall}
+use Rattle.run_promises.specs.RunCalls.{IsAnsweredRun, RunCall}
 use Rattle.call_parts.specs.LineRuns.{log_in}
 use Rattle.cmd_session.specs.Meetings.{Meets}
 use Rattle.cmd_session.specs.Runs.{SessionRan, run_command}

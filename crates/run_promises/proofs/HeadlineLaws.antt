@@ -3,13 +3,18 @@ use Rattle.std.proofs.Common.{◌≡◌, List}
 use Rattle.line_script.specs.Rules.{RuleValue}
 use Rattle.session_plan.specs.Tasks.{Meeting}
 use Rattle.call_parts.specs.Causes.{ByEnd, HasBegun}
-use Rattle.run_promises.specs.Headline.{ActsOnce, FairStaysUp, Headline, IsAnsweredRun, IsWhatItSays, LeavesTheMerge, RunCall, TellsCause}
+use Rattle.palm_device.specs.Devices.{Device}
+use Rattle.handheld_files.specs.Openings.{Stands}
+use Rattle.run_promises.specs.Headline.{ActsOnce, FairStaysUp, Headline, IsWhatItSays, LeavesTheMerge, TellsCause}
+use Rattle.run_promises.specs.RunCalls.{IsAnsweredRun, RunCall}
 use Rattle.cmd_session.specs.Meetings.{Meets}
 use Rattle.cmd_session.specs.Runs.{SessionRan, run_command}
 use Rattle.call_parts.specs.SessionCalls.{SentNothing}
 use Rattle.call_parts.specs.Scripts.{IsScripted}
 use Rattle.call_parts.specs.declared.report.SessionEnd.{SessionEnd}
 use Rattle.call_parts.specs.declared.report.SessionEnd.TheVariants.{NotStarted, Ended, Stopped}
+use Rattle.run_promises.proofs.EqualLaws.{equal-behind}
+use Rattle.run_promises.proofs.LaterMoments.{moments-later}
 use Rattle.run_promises.proofs.SkippedLaws.{keeps-bytes}
 
 pub begun_by : (end : SessionEnd) (Not Began : Type 0) → ByEnd end Not Began → HasBegun end → Began
@@ -44,12 +49,13 @@ module _ (call : RunCall) (is : IsAnsweredRun call) where
         record {
           scripted = ran.scripted;
           meets = ran.meets;
+          reached = talked.spoke.line.last;
+          stands = talked.spoke.line.stands;
           once = record {
             answered = talked.spoke.line.answered;
             once = talked.spoke.line.log;
-            reached = talked.spoke.line.last;
+            dealt = talked.spoke.dealt;
             steps = talked.spoke.line.ran;
-            keeps = talked.spoke.line.stands;
           };
           line = record { trace = talked.spoke.line.proper; told = talked.spoke.line.told; written = ran.traced };
           cause = record {
@@ -65,21 +71,22 @@ module _ (call : RunCall) (is : IsAnsweredRun call) where
             begins = talked.left.issued;
             ended = talked.left.ended;
             stopped = talked.left.stopped;
-            given = talked.left.given;
-            desktop = talked.left.moments;
             commit = ran.changed;
-            reached = talked.spoke.line.last;
+            given = talked.left.given;
+            merged = moments-later ran.changed.unchanged ran.changed.changed talked.left.moments;
             handheld = talked.spoke.front;
-            keeps = talked.spoke.line.stands;
             files = keeps-bytes talked.spoke.line talked.left;
             limit = talked.left.over;
             loss = talked.left.losing;
           };
+          equal = equal-behind call ran;
+          done = is.complete;
         },
       )
 
-  pub acts-once : HasBegun call.report.end → (meeting : Meeting) × Meets call.run call.before meeting × ActsOnce meeting call
-  acts-once begun = let all = headline begun in (all.1, all.2.meets, all.2.once)
+  pub acts-once : HasBegun call.report.end → (meeting : Meeting) × (reached : Device) × Meets call.run call.before meeting
+      × Stands call.after.palm.contents reached.databases reached.user × ActsOnce meeting reached call
+  acts-once begun = let all = headline begun in (all.1, all.2.reached, all.2.meets, all.2.stands, all.2.once)
 
   pub line-is : HasBegun call.report.end
       → (rules : List RuleValue) × IsScripted call.run.script call.before.source.left rules × IsWhatItSays rules call
@@ -92,5 +99,6 @@ module _ (call : RunCall) (is : IsAnsweredRun call) where
       → (rules : List RuleValue) × IsScripted call.run.script call.before.source.left rules × FairStaysUp rules call
   stays-up begun = let all = headline begun in (all.0, all.2.scripted, all.2.fair)
 
-  pub leaves-merge : HasBegun call.report.end → (meeting : Meeting) × Meets call.run call.before meeting × LeavesTheMerge meeting call
-  leaves-merge begun = let all = headline begun in (all.1, all.2.meets, all.2.leaves)
+  pub leaves-merge : HasBegun call.report.end → (meeting : Meeting) × (reached : Device) × Meets call.run call.before meeting
+      × Stands call.after.palm.contents reached.databases reached.user × LeavesTheMerge meeting reached call
+  leaves-merge begun = let all = headline begun in (all.1, all.2.reached, all.2.meets, all.2.stands, all.2.leaves)

@@ -31,7 +31,7 @@ use Rattle.front_laws.proofs.RowCountLaws.{merged-few}
 use Rattle.run_promises.specs.Again.{IsRepeat}
 use Rattle.call_parts.specs.Causes.{ByEnd}
 use Rattle.cmd_session.specs.Ends.{StoppedBefore, StoppedBehind}
-use Rattle.run_promises.specs.Headline.{IsAnsweredRun, RunCall}
+use Rattle.run_promises.specs.RunCalls.{IsAnsweredRun, RunCall}
 use Rattle.call_parts.specs.LineRuns.{exchanges_in}
 use Rattle.cmd_session.specs.Meetings.{Meets}
 use Rattle.cmd_session.specs.Runs.{SessionRan, run_command}

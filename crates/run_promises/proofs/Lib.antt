@@ -15,6 +15,7 @@ pub mod GoodHandheldLaws
 pub mod HeadlineLaws
 pub mod InstallPromises
 pub mod KeptLaws
+pub mod LaterMoments
 pub mod LeftGoodLaws
 pub mod LifeCalls
 pub mod NextLaws

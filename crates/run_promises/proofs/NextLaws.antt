@@ -22,7 +22,7 @@ use Rattle.install_backup.specs.InstallFronts.{IsMarkedFirst}
 use Rattle.install_backup.specs.Marks.{marked_user}
 use Rattle.install_backup.proofs.MarkLaws.{marked_apart}
 use Rattle.run_promises.specs.Calls.{Call}
-use Rattle.run_promises.specs.Headline.{RunCall}
+use Rattle.run_promises.specs.RunCalls.{RunCall}
 use Rattle.run_promises.specs.Promises.{IsReadWhole, IsReadWholeOrSame, RunsNext}
 use Rattle.run_promises.proofs.OneLaws.{IsOne, same_handheld}
 

@@ -23,7 +23,7 @@ use Rattle.cmd_session.specs.Meetings.{Meets}
 use Rattle.cmd_session.specs.Ends.{StoppedBefore, StoppedBehind}
 use Rattle.cmd_session.specs.Runs.{SessionRan, run_command}
 use Rattle.run_promises.specs.Again.{AreTold}
-use Rattle.run_promises.specs.Headline.{IsAnsweredRun, RunCall}
+use Rattle.run_promises.specs.RunCalls.{IsAnsweredRun, RunCall}
 use Rattle.run_promises.specs.Lives.{BeginsAnew, LiveCall, RanBetween, RunsBehind, Sides, StandForSides}
 use Rattle.run_promises.proofs.AgainCalls.{ran-of, session_in}
 use Rattle.run_promises.proofs.AgainLaws.{Ran, ended-behind, given_in, seated-behind}

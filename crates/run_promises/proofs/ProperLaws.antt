@@ -15,7 +15,7 @@ use Rattle.made_folders.specs.declared.item.Item.{Item}
 use Rattle.cmd_status.specs.Told.{SinkTold}
 use Rattle.cmd_status.specs.declared.status.Status.{Status}
 use Rattle.call_parts.specs.Causes.{ByEnd, HasBegun}
-use Rattle.run_promises.specs.Headline.{IsAnsweredRun, RunCall}
+use Rattle.run_promises.specs.RunCalls.{IsAnsweredRun, RunCall}
 use Rattle.call_parts.specs.LineRuns.{LineRan, frames_in, log_in}
 use Rattle.cmd_session.specs.Makes.{IsMake, MadeNothing, MadeRan}
 use Rattle.call_parts.specs.Told.{FolderTold}

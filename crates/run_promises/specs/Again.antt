@@ -10,7 +10,7 @@ use Rattle.front_laws.specs.Meetings.{IsActive, action_at, found_of, holding_aft
 use Rattle.front_laws.specs.Renaming.{AreUnknown, SameEnds}
 use Rattle.front_laws.specs.Repeats.{GotAllIds}
 use Rattle.front_laws.specs.Again.{AllSkip, EndsAtMerge, HoldsTheSame, IsFreshBehind, Later, last_run}
-use Rattle.run_promises.specs.Headline.{IsAnsweredRun, RunCall}
+use Rattle.run_promises.specs.RunCalls.{IsAnsweredRun, RunCall}
 use Rattle.call_parts.specs.LineRuns.{log_in}
 use Rattle.cmd_session.specs.Meetings.{Meets}
 use Rattle.call_parts.specs.Told.{CallTold}

@@ -1,7 +1,7 @@
 -- What a run promises whose session began: the page behind the README's "What you can rely on".
 -- What it cites are chapters: the handheld's steps (`DeviceRun`), a proper trace (`IsProper`), what
--- a session says (`requests`), its merge (`merged_device`, `merged_slots`), what folders stand for
--- (`Stands`, `FinishesAs`, `StandsForSlots`).
+-- the frames tell (`DealtWith`), what a session says (`requests`), its merge (`merged_device`,
+-- `merged_slots`), what folders stand for (`Stands`, `FinishesAs`, `StandsForSlots`).
 use Rattle.std.specs.Prelude.{◌≡◌, ◌⊎◌, ℕ, List, length, map, IsSome}
 use Rattle.std.specs.Option.{option_map}
 use Rattle.hs_folders.specs.Moments.{EachMomentSince}
@@ -19,7 +19,6 @@ use Rattle.line_world.specs.Worlds.{IsLog, TellBoth}
 use Rattle.desk_journal.specs.Overlays.{FinishesAs, finished}
 use Rattle.desktop_session.specs.Acts.{text}
 use Rattle.desktop_session.specs.Says.{IsPrefix}
-use Rattle.run_words.specs.Runs.{Run}
 use Rattle.sync_session.specs.Fronts.{MeetingFront}
 use Rattle.session_plan.specs.Limits.{first_over}
 use Rattle.session_plan.specs.Losses.{first_loss}
@@ -29,48 +28,33 @@ use Rattle.sync_session.specs.Sessions.{before_writes, requests}
 use Rattle.session_plan.specs.Tasks.{Meeting}
 use Rattle.call_parts.specs.Causes.{EndsAs, IsLineDown, cause_in}
 use Rattle.cmd_session.specs.Ends.{EndedSession, IsToldRefusal, StatusShows, StoppedBefore, StoppedBehind}
+use Rattle.run_promises.specs.Equal.{AreEqualBehind}
 use Rattle.run_promises.specs.Kept.{KeepsBytes}
+use Rattle.run_promises.specs.RunCalls.{RunCall}
 use Rattle.call_parts.specs.LineRuns.{frames_in, log_in}
 use Rattle.cmd_session.specs.Meetings.{Meets}
-use Rattle.cmd_session.specs.Runs.{IsRun}
 use Rattle.call_parts.specs.Scripts.{IsScripted}
 use Rattle.call_parts.specs.SessionCalls.{BlamesByCount}
 use Rattle.call_parts.specs.Stops.{TellsStop}
 use Rattle.cmd_session.specs.Talks.{DesktopRan}
-use Rattle.cmd_status.specs.Told.{SinkTold}
-use Rattle.call_parts.specs.Told.{CallTold}
 use Rattle.call_parts.specs.Traces.{TakesTrace}
-use Rattle.call_parts.specs.declared.report.Report.{Report}
+use Rattle.call_parts.specs.Undisturbed.{EndsWell}
+use Rattle.cmd_session.specs.Undisturbed.{IsUndisturbed}
+use Rattle.call_parts.specs.Whole.{DealtWith}
 use Rattle.call_parts.specs.declared.report.SessionEnd.TheVariants.{Ended, Stopped}
-use Rattle.cmd_status.specs.declared.status.Status.{Status}
-
--- a call for the words of a run: its objects before and after it, and what it answered
-pub record RunCall : Type 0 where
-  pub run : Run
-  pub before : CallTold
-  pub after : CallTold
-  pub out : SinkTold
-  pub out_after : SinkTold
-  pub status : Status
-  pub report : Report
-
--- what the contract of the program says of it
-abbrev pub IsAnsweredRun : RunCall → Type 0
-IsAnsweredRun call =
-    IsRun call.run call.before call.after call.out call.out_after call.status call.report
 
 -- ---- the sentences
 
 -- What is sent acts at most once: what was performed was sent, in order and each once, or all but
--- the last of it. Each was one step of the handheld, with its reply, and its folder keeps the last
--- step.
-pub record ActsOnce (meeting : Meeting) (call : RunCall) : Type 0 where
+-- the last of it, and each was one step of the handheld, with its reply. So many were answered: of
+-- these the frames tell the desktop the replies, and of no other but the one that it was not dealt
+-- with any more.
+pub record ActsOnce (meeting : Meeting) (reached : Device) (call : RunCall) : Type 0 where
   pub answered : ℕ
   pub once : IsLog (log_in call.report) answered
-  pub reached : Device
+  pub dealt : DealtWith (requests meeting) call.status call.report answered
   pub steps : DeviceRun meeting.device (log_in call.report).performed (log_in call.report).replies
       reached
-  pub keeps : Stands call.after.palm.contents reached.databases reached.user
 
 -- A line is what it says: the frames are a proper trace of that by the script, they tell each end
 -- what the other one said, or all but the last of it, and their text was written where a trace is
@@ -99,44 +83,56 @@ FairStaysUp rules call =
     IsFairUpTo (length (frames_in call.report)) (fate_by rules) → ¬ IsLineDown call.status
 
 -- An ended session leaves both sides at the merge, and what was sent begins that session. One that
--- stopped left the desktop as it was, or merged, as it was at each moment, and the handheld behind
--- the first of the session's writes. Of the handheld's files only the information file and those of
--- databases that the session doesn't skip changed, and of the desktop's, once a journal that was
--- left is finished, only its information file and those of such databases in the picked slot. Where
--- a limit would be passed nothing was written, nor where the session would cost the desktop live
--- rows.
-pub record LeavesTheMerge (meeting : Meeting) (call : RunCall) : Type 0 where
+-- stopped left the desktop as it was, or merged, and the handheld behind the first of the session's
+-- writes. The desktop's folder changed once at most: it stood for what it stood for, and from some
+-- moment on for the merge, or still for that. Of the handheld's files only the information file and
+-- those of databases that the session doesn't skip changed, and of the desktop's, once a journal
+-- that was left is finished, only its information file and those of such databases in the picked
+-- slot. Where a limit would be passed nothing was written, nor where the session would cost the
+-- desktop live rows.
+pub record LeavesTheMerge (meeting : Meeting) (reached : Device) (call : RunCall) : Type 0 where
   pub begins : IsPrefix (log_in call.report).issued (requests meeting)
   pub ended : call.report.end ≡ Ended
       → EndedSession meeting call.after.palm call.after.desk call.report
   pub stopped : call.report.end ≡ Stopped
       → StoppedBefore meeting call.before.desk call.after.desk call.report
       ⊎ StoppedBehind meeting call.after.desk call.report
-  pub given : List ℕ
-  pub desktop : EachMomentSince
-      (λ told. FinishesAs call.before.desk.contents told
-      ⊎ StandsForSlots (merged_slots meeting given) told)
-      call.before.desk.moments call.after.desk.moments
   pub commit : DesktopRan meeting (option_map finished call.before.desk.contents) call.before.desk
       call.after.desk call.report.end
-  pub reached : Device
+  pub given : List ℕ
+  pub merged : EachMomentSince
+      (λ told. FinishesAs call.before.desk.contents told
+      ⊎ StandsForSlots (merged_slots meeting given) told) commit.between call.after.desk.moments
   pub handheld : MeetingFront meeting call.report.writes call.report.given.items reached
-  pub keeps : Stands call.after.palm.contents reached.databases reached.user
   pub files : KeepsBytes meeting call.before.palm.contents call.after.palm.contents
   pub limit : IsSome (first_over meeting)
       → IsPrefix (log_in call.report).issued (map text (before_writes meeting))
   pub loss : IsSome (first_loss meeting)
       → IsPrefix (log_in call.report).issued (map text (before_writes meeting))
 
+-- An ended run leaves both sides equal, in each database that was shown whole.
+abbrev pub EndsEqual : Meeting → RunCall → Type 0
+EndsEqual meeting call = call.report.end ≡ Ended → AreEqualBehind meeting call
+
+-- A run that nothing disturbs is done.
+abbrev pub IsDoneUndisturbed : RunCall → Type 0
+IsDoneUndisturbed call =
+    IsUndisturbed call.run call.before call.after call.out call.out_after call.report
+    → EndsWell call.status call.report
+
 -- ---- all of them
 
--- Of a run whose session began, by the script that was read and between the sides that its folders
--- held.
+-- Of a run whose session began, by the script that was read, between the sides that its folders
+-- held, with the handheld that its folder stands for in the end.
 pub record Headline (rules : List RuleValue) (meeting : Meeting) (call : RunCall) : Type 0 where
   pub scripted : IsScripted call.run.script call.before.source.left rules
   pub meets : Meets call.run call.before meeting
-  pub once : ActsOnce meeting call
+  pub reached : Device
+  pub stands : Stands call.after.palm.contents reached.databases reached.user
+  pub once : ActsOnce meeting reached call
   pub line : IsWhatItSays rules call
   pub cause : TellsCause meeting call
   pub fair : FairStaysUp rules call
-  pub leaves : LeavesTheMerge meeting call
+  pub leaves : LeavesTheMerge meeting reached call
+  pub equal : EndsEqual meeting call
+  pub done : IsDoneUndisturbed call

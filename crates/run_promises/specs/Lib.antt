@@ -7,3 +7,4 @@ pub mod Headline
 pub mod Kept
 pub mod Lives
 pub mod Promises
+pub mod RunCalls

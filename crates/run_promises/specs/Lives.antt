@@ -23,7 +23,7 @@ use Rattle.front_laws.specs.Lives.{EditLetsBe, IsInPlace, is_live_in, is_there}
 use Rattle.front_laws.specs.Meetings.{IsActive, holding}
 use Rattle.front_laws.specs.Repeats.{Ending}
 use Rattle.run_promises.specs.Again.{AreTold}
-use Rattle.run_promises.specs.Headline.{IsAnsweredRun, RunCall}
+use Rattle.run_promises.specs.RunCalls.{IsAnsweredRun, RunCall}
 use Rattle.cmd_session.specs.Meetings.{Meets}
 use Rattle.call_parts.specs.Told.{CallTold}
 use Rattle.call_parts.specs.Undisturbed.{AreGood}

@@ -22,7 +22,7 @@ use Rattle.cmd_files.specs.Backups.{BackupRan}
 use Rattle.run_promises.specs.Calls.{Call, IsAnsweredCall}
 use Rattle.cmd_session.specs.DryRuns.{HoldTheSame}
 use Rattle.cmd_session.specs.Filings.{CategoriesRan}
-use Rattle.run_promises.specs.Headline.{RunCall}
+use Rattle.run_promises.specs.RunCalls.{RunCall}
 use Rattle.cmd_files.specs.Installs.{InstallRan}
 use Rattle.cmd_session.specs.Meetings.{Meets}
 use Rattle.cmd_files.specs.Restores.{RestoreRan}

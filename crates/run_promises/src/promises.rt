@@ -3,6 +3,8 @@
 ghost use Rattle.std.specs.Prelude.{◌≡◌, ◌<◌, ℕ, List, [], ◌∷◌, None, Some, true};
 ghost use Rattle.std.specs.List.{AllByRecursion};
 ghost use Rattle.line_script.specs.Rules.{RuleValue};
+ghost use Rattle.handheld_files.specs.Openings.{Stands};
+ghost use Rattle.palm_device.specs.Devices.{Device};
 ghost use Rattle.pdb_values.specs.Contents.{ContentValue};
 ghost use Rattle.trace_check.specs.Judging.{IsProperTrace};
 ghost use Rattle.run_words.specs.Commands.{Backup, DryRun, Emulate, Categories, Install, LookAt, Make, Restore};
@@ -22,14 +24,16 @@ ghost use Rattle.hotsync_run.specs.Calls.{IsNothing};
 ghost use Rattle.call_parts.specs.Causes.{HasBegun};
 ghost use Rattle.run_promises.specs.Clean.{GoesThrough, HasNoLines};
 ghost use Rattle.cmd_files.specs.Emulations.{SaysAll};
-ghost use Rattle.run_promises.specs.Equal.{EndsEqual};
+ghost use Rattle.run_promises.specs.Equal.{AreEqualBehind};
 ghost use Rattle.run_promises.specs.FilingCalls.{IsSecondCall, StandsTogether};
 ghost use Rattle.cmd_session.specs.Filings.{EndedFiling, StoppedFiling, categories_command};
-ghost use Rattle.run_promises.specs.Headline.{ActsOnce, FairStaysUp, Headline, IsAnsweredRun, IsWhatItSays, LeavesTheMerge, RunCall, TellsCause};
+ghost use Rattle.run_promises.specs.Headline.{ActsOnce, FairStaysUp, Headline, IsDoneUndisturbed, IsWhatItSays, LeavesTheMerge, TellsCause};
+ghost use Rattle.run_promises.specs.RunCalls.{IsAnsweredRun, RunCall};
 ghost use Rattle.run_promises.specs.Lives.{AllLetBe, BeginsAnew, BeginsLife, LiveCall, RanBetween, RunsBehind, Sides, StandForSides, held_of, is_there_still, was_there};
 ghost use Rattle.cmd_files.specs.Installs.{EndedInstall, install_command};
 ghost use Rattle.call_parts.specs.LineRuns.{exchanges_in, frames_in};
 ghost use Rattle.hotsync_looks.specs.Looks.{IsLook};
+ghost use Rattle.cmd_session.specs.Ends.{EndedSession};
 ghost use Rattle.cmd_session.specs.Meetings.{Meets};
 ghost use Rattle.cmd_status.specs.PrintedNames.{is_printable, printed_name};
 ghost use Rattle.run_promises.specs.Promises.{BackupSession, EachCall, FilingSession, HandheldStays, IfCommitted, InstallSession, IsCalmRun, IsReadWhole, IsReadWholeOrSame, LeavesDesktop, PassesNoLimit, RestoreSession, RunsOverTheSame, filing_in};
@@ -42,7 +46,6 @@ ghost use Rattle.call_parts.specs.SessionCalls.{SentNothing};
 ghost use Rattle.call_parts.specs.Stays.{StaysAsItWas};
 ghost use Rattle.call_parts.specs.Told.{CallTold, sides_of};
 ghost use Rattle.call_parts.specs.Undisturbed.{AreGood, EndsWell};
-ghost use Rattle.cmd_session.specs.Undisturbed.{IsUndisturbed};
 ghost use Rattle.call_parts.specs.declared.report.SessionEnd.TheVariants.{Ended, NotStarted, Stopped};
 
 /// What is promised of each run whose session began, on one page.
@@ -54,7 +57,9 @@ pub fn a_run_keeps_what_it_promises()
 /// What is sent acts at most once.
 pub fn what_is_sent_acts_at_most_once()
     ensures { (call : RunCall) → IsAnsweredRun call → HasBegun call.report.end
-        → (meeting : Meeting) × Meets call.run call.before meeting × ActsOnce meeting call }
+        → (meeting : Meeting) × (reached : Device) × Meets call.run call.before meeting
+        × Stands call.after.palm.contents reached.databases reached.user
+        × ActsOnce meeting reached call }
 {}
 
 /// A line is what it says.
@@ -89,9 +94,7 @@ pub fn where_a_line_is_fair_it_does_not_go_down()
 
 /// A run that nothing disturbs is done.
 pub fn a_run_that_nothing_disturbs_is_done()
-    ensures { (call : RunCall) → IsAnsweredRun call
-        → IsUndisturbed call.run call.before call.after call.out call.out_after call.report
-        → EndsWell call.status call.report }
+    ensures { (call : RunCall) → IsAnsweredRun call → IsDoneUndisturbed call }
 {}
 
 /// What a run leaves can be opened, however it ended: good folders stay good. So a run over what one left,
@@ -119,13 +122,18 @@ pub fn what_is_refused_changes_nothing()
 /// An ended session leaves both sides at the merge; one that stopped leaves the desktop as it was, or merged.
 pub fn an_ended_session_leaves_both_sides_at_the_merge()
     ensures { (call : RunCall) → IsAnsweredRun call → HasBegun call.report.end
-        → (meeting : Meeting) × Meets call.run call.before meeting × LeavesTheMerge meeting call }
+        → (meeting : Meeting) × (reached : Device) × Meets call.run call.before meeting
+        × Stands call.after.palm.contents reached.databases reached.user
+        × LeavesTheMerge meeting reached call }
 {}
 
 /// An ended run leaves both sides equal: of each database that wasn't skipped and was shown whole, read
 /// slow or honest, the handheld and the slot of its user hold the same records, none marked.
 pub fn an_ended_run_leaves_both_sides_equal()
-    ensures { (call : RunCall) → IsAnsweredRun call → call.report.end ≡ Ended → EndsEqual call }
+    ensures { (call : RunCall) → IsAnsweredRun call → call.report.end ≡ Ended
+        → (meeting : Meeting) × Meets call.run call.before meeting
+        × EndedSession meeting call.after.palm call.after.desk call.report
+        × AreEqualBehind meeting call }
 {}
 
 /// Stopped and run again: any number of runs of one pair of folders, one behind another, whatever became of each but the last,

@@ -94,6 +94,23 @@ def a_port_that_is_silent_ends_by_its_ticks():
 
 
 @situation
+def a_port_that_hangs_up_is_told():
+    """A plug that is pulled is no silence: reads of the port fail from then on, and that is told at once."""
+    two_sides("one")
+    before = all_files("h", "d")
+    for number in (0, 1):
+        master, slave = set_port()
+        words = at_port(os.ttyname(slave))[number]
+        waiting = subprocess.Popen([PROGRAM, *words], stdout=subprocess.PIPE)
+        time.sleep(0.3)
+        os.close(slave)
+        os.close(master)
+        told, _ = waiting.communicate(timeout=2)
+        want((told, waiting.returncode), (b"port failed\n", 4), f"{words[0]} once its port hung up")
+    want(all_files("h", "d"), before, "the folders")
+
+
+@situation
 def a_port_that_nobody_set_waits():
     """A read of a terminal that stty did not set has no end where no line comes: the program waits until it is stopped."""
     two_sides("one")

@@ -193,6 +193,16 @@ def memos_come_from_an_editor():
 
 
 @situation
+def a_long_result_comes_whole():
+    """All of a long text comes on standard output."""
+    words = [f"{number:05d} " + 94 * "x" for number in range(300)]
+    put("MemoDB.pdb", pdb("MemoDB", memos(*words), creator=b"memo"))
+    status, lines, _ = call("export", "MemoDB.pdb", "--as=txt")
+    shown = [line for line in lines if not line.startswith("--- ")]
+    want((status, len(shown), shown == words), (0, len(words), True), "status, lines, and whether they are those of the memos")
+
+
+@situation
 def a_result_holds_no_refusal():
     """What is refused stands on standard error where standard output is the result, also where the words are at fault; what is
     refused of a session stands where its lines do."""
