@@ -1,0 +1,14 @@
+pub mod EndLaws
+pub mod StepLaws
+pub mod AskTwins
+pub mod RecordTwins
+pub mod OpenTwins
+pub mod ListTwins
+pub mod OwnLaws
+pub mod DeviceLaws
+pub mod IdTwins
+pub mod PartTwins
+pub mod DeviceLists
+pub mod JobTwins
+pub mod SessionTwins
+pub mod LinkLaws
