@@ -13,7 +13,7 @@ returns-clause-refused c =
     let e = c.tasks_table.ensures in
     let database = c.args.database.now in
     let told =
-    refusal_says_by (string_bytes {Z = Global}) (λ (wanted : Privacy). table_text c.marks_of.result (exported_rows Tasks wanted database))
+    refusal_says_by (string_bytes {Z = Global}) (λ (wanted : Privacy). table_text c.marks_of-marks.result (exported_rows Tasks wanted database))
     (λ (wanted : Privacy). first_bad_item Tasks wanted database) (is_of_kind Tasks database.head) c.privacy_of.result (privacy_of c.args.export)
     c.broken_of.result (broken_of c.args.export) c.tasks_table.result c.privacy_of.ensures c.broken_of.ensures
     e.kind.1 e.kind.0 (λ i p x. let t = (e.bad i p).0 x in (t.1, t.2))
