@@ -107,25 +107,25 @@ deed_asks now words command named e =
     asked (meaning now command) now (form_behind command) words (ap (option_and_then (task_behind now words)) (sym named) ∙ e)
 
 -- of two, by the first or not by it
-chosen : {A : Type 0} (b : Bool) {first other : Option A} {a : A} → cond b first other ≡ Some a → b ≡ true → first ≡ Some a
-chosen true e is = e
-chosen false e is = absurd cc
+chosen : {A : Type 0} (b : Bool) (first other : Option A) {a : A} → cond b first other ≡ Some a → b ≡ true → first ≡ Some a
+chosen true first other e is = e
+chosen false first other e is = cc
 
-left_over : {A : Type 0} (b : Bool) {first other : Option A} {a : A} → cond b first other ≡ Some a → b ≡ false → other ≡ Some a
-left_over true e is = absurd cc
-left_over false e is = e
+left_over : {A : Type 0} (b : Bool) (first other : Option A) {a : A} → cond b first other ≡ Some a → b ≡ false → other ≡ Some a
+left_over true first other e is = cc
+left_over false first other e is = e
 
 pub sync_asks : (now : Option ℕ) (words : List Text) {cable : Cable} → names_port (codes "run") words ≡ false → sync_of now words ≡ Some cable
     → Asks (cable_in now) cable_form words cable
 unfolding sync_of
 sync_asks now words none e =
-    asked_if (begins (codes "sync") words) (cable_in now) now cable_form words (left_over (names_port (codes "run") words) e none)
+    asked_if (begins (codes "sync") words) (cable_in now) now cable_form words (left_over (names_port (codes "run") words) _ _ e none)
 
 pub ported_run_asks : (now : Option ℕ) (words : List Text) {cable : Cable} → names_port (codes "run") words ≡ true → sync_of now words ≡ Some cable
     → Asks (ported_run_in now) ported_run_form words cable
 unfolding sync_of
 ported_run_asks now words named e =
-    asked (ported_run_in now) now ported_run_form words (chosen (names_port (codes "run") words) e named)
+    asked (ported_run_in now) now ported_run_form words (chosen (names_port (codes "run") words) _ _ e named)
 
 pub ported_asks : (command : Text) (words : List Text) {ported : Ported} → ported_of command words ≡ Some ported → Asks ported_in ported_form words ported
 unfolding ported_of

@@ -8,7 +8,7 @@ use Rattle.run_clap.proofs.read.read_ported_run.Goals as goal
 
 some_of : {A : Type 0} (o : Option A) → IsSome o → (a : A) × (o ≡ Some a)
 some_of (Some a) some = (a, refl)
-some_of None some = absurd some
+some_of None some = cc
 
 asks : (now : Option ℕ) (words : List (List ℕ)) → names_port (codes "run") words ≡ true → IsSome (sync_of now words)
     → (cable : Cable) × (sync_of now words ≡ Some cable) × Asks (ported_run_in now) ported_run_form words cable
