@@ -236,7 +236,13 @@ fn address_rows(
     ensures kind { IsErrOf result ExportFault.CannotExport
         ↔ (table.is_of_kind rows.Addresses database.now.head ≡ false) }
 {
-    addresses_table(alloc, database, Marks::Absent, wishes.privacy, wishes.broken)
+    addresses_table(
+        alloc,
+        database,
+        Marks::Absent,
+        wishes.privacy,
+        wishes.broken,
+    )
 }
 
 // Its tasks, likewise.
@@ -249,7 +255,13 @@ fn task_rows(
         ≡ OkValue (string_bytes text)) }
     ensures refused { IfErr result (SaysFault (rows_export rows.Tasks wishes.now database.now)) }
 {
-    tasks_table(alloc, database, Marks::Absent, wishes.privacy, wishes.broken)
+    tasks_table(
+        alloc,
+        database,
+        Marks::Absent,
+        wishes.privacy,
+        wishes.broken,
+    )
 }
 
 // Its addresses or its tasks.

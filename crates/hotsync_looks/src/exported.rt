@@ -98,7 +98,13 @@ fn address_rows(alloc: Global, export: Export, database: &Database) -> Result<St
         ↔ (table.is_of_kind rows.Addresses database.now.head ≡ false) }
 {
     let marks = marks_of(export);
-    addresses_table(alloc, database, marks, privacy_of(export), broken_of(export))
+    addresses_table(
+        alloc,
+        database,
+        marks,
+        privacy_of(export),
+        broken_of(export),
+    )
 }
 
 // Its tasks, likewise.
@@ -108,7 +114,13 @@ fn task_rows(alloc: Global, export: Export, database: &Database) -> Result<Strin
     ensures refused { IfErr result (SaysNoText (rows_export rows.Tasks export database.now)) }
 {
     let marks = marks_of(export);
-    tasks_table(alloc, database, marks, privacy_of(export), broken_of(export))
+    tasks_table(
+        alloc,
+        database,
+        marks,
+        privacy_of(export),
+        broken_of(export),
+    )
 }
 
 // Its addresses or its tasks.

@@ -73,7 +73,8 @@ module _ (call : RunCall) (is : IsAnsweredRun call) where
             stopped = talked.left.stopped;
             commit = ran.changed;
             given = talked.left.given;
-            merged = moments-later ran.changed.unchanged ran.changed.changed talked.left.moments;
+            merged = moments-later call.before.desk.moments ran.changed.between call.after.desk.moments ran.changed.unchanged
+                ran.changed.changed talked.left.moments;
             handheld = talked.spoke.front;
             files = keeps-bytes talked.spoke.line talked.left;
             limit = talked.left.over;

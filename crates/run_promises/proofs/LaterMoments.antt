@@ -22,15 +22,15 @@ untold : (xs ys zs : List (Option FileMap)) (mid now : Moments) → mid ≡ opti
     → now ≡ option_map (λ moments. moments ++ zs) None → now ≡ mid
 untold xs ys zs mid now first all = all ∙ sym first
 
-pub moments-later : {P Q R : Option FileMap → Type 0} {old mid now : Moments} → EachMomentSince P old mid → EachMomentSince Q mid now
+pub moments-later : {P Q R : Option FileMap → Type 0} (old mid now : Moments) → EachMomentSince P old mid → EachMomentSince Q mid now
     → EachMomentSince R old now → EachMomentSince R mid now
-moments-later {P} {Q} {R} {None} {mid} {now} first then all =
-    no_moment R mid now (untold first.added then.added all.added mid now first.is all.is)
-moments-later {P} {Q} {R} {Some old} {mid} {now} first then all =
-    let whole = then.is ∙ ap (option_map (λ moments. moments ++ then.added)) first.is ∙ joined first.added then.added (Some old) in
-    let same = added-alike old first.added then.added all.added (sym whole ∙ all.is) in
+moments-later {R} None mid now first later all =
+    no_moment R mid now (untold first.added later.added all.added mid now first.is all.is)
+moments-later {R} (Some old) mid now first later all =
+    let whole = later.is ∙ ap (option_map (λ moments. moments ++ later.added)) first.is ∙ joined first.added later.added (Some old) in
+    let same = added-alike old first.added later.added all.added (sym whole ∙ all.is) in
     record {
-      added = then.added;
-      is = then.is;
-      each = behind R first.added then.added (subst (λ (moments : List (Option FileMap)). AllByRecursion R moments) (sym same) all.each);
+      added = later.added;
+      is = later.is;
+      each = behind R first.added later.added (subst (λ (moments : List (Option FileMap)). AllByRecursion R moments) (sym same) all.each);
     }
