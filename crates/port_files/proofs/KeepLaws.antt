@@ -56,16 +56,16 @@ none-put : (told : Option FileMap) → told ≡ option_map (put_all []) told
 none-put None = refl
 none-put (Some held) = refl
 
-module _ {L F : Type 0} {talk : L → Option Talk} {since : L → L → Type 0} {fault : L → Option LinkFault} {downs : L → ℕ} {contents : F → Option FileMap}
-    {moments : F → Moments} (paths : F → Option (List (List ℕ))) (faults : F → ℕ) {old : L} {folder : F} (outcome : MoveOutcome L F)
+finished : {L : Type 0} (talk : L → Option Talk) (since : L → L → Type 0) (fault : L → Option LinkFault) (downs : L → ℕ) (now new : L)
+    (kept told : Result (Vec Moved) Stop) {moved : Vec Moved} → Finishes talk since fault downs now new kept told → told ≡ Ok moved → kept ≡ Ok moved
+finished talk since fault downs now new (Ok kept) (Ok told) goes is = let same = goes.1.1 in cc
+finished talk since fault downs now new (Ok kept) (Err why) goes is = cc
+finished talk since fault downs now new (Err why) told goes is = let same = goes.1 in cc
+
+module _ {L F : Type 0} (talk : L → Option Talk) (since : L → L → Type 0) (fault : L → Option LinkFault) (downs : L → ℕ) (contents : F → Option FileMap)
+    (moments : F → Moments) (paths : F → Option (List (List ℕ))) (faults : F → ℕ) (folder : F) (outcome : MoveOutcome L F)
     (answer : Result (Vec DbReport) Stop) {report : CableReport} (tells : TellsMoves ToFiles outcome.end answer) (end : report.end ≡ left_end answer)
     (databases : report.databases.items ≡ left_databases answer) where
-  finished : {now new : L} (kept told : Result (Vec Moved) Stop) {moved : Vec Moved} → Finishes talk since fault downs now new kept told → told ≡ Ok moved
-      → kept ≡ Ok moved
-  finished (Ok kept) (Ok told) goes is = let same = goes.1.1 in cc
-  finished (Ok kept) (Err why) goes is = absurd cc
-  finished (Err why) told goes is = absurd (let same = goes.1 in cc)
-
   by_met : (met : Result (Met L) (Halted L)) → BacksUp talk since fault downs contents moments folder outcome met
       → KeepsRead (folder_told contents moments paths faults folder) (folder_told contents moments paths faults outcome.folder) report
   by_met (Ok met) went = record {
@@ -76,18 +76,21 @@ module _ {L F : Type 0} {talk : L → Option Talk} {since : L → L → Type 0} 
         let it = ends-so outcome.end answer tells (sym end ∙ ended) in
         databases ∙ it.told
         ∙ ap (λ (moved : List Moved). map (moved_report ToFiles) moved)
-        (ok-says went.answer (λ (moved : Vec Moved). moved.items ≡ map kept_moved went.keeps.wholes) (finished went.answer outcome.end went.finishes it.end_is)
-        went.keeps.told)
+        (ok-says went.answer (λ (moved : Vec Moved). moved.items ≡ map kept_moved went.keeps.wholes)
+        (finished talk since fault downs went.now.link outcome.link went.answer outcome.end went.finishes it.end_is) went.keeps.told)
         ∙ told-reports went.keeps.wholes;
   }
   by_met (Err halted) is = record {
     wholes = [];
     files = ap (λ (left : MoveOutcome L F). contents left.folder) is ∙ none-put (contents folder);
     each_moment = no_moment (HasSome [] (contents folder)) (moments folder) (moments outcome.folder) (ap (λ (left : MoveOutcome L F). moments left.folder) is);
-    told = λ ended. let it = ends-so outcome.end answer tells (sym end ∙ ended) in
-        let was = ap (λ (left : MoveOutcome L F). left.end) is in absurd (let both = sym it.end_is ∙ was in cc);
+    told = λ ended.
+        let it = ends-so outcome.end answer tells (sym end ∙ ended) in
+        let was = ap (λ (left : MoveOutcome L F). left.end) is in
+        let both = sym it.end_is ∙ was in
+        absurd (let never : ⊥ = cc in never);
   }
 
-  pub keeps_read : BackupRan talk since fault downs contents moments old folder outcome
+  pub keeps_read : {old : L} → BackupRan talk since fault downs contents moments old folder outcome
       → KeepsRead (folder_told contents moments paths faults folder) (folder_told contents moments paths faults outcome.folder) report
   keeps_read ran = by_met ran.met ran.backs_up

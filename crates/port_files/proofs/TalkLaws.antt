@@ -92,8 +92,8 @@ backup_carried words = record {
 -- ---- over a link that was fresh
 
 -- what is left of both, where the port told a handheld
-both_left : {F : Type 0} {contents : F → Option FileMap} {moments : F → Moments} {paths : F → Option (List (List ℕ))} {faults : F → ℕ} (downs : LinkValue → ℕ)
-    {folder folder_after : F} (link last : LinkValue) (after : PortTold) (report : CableReport) (end : Result (Vec Moved Global) Stop)
+both_left : {F : Type 0} (contents : F → Option FileMap) (moments : F → Moments) (paths : F → Option (List (List ℕ))) (faults : F → ℕ) (downs : LinkValue → ℕ)
+    (folder folder_after : F) (link last : LinkValue) (after : PortTold) (report : CableReport) (end : Result (Vec Moved Global) Stop)
     (answer : Result (Vec DbReport Global) Stop) → link ≡ link_over (port_of link) → IsFirstTold link.scene.palm → TellsMoves ToFiles end answer
     → report.end ≡ left_end answer → report.databases.items ≡ left_databases answer
     → ((told : Talk) → talk_of link ≡ Some told → IsAtRest told.device
@@ -102,8 +102,7 @@ both_left : {F : Type 0} {contents : F → Option FileMap} {moments : F → Mome
     → IfSome (port_of link).palm (λ (palm : Palm). IsAtRest palm.hand.device → AreKept palm.hand.device.databases
     → BackupLeft palm.hand.device after.palm (folder_told contents moments paths faults folder) (folder_told contents moments paths faults folder_after)
     (answered (link_over (port_of link)) ran.last answer) report)
-both_left {contents = contents} {moments} {paths} {faults} downs {folder} {folder_after} link last after report end answer was first tells same databases
-    ends ran is = go (port_of link).palm refl where
+both_left contents moments paths faults downs folder folder_after link last after report end answer was first tells same databases ends ran is = go (port_of link).palm refl where
       go : (told : Option Palm) → (port_of link).palm ≡ told → IfSome told (λ (palm : Palm). IsAtRest palm.hand.device → AreKept palm.hand.device.databases
           → BackupLeft palm.hand.device after.palm (folder_told contents moments paths faults folder) (folder_told contents moments paths faults folder_after)
           (answered (link_over (port_of link)) ran.last answer) report)
@@ -120,8 +119,8 @@ both_left {contents = contents} {moments} {paths} {faults} downs {folder} {folde
           link l folder folder_after end) (sym is) over))
 
 -- what is known of a backup over it
-pub has_talk : {F : Type 0} {contents : F → Option FileMap} {moments : F → Moments} {paths : F → Option (List (List ℕ))} {faults : F → ℕ}
-    (downs : LinkValue → ℕ) (words : Ported) {folder : F} (link : LinkValue) (outcome : MoveOutcome LinkValue F) (answer : Result (Vec DbReport Global) Stop) {after : PortTold}
+pub has_talk : {F : Type 0} (contents : F → Option FileMap) (moments : F → Moments) (paths : F → Option (List (List ℕ))) (faults : F → ℕ)
+    (downs : LinkValue → ℕ) (words : Ported) (folder : F) (link : LinkValue) (outcome : MoveOutcome LinkValue F) (answer : Result (Vec DbReport Global) Stop) {after : PortTold}
     {closed : Closed} {report : CableReport} → link ≡ link_over (port_of link) → IsFirstTold link.scene.palm
     → (ran : LinkRan (port_of link) after report.cause (log_entries report.log)) × (ran.last ≡ outcome.link)
     → BackupRan talk_of (λ (first last : LinkValue). Since first last) fault_of_link downs contents moments link folder outcome
@@ -132,7 +131,7 @@ pub has_talk : {F : Type 0} {contents : F → Option FileMap} {moments : F → M
     → report.databases.items ≡ closed.databases.items
     → HasTalk (backup_command words) (port_of link) after (folder_told contents moments paths faults folder)
     (folder_told contents moments paths faults outcome.folder) closed.status report
-has_talk {contents = contents} {moments} {paths} {faults} downs words {folder} link outcome answer {after} {closed} {report}
+has_talk contents moments paths faults downs words folder link outcome answer {after} {closed} {report}
     was first went backup ends cause same_paths tells closing is databases =
     let ran = went.0 in
     let before = folder_told contents moments paths faults folder in
@@ -142,8 +141,9 @@ has_talk {contents = contents} {moments} {paths} {faults} downs words {folder} l
         link = ran;
         answer = answer;
         over = subst (λ end. IsOver answer end report.cause closed.status) (sym is) closing.over;
-        left = keeps_read paths faults outcome answer tells (is ∙ closing.end) (databases ∙ closing.databases) backup;
-        both = both_left downs link outcome.link after report outcome.end answer was first tells (is ∙ closing.end) (databases ∙ closing.databases)
+        left = keeps_read talk_of (λ (first last : LinkValue). Since first last) fault_of_link downs contents moments paths faults folder outcome answer tells
+            (is ∙ closing.end) (databases ∙ closing.databases) backup;
+        both = both_left contents moments paths faults downs folder outcome.folder link outcome.link after report outcome.end answer was first tells (is ∙ closing.end) (databases ∙ closing.databases)
             ends ran went.1;
       });
       port = λ e. ran.failed (closing.port e);
