@@ -2,21 +2,23 @@
 ghost use Rattle.std.specs.Prelude.{◌≡◌, ◌<◌, ◌≤◌, ℕ, IfNone, IfSome, length, map, true};
 ghost use Rattle.palm_device.specs.FreshIds.{is_among};
 ghost use Rattle.palm_device.specs.Records.{IsFree};
+ghost use Rattle.database_merge.specs.Places.{HasPlaces};
 
-use palm_device::place_of_id;
+use crate::places::Places;
 use pdb_values::{Content, Record, RecordId};
 
 /// A free id for a new record of this content, as a handheld's store draws it: the first free one from a place on that
 /// its content tells, coming round at the end.
-pub fn free_id(records: &[Record], content: &Content) -> RecordId
-    requires { length records.now ≤ 65535 }
+pub fn free_id(places: &Places, records: &[Record], content: &Content) -> RecordId
+    requires few { length records.now ≤ 65535 }
+    requires placed { HasPlaces records.now places.now }
     ensures { IsFree result records.now }
 {
     let start = drawn_from(content);
-    if let Some(id) = first_free(records, start, RecordId::GREATEST + 1) {
+    if let Some(id) = first_free(places, records, start, RecordId::GREATEST + 1) {
         return id;
     }
-    match first_free(records, 1, start) {
+    match first_free(places, records, 1, start) {
         Some(id) => id,
         None => unreachable!(),
     }
@@ -38,7 +40,8 @@ fn drawn_from(content: &Content) -> u32
 }
 
 // The first id from a number on and below another that no record has.
-fn first_free(records: &[Record], start: u32, end: u32) -> Option<RecordId>
+fn first_free(places: &Places, records: &[Record], start: u32, end: u32) -> Option<RecordId>
+    requires placed { HasPlaces records.now places.now }
     requires some { 1 ≤ start }
     requires bound { end ≤ 16777216 }
     ensures free { IfSome result (λ id. IsFree id records.now) }
@@ -46,7 +49,7 @@ fn first_free(records: &[Record], start: u32, end: u32) -> Option<RecordId>
         → is_among k (map (λ item. item.id) records.now) ≡ true) }
 {
     for number in start..end {
-        if place_of_id(records, number).is_none() {
+        if places.place(records, number).is_none() {
             return RecordId::new(number);
         }
     }

@@ -17,6 +17,7 @@ mod finishing;
 mod free_id;
 pub mod laws;
 mod merging;
+mod places;
 mod planning;
 mod seeing;
 mod wishes;

@@ -18,6 +18,7 @@ loop-content-preserved c =
     let added = one_added c.loop-content.given.items adds k id content old.records now.records c.loop-content-test.true c.content-item.is free
     c.loop-content.invariant.added in
     record {
+      placed = c.in_ok-write.ensures.placed;
       rest = put ∙ ap (λ d. with_records (put_record id content now.records) d) c.loop-content.invariant.rest ∙ ap (λ rs. with_records rs old) (sym made);
       added = subst (λ gs. IsAdded gs adds (k + 1) old.records c.write.new.database.records) (sym items)
           (subst (λ rs. IsAdded (c.loop-content.given.items ++ id ∷ []) adds (k + 1) old.records rs) (sym made) added);
