@@ -47,7 +47,7 @@ fn write(
 }
 
 // Gives the record of an id another content at its place.
-#[tactic(auto, using(palm_device::proofs::RecordLaws::put_record_placed, crate::proofs::PlaceLaws::ids_put))]
+#[tactic(auto, using(palm_device::proofs::RecordLaws::put_record_placed, crate::proofs::PlaceLaws::places_set))]
 fn replace(database: &mut Database, places: &Places, place: usize, id: RecordId, content: Content)
     requires place { records.place_of_id id database.old.records ≡ Some place }
     requires placed { HasPlaces database.old.records places.now }
