@@ -131,8 +131,8 @@ module _ {F : Type 0} (contents : F → Option FileMap) (moments : F → Moments
 -- ---- over a port that told it
 
 pub backup_left : {F : Type 0} (contents : F → Option FileMap) (moments : F → Moments) (paths : F → Option (List (List ℕ))) (faults : F → ℕ)
-    (downs : LinkValue → ℕ) {folder folder_after : F} (port after : PortTold) (palm : Palm) (report : CableReport) (log : List LogEntry) (end : Result (Vec Moved) Stop)
-    (answer : Result (Vec DbReport) Stop) → port.palm ≡ Some palm → is_first palm ≡ true → IsOurs palm.hand → IsAtRest palm.hand.device
+    (downs : LinkValue → ℕ) {folder folder_after : F} (port after : PortTold) (palm : Palm) (report : CableReport) (log : List LogEntry)
+    (end : Result (Vec Moved) Stop) (answer : Result (Vec DbReport) Stop) → port.palm ≡ Some palm → is_first palm ≡ true → IsOurs palm.hand → IsAtRest palm.hand.device
     → AreKept palm.hand.device.databases → TellsMoves ToFiles end answer → report.end ≡ left_end answer → report.databases.items ≡ left_databases answer
     → (ran : LinkRan port after report.cause log)
     → BackupEnds talk_of (λ (first last : LinkValue). Since first last) fault_of_link downs contents moments palm.hand.device (link_over port) ran.last

@@ -102,7 +102,8 @@ both_left : {F : Type 0} (contents : F → Option FileMap) (moments : F → Mome
     → IfSome (port_of link).palm (λ (palm : Palm). IsAtRest palm.hand.device → AreKept palm.hand.device.databases
     → BackupLeft palm.hand.device after.palm (folder_told contents moments paths faults folder) (folder_told contents moments paths faults folder_after)
     (answered (link_over (port_of link)) ran.last answer) report)
-both_left contents moments paths faults downs folder folder_after link last after report end answer was first tells same databases ends ran is = go (port_of link).palm refl where
+both_left contents moments paths faults downs folder folder_after link last after report end answer was first tells same databases ends ran is =
+    go (port_of link).palm refl where
       go : (told : Option Palm) → (port_of link).palm ≡ told → IfSome told (λ (palm : Palm). IsAtRest palm.hand.device → AreKept palm.hand.device.databases
           → BackupLeft palm.hand.device after.palm (folder_told contents moments paths faults folder) (folder_told contents moments paths faults folder_after)
           (answered (link_over (port_of link)) ran.last answer) report)
@@ -120,8 +121,8 @@ both_left contents moments paths faults downs folder folder_after link last afte
 
 -- what is known of a backup over it
 pub has_talk : {F : Type 0} (contents : F → Option FileMap) (moments : F → Moments) (paths : F → Option (List (List ℕ))) (faults : F → ℕ)
-    (downs : LinkValue → ℕ) (words : Ported) (folder : F) (link : LinkValue) (outcome : MoveOutcome LinkValue F) (answer : Result (Vec DbReport Global) Stop) {after : PortTold}
-    {closed : Closed} {report : CableReport} → link ≡ link_over (port_of link) → IsFirstTold link.scene.palm
+    (downs : LinkValue → ℕ) (words : Ported) (folder : F) (link : LinkValue) (outcome : MoveOutcome LinkValue F) (answer : Result (Vec DbReport Global) Stop)
+    {after : PortTold} {closed : Closed} {report : CableReport} → link ≡ link_over (port_of link) → IsFirstTold link.scene.palm
     → (ran : LinkRan (port_of link) after report.cause (log_entries report.log)) × (ran.last ≡ outcome.link)
     → BackupRan talk_of (λ (first last : LinkValue). Since first last) fault_of_link downs contents moments link folder outcome
     → ((told : Talk) → talk_of link ≡ Some told → IsAtRest told.device
@@ -143,7 +144,8 @@ has_talk contents moments paths faults downs words folder link outcome answer {a
         over = subst (λ end. IsOver answer end report.cause closed.status) (sym is) closing.over;
         left = keeps_read talk_of (λ (first last : LinkValue). Since first last) fault_of_link downs contents moments paths faults folder outcome answer tells
             (is ∙ closing.end) (databases ∙ closing.databases) backup;
-        both = both_left contents moments paths faults downs folder outcome.folder link outcome.link after report outcome.end answer was first tells (is ∙ closing.end) (databases ∙ closing.databases)
+        both = both_left contents moments paths faults downs folder outcome.folder link outcome.link after report outcome.end answer was first tells
+            (is ∙ closing.end) (databases ∙ closing.databases)
             ends ran went.1;
       });
       port = λ e. ran.failed (closing.port e);
