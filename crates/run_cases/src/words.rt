@@ -21,7 +21,10 @@ pub fn words_text(alloc: Global, now: Option<u32>, line: &str) -> Result<String,
         return docking_text(alloc, docking_words(&words));
     }
     if is_sync(&words) {
-        return cable_text(alloc, sync_words(now, &words));
+        return match sync_words(now, &words) {
+            Some(cable) => cable_text(alloc, &cable),
+            None => String::from_str(alloc, "usage\n"),
+        };
     }
     if names_port(&words, "backup") && help_of(&words).is_none() {
         return ported_text(alloc, ported_words("backup", &words));
@@ -128,22 +131,19 @@ fn docking_text(alloc: Global, words: Option<DockWords<'_>>) -> Result<String, A
 }
 
 // A session over a cable.
-fn cable_text(alloc: Global, words: Option<CableWords<'_>>) -> Result<String, AllocError> {
-    match words {
-        Some(cable) => format!(in alloc;
-            "sync port {} desktop {} date {} trace {} only {} slow {} user {} add-user {} actions {}\n",
-            cable.port,
-            cable.desktop,
-            cable.date.seconds(),
-            cable.trace.unwrap_or("-"),
-            cable.only.unwrap_or("-"),
-            cable.slow,
-            cable.user.unwrap_or("-"),
-            cable.add_user,
-            cable.actions.unwrap_or("-")
-        ),
-        None => String::from_str(alloc, "usage\n"),
-    }
+fn cable_text(alloc: Global, cable: &CableWords<'_>) -> Result<String, AllocError> {
+    format!(in alloc;
+        "sync port {} desktop {} date {} trace {} only {} slow {} user {} add-user {} actions {}\n",
+        cable.port,
+        cable.desktop,
+        cable.date.seconds(),
+        cable.trace.unwrap_or("-"),
+        cable.only.unwrap_or("-"),
+        cable.slow,
+        cable.user.unwrap_or("-"),
+        cable.add_user,
+        cable.actions.unwrap_or("-")
+    )
 }
 
 // A backup of the handheld at a port.
