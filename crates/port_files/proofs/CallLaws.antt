@@ -98,7 +98,7 @@ module _ {command : PortCommand} (carried : IsCarried command) (before after : S
           port = λ e. rose_before (2 ^ 64 - 1) before.port.faults port.faults after.port.faults opened.port_later
               (talk.talked.port (traced_port talk.said status said.status_is e));
           desktop = λ e. rose_before (2 ^ 64 - 1) before.desk.faults folder.faults after.desk.faults opened.folder_later
-              (talk.talked.folder (traced_desktop talk.said status said.status_is e));
+              (talk.talked.desktop (traced_desktop talk.said status said.status_is e));
           in_use = λ e. absurd (not_in_use _ e);
           trace = λ e. rose_before (2 ^ 64 - 1) before.trace.faults trace.faults after.trace.faults opened.trace_later (said.failed e);
         };

@@ -4,7 +4,7 @@ use Rattle.std.specs.Global.{Vec}
 use Rattle.std.specs.Option.{option_map}
 use Rattle.std.specs.Prelude.{IfOk}
 use Rattle.hs_folders.specs.FileMaps.{FileMap}
-use Rattle.hs_folders.specs.Moments.{EachMomentSince, Moments}
+use Rattle.hs_folders.specs.Moments.{Moments}
 use Rattle.hs_folders.proofs.MomentLaws.{no_moment}
 use Rattle.pdb_values.specs.Databases.{DatabaseValue}
 use Rattle.desk_journal.specs.Overlays.{put_all}
@@ -16,11 +16,11 @@ use Rattle.session_parts.specs.declared.report.DbReport.{DbReport}
 use Rattle.session_parts.specs.declared.stop.Stop.{Stop}
 use Rattle.install_backup.specs.declared.moved.MoveOutcome.{MoveOutcome}
 use Rattle.install_backup.specs.declared.moved.Moved.{Moved}
-use Rattle.install_backup.specs.Backups.{HasSome, file_of, kept_moved}
+use Rattle.install_backup.specs.Backups.{HasSome, kept_moved}
 use Rattle.install_backup.specs.BackupEnds.{BackupRan, BacksUp, Finishes}
 use Rattle.call_parts.specs.Closings.{left_databases, left_end}
 use Rattle.call_parts.specs.Told.{folder_told}
-use Rattle.call_parts.specs.declared.report.SessionEnd.TheVariants.{Ended, Stopped}
+use Rattle.call_parts.specs.declared.report.SessionEnd.TheVariants.{Ended}
 use Rattle.cmd_files.specs.Backups.{backup_report}
 use Rattle.cmd_files.specs.Moves.{TellsMoves, moved_report}
 use Rattle.cmd_files.specs.declared.moved.Way.TheVariants.{ToFiles}

@@ -1,5 +1,5 @@
 -- What a backup leaves of its folder and of the handheld, where the port told that.
-use Rattle.std.proofs.Common.{◌≡◌, ◌⊎◌, ◌∙◌, ◌≤◌, ℕ, true, List, [], ◌∷◌, ◌++◌, Option, Some, None, Result, ap, append_assoc, arith, inl, inr, length, map, subst, sym, take}
+use Rattle.std.proofs.Common.{◌≡◌, ◌⊎◌, ◌∙◌, ◌≤◌, ℕ, true, List, [], ◌++◌, Option, Some, Result, ap, append_assoc, arith, inl, inr, length, map, subst, sym, take}
 use Rattle.std.specs.Global.{Vec}
 use Rattle.std.specs.List.{flat_map}
 use Rattle.std.specs.Option.{option_map}
@@ -26,7 +26,6 @@ use Rattle.install_backup.specs.BackupActs.{backup_acts, backup_of}
 use Rattle.install_backup.specs.BackupEnds.{BackupEnds, backup_front, next_of, read_of}
 use Rattle.install_backup.specs.Backups.{HasSome, file_of, kept_moved}
 use Rattle.port_laws.proofs.StageLaws.{opened}
-use Rattle.port_laws.proofs.TakeLaws.{some_of}
 use Rattle.port_laws.specs.Palms.{IsOurs, Palm, is_first}
 use Rattle.port_link.proofs.RanLaws.{calls-ran, first-ran, last-palm}
 use Rattle.port_link.specs.Calls.{LinkValue, Since}
@@ -35,10 +34,10 @@ use Rattle.port_link.specs.Logs.{EntryValue as LogEntry}
 use Rattle.port_link.specs.Standing.{talk_at, talk_of}
 use Rattle.call_parts.specs.Closings.{left_databases, left_end}
 use Rattle.call_parts.specs.LineRuns.{write_count}
-use Rattle.call_parts.specs.Told.{FolderTold, folder_told}
+use Rattle.call_parts.specs.Told.{folder_told}
 use Rattle.call_parts.specs.declared.report.SessionEnd.TheVariants.{Ended}
 use Rattle.call_parts.proofs.EndLaws.{acts-count, prefix-on}
-use Rattle.cmd_files.specs.Backups.{backup_file, backup_report}
+use Rattle.cmd_files.specs.Backups.{backup_file}
 use Rattle.cmd_files.specs.Moves.{TellsMoves, moved_report}
 use Rattle.cmd_files.specs.declared.moved.Way.TheVariants.{ToFiles}
 use Rattle.cmd_files.proofs.BackupActLaws.{front-kept, next-begins}
@@ -117,8 +116,8 @@ module _ {F : Type 0} (contents : F → Option FileMap) (moments : F → Moments
 
   ended : (answer : Result (Vec DbReport) Stop) (report : CableReport) → TellsMoves ToFiles end answer → report.end ≡ left_end answer
       → report.databases.items ≡ left_databases answer → report.end ≡ Ended → EndedAtPort device ends.later hand report
-  ended answer report tells same databases ended =
-      let it = ends-so end answer tells (sym same ∙ ended) in
+  ended answer report tells same databases done =
+      let it = ends-so end answer tells (sym same ∙ done) in
       let over = ok-says end (λ (moved : Vec Moved). (ends.later ≡ []) × (Does talk_of (backup_acts device) old new
       × (moved.items ≡ map (λ (d : DatabaseValue). kept_moved (read_of device d)) device.databases))) it.end_is ends.ended in
       let told = told_all device talk old new was is over.1.0 in

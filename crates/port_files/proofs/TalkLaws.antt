@@ -149,7 +149,7 @@ has_talk contents moments paths faults downs words folder link outcome answer {a
             ends ran went.1;
       });
       port = λ e. ran.failed (closing.port e);
-      folder = λ e. cause.rose (told_fault outcome.end answer tells (closing.desktop e));
+      desktop = λ e. cause.rose (told_fault outcome.end answer tells (closing.desktop e));
       port_paths = ran.paths;
       folder_paths = same_paths;
     }
@@ -161,7 +161,7 @@ kept_silent command {before} {after} {folder} {folder_after} {status} {report} m
   shown = subst (λ end. ByEnd end (KeptSilent before after folder folder_after status report) (HadTalk command before after folder folder_after status report))
       (sym silent.end) (record { memory = memory; silent = silent; port = port; desktop = same });
   port = λ e. absurd cc;
-  folder = λ e. absurd cc;
+  desktop = λ e. absurd cc;
   port_paths = ap (λ (told : PortTold). told.paths) port;
   folder_paths = ap (λ (told : FolderTold). told.paths) same;
 }

@@ -1,5 +1,5 @@
 -- What a backup of the handheld at a port leaves.
-use Rattle.std.specs.Prelude.{◌≡◌, ◌⊎◌, List, [], ◌++◌, map, Option, Some, IfErr}
+use Rattle.std.specs.Prelude.{◌≡◌, ◌⊎◌, List, [], ◌++◌, map, Option, Some}
 use Rattle.std.specs.List.{flat_map}
 use Rattle.std.specs.Option.{option_map}
 use Rattle.hs_folders.specs.Moments.{EachMomentSince}
@@ -28,9 +28,8 @@ use Rattle.port_files.specs.Talks.{PortCommand}
 
 -- ---- whatever comes over the port
 
--- Some databases were read whole, one after another, and their files put over those that were
--- there, and no others; at each moment those of a first part of them were. Where the session ended
--- they are what is told.
+-- The files of some databases were put over those that were there, and no others; at each moment
+-- those of a first part of them were. Where the session ended they are what is told.
 pub record KeepsRead (before after : FolderTold) (report : CableReport) : Type 0 where
   pub wholes : List DatabaseValue
   pub files : after.contents ≡ option_map (put_all (map file_of wholes)) before.contents

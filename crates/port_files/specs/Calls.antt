@@ -1,6 +1,6 @@
 -- What holds of every call with a handheld at a port and a folder of files, by what its command
 -- promises of its own.
-use Rattle.std.specs.Prelude.{◌≡◌, ◌⊎◌, ℕ, List, Option, None, Some, IfSome, Result}
+use Rattle.std.specs.Prelude.{◌≡◌, ◌⊎◌, Option, None, Some, IfSome, Result}
 use Rattle.std.specs.Global.{Vec}
 use Rattle.hs_folders.specs.FileMaps.{FileMap}
 use Rattle.session_parts.specs.Rests.{IsAtRest}

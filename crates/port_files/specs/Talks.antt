@@ -1,5 +1,5 @@
 -- A session with a handheld at an opened port, over an opened folder.
-use Rattle.std.specs.Prelude.{◌≡◌, ◌⊎◌, List, [], Option, IfSome, Result}
+use Rattle.std.specs.Prelude.{◌≡◌, [], Option, IfSome, Result}
 use Rattle.std.specs.Global.{Vec}
 use Rattle.hs_folders.specs.Causes.{Rose}
 use Rattle.hs_folders.specs.FileMaps.{FileMap}
@@ -49,7 +49,7 @@ pub record HasTalk (command : PortCommand) (before after : PortTold)
   pub shown : ByEnd report.end (KeptSilent before after folder folder_after status report)
       (HadTalk command before after folder folder_after status report)
   pub port : status ≡ PortFailed → Rose before.faults after.faults
-  pub folder : status ≡ DesktopFolder → Rose folder.faults folder_after.faults
+  pub desktop : status ≡ DesktopFolder → Rose folder.faults folder_after.faults
   pub port_paths : after.paths ≡ before.paths
   pub folder_paths : folder_after.paths ≡ folder.paths
 
